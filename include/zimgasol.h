@@ -212,6 +212,8 @@ typedef enum zimgasol_status {
     ZIMGASOL_OTHER_TABLE = 63,
     /* more page records in a section or a round than may wait (zimgasol_settings) */
     ZIMGASOL_STREAM_WAITING = 64,
+    /* more of a channel's round than may wait: no load of this library sets such a limit */
+    ZIMGASOL_CHANNEL_WAITING = 65,
 
     /* ---- a call, and how a load stands */
     /* the load goes on: more of a source is needed. No fault */

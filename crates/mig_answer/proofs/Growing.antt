@@ -21,7 +21,8 @@ use Rattle.mig_stream.specs.Law.{StaysRead}
 use Rattle.mig_packet.specs.declared.state.ChannelState.{ChannelState}
 use Rattle.mig_packet.specs.declared.state.ChannelState.TheVariants as channel
 use Rattle.mig_packet.specs.Packet.{Fields, fields_of}
-use Rattle.mig_packet.specs.Reading.{Settings, settings, ChannelReading, IsReading}
+use Rattle.mig_packet.specs.Reading.{Settings, ChannelReading, IsReading}
+use Rattle.mig_single_load.specs.Settings.{channel_of}
 use Rattle.mig_single_load.specs.declared.settings.LoadSettings.{LoadSettings}
 use Rattle.mig_single_load.specs.declared.fault.Origin.TheVariants as origin
 use Rattle.mig_single_load.specs.declared.fault.Fault.TheVariants as fault
@@ -70,8 +71,8 @@ readings_stay given uuid old new before now size go are_before are_now =
     let many : length new.channels ≡ length old.channels = sym (length_all_zip GoesOn old.channels new.channels go.channels) in
     record {
       main = main_stays given old.main new.main before.main now.main size go.main are_before.has_main are_now.has_main;
-      channels = channels_stay (settings given.page_size uuid (length old.channels)) old.channels new.channels before.channels now.channels size go.channels are_before.has_channels
-          (subst (λ (n : ℕ). AllZip (λ (text : Text) (reading : ChannelReading). IsReading (settings given.page_size uuid n) text.bytes text.ended reading) new.channels now.channels)
+      channels = channels_stay (channel_of given uuid (length old.channels)) old.channels new.channels before.channels now.channels size go.channels are_before.has_channels
+          (subst (λ (n : ℕ). AllZip (λ (text : Text) (reading : ChannelReading). IsReading (channel_of given uuid n) text.bytes text.ended reading) new.channels now.channels)
           many are_now.has_channels);
       has_table_first = main_table_first given old.main before.main size are_before.has_main;
     }

@@ -53,7 +53,7 @@ hello_stays c d bytes f some =
 
 -- where a reading begins
 abbrev from : Settings → ChannelProgress
-from given = start given.page_size given.uuid given.channels
+from given = start given.page_size given.uuid given.channels given.waiting
 
 -- the same, without its whole rounds
 abbrev roundless : ChannelProgress → ChannelProgress

@@ -13,8 +13,9 @@ use Rattle.mig_stream.specs.declared.item.StreamState.TheVariants as stream
 use Rattle.mig_stream.specs.Reading.{StreamReading, state_at}
 use Rattle.mig_packet.specs.declared.state.ChannelState.{ChannelState}
 use Rattle.mig_packet.specs.declared.state.ChannelState.TheVariants as channel
-use Rattle.mig_packet.specs.Reading.{Settings, settings, ChannelReading, IsReading}
+use Rattle.mig_packet.specs.Reading.{Settings, ChannelReading, IsReading}
 use Rattle.mig_packet.proofs.Limits.{limits_law}
+use Rattle.mig_single_load.specs.Settings.{channel_of}
 use Rattle.mig_single_load.specs.declared.settings.LoadSettings.{LoadSettings}
 use Rattle.mig_single_load.specs.declared.fault.Origin.TheVariants as origin
 use Rattle.mig_single_load.specs.declared.fault.Fault.{Fault}
@@ -104,7 +105,7 @@ none_pending given uuid texts readings k size main_over over are stop =
     let few : k ≤ length readings.main.rounds = has_round k (length readings.main.rounds) end (stream_ends readings.main.state)
     (λ j below. All-head IsWhole (main_at j readings) (channels_at j readings) (whole_at readings j (stop.before j below))) in
     All-cons IsSettled (main_at k readings) (channels_at k readings) (reached k (length readings.main.rounds) end few settled)
-    (channels_settled (settings given.page_size uuid (length texts.channels)) k 0 texts.channels readings.channels size are.has_channels over
+    (channels_settled (channel_of given uuid (length texts.channels)) k 0 texts.channels readings.channels size are.has_channels over
     (λ j below. All-tail IsWhole (main_at j readings) (channels_at j readings) (whole_at readings j (stop.before j below))))
 
 -- ---- and there is an answer

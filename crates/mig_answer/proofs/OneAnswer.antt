@@ -7,9 +7,9 @@ use Rattle.mig_mem.specs.PageSize.{IsPageSize}
 use Rattle.mig_mem.specs.Image.{Image}
 use Rattle.mig_stream.specs.Reading.{StreamReading, state_at}
 use Rattle.mig_stream.proofs.Exists.{one_reading_law as stream_law}
-use Rattle.mig_packet.specs.Reading.{Settings, settings, ChannelReading, IsReading}
+use Rattle.mig_packet.specs.Reading.{Settings, ChannelReading, IsReading}
 use Rattle.mig_packet.proofs.Exists.{one_reading_law as channel_law}
-use Rattle.mig_single_load.specs.Settings.{main_of}
+use Rattle.mig_single_load.specs.Settings.{main_of, channel_of}
 use Rattle.mig_single_load.specs.declared.settings.LoadSettings.{LoadSettings}
 use Rattle.mig_answer.specs.declared.verdict.Verdict.{Verdict}
 use Rattle.mig_answer.specs.Texts.{Text, Texts, Readings, IsMainReading, AreReadings}
@@ -57,7 +57,7 @@ channels_are given size (text ∷ texts) (reading ∷ readings) zip =
 
 pub some_readings : (given : LoadSettings) (uuid : List ℕ) (texts : Texts) → IsPageSize given.page_size → (readings : Readings) × AreReadings given uuid texts readings
 some_readings given uuid texts size =
-    let channel_given = settings given.page_size uuid (length texts.channels) in
+    let channel_given = channel_of given uuid (length texts.channels) in
     let main = main_reading given texts.main size in (
       record { main = main.0; channels = map (channel_reading channel_given size) texts.channels },
       record { has_main = main.1; has_channels = channels_read channel_given size texts.channels },
@@ -66,7 +66,7 @@ some_readings given uuid texts size =
 pub same_readings : (given : LoadSettings) (uuid : List ℕ) (texts : Texts) (a b : Readings) → IsPageSize given.page_size
     → AreReadings given uuid texts a → AreReadings given uuid texts b → a ≡ b
 same_readings given uuid texts a b size are_a are_b =
-    let channel_given = settings given.page_size uuid (length texts.channels) in
+    let channel_given = channel_of given uuid (length texts.channels) in
     let main : a.main ≡ b.main = same_main given texts.main a.main b.main size are_a.has_main are_b.has_main in
     let channels : a.channels ≡ b.channels =
     channels_are channel_given size texts.channels a.channels are_a.has_channels ∙ sym (channels_are channel_given size texts.channels b.channels are_b.has_channels) in

@@ -198,7 +198,7 @@ tell_all : (given : Settings) (text : List ℕ) (pieces : List ChannelItem) (rea
 tell_all given text pieces reading size are is =
     let p : ℕ = given.page_size in
     let c : ChannelProgress = are.to in
-    let from : ChannelProgress = start p given.uuid given.channels in
+    let from : ChannelProgress = start p given.uuid given.channels given.waiting in
     let same = one_reading from text is.to c is.rest are.rest is.found are.found is.reads are.reads in
     let state : ChannelState = state_at true c are.rest are.found in
     let has_state : reading.state ≡ state = let moved = same.0 in let left = same.1 in let stands = same.2 in is.has_state

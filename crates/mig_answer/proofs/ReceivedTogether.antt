@@ -8,7 +8,8 @@ use Rattle.std.proofs.lemmas.List.Sums.{sum_by-cons}
 use Rattle.mig_mem.specs.PageSize.{IsPageSize}
 use Rattle.mig_packet.specs.Packet.{Fields, fields_of}
 use Rattle.mig_packet.specs.ChannelItems.{ChannelItem}
-use Rattle.mig_packet.specs.Reading.{ChannelReading, Settings, settings, IsReading}
+use Rattle.mig_packet.specs.Reading.{ChannelReading, Settings, IsReading}
+use Rattle.mig_single_load.specs.Settings.{channel_of}
 use Rattle.mig_single_load.specs.declared.fault.Origin.TheVariants as origin
 use Rattle.mig_answer.specs.declared.status.Status.{Status}
 use Rattle.mig_answer.specs.Status.{channel_status}
@@ -94,9 +95,9 @@ same_sums f g from (suc count) same =
 
 pub together_law : FrontsTellAllChannels
 together_law = λ given uuid k main channels received readings size are have.
-    let channel_given : Settings = settings given.page_size uuid (length channels) in
+    let channel_given : Settings = channel_of given uuid (length channels) in
     let as_many : length (map ended_text channels) ≡ length channels = length-map channels ended_text in
-    let read = subst (λ (n : ℕ). AllZip (λ (text : Text) (reading : ChannelReading). IsReading (settings given.page_size uuid n) text.bytes text.ended reading)
+    let read = subst (λ (n : ℕ). AllZip (λ (text : Text) (reading : ChannelReading). IsReading (channel_of given uuid n) text.bytes text.ended reading)
     (map ended_text channels) readings.channels) as_many are.has_channels in
     let tell : TellChannels given.page_size k received readings.channels = all_tell channel_given k channels received readings.channels size read have in
     record {

@@ -13,7 +13,7 @@ use Rattle.mig_mem.specs.PageSize.{IsPageSize}
 use Rattle.mig_mem.specs.First.{first_some}
 use Rattle.mig_assemble.specs.declared.fault.RoundFault.{RoundFault}
 use Rattle.mig_stream.specs.Reading.{StreamReading}
-use Rattle.mig_packet.specs.Reading.{settings}
+use Rattle.mig_single_load.specs.Settings.{channel_of}
 use Rattle.mig_single_load.specs.declared.settings.LoadSettings.{LoadSettings}
 use Rattle.mig_single_load.specs.declared.fault.Origin.TheVariants as origin
 use Rattle.mig_single_load.specs.declared.fault.Fault.{Fault}
@@ -67,7 +67,7 @@ settled_at given uuid main channels readings k size are before =
     let few : k ≤ length readings.main.rounds = has_round k (length readings.main.rounds) end (stream_ends readings.main.state)
     (λ j below. All-head IsWhole (main_at j readings) (channels_at j readings) (whole_at readings j (before j below))) in
     All-cons IsSettled (main_at k readings) (channels_at k readings) (reached k (length readings.main.rounds) end few settled)
-    (channels_settled (settings given.page_size uuid (length texts)) k 0 texts readings.channels size are.has_channels (have_ended channels)
+    (channels_settled (channel_of given uuid (length texts)) k 0 texts readings.channels size are.has_channels (have_ended channels)
     (λ j below. All-tail IsWhole (main_at j readings) (channels_at j readings) (whole_at readings j (before j below))))
 
 none_pending_at : (given : LoadSettings) (uuid : List ℕ) (main : List ℕ) (channels : List (List ℕ)) (readings : Readings) (k : ℕ) → IsPageSize given.page_size

@@ -4,7 +4,8 @@ use Rattle.std.specs.List.{AllZip, count_by, range_with_len, enumerate_from}
 use Rattle.mig_mem.specs.PageSize.{IsPageSize}
 use Rattle.mig_packet.specs.Packet.{Fields}
 use Rattle.mig_packet.specs.ChannelItems.{ChannelItem, Hello, Page, Stop, AreItems}
-use Rattle.mig_packet.specs.Reading.{ChannelReading, Settings, settings, IsReading}
+use Rattle.mig_packet.specs.Reading.{ChannelReading, Settings, IsReading}
+use Rattle.mig_single_load.specs.Settings.{channel_of}
 use Rattle.mig_single_load.specs.declared.settings.LoadSettings.{LoadSettings}
 use Rattle.mig_single_load.specs.declared.fault.Fault.TheVariants as fault
 use Rattle.mig_single_load.specs.declared.fault.Origin.TheVariants as origin
@@ -131,4 +132,4 @@ pub record TellsAllChannels (page_size k : ℕ) (received : List (List ChannelIt
 abbrev pub FrontsTellAllChannels : Type 0
 FrontsTellAllChannels = (given : LoadSettings) (uuid : List ℕ) (k : ℕ) (main : List ℕ) (channels : List (List ℕ)) (received : List (List ChannelItem)) (readings : Readings)
     → IsPageSize given.page_size → AreReadings given uuid (ended_texts main channels) readings
-    → AllZip (IsEnough (settings given.page_size uuid (length channels)) k) channels received → TellsAllChannels given.page_size k received readings
+    → AllZip (IsEnough (channel_of given uuid (length channels)) k) channels received → TellsAllChannels given.page_size k received readings

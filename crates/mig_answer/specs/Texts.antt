@@ -4,7 +4,7 @@ use Rattle.std.specs.Prelude.{ℕ, ◌≡◌, Bool, true, false, List, [], ◌++
 use Rattle.std.specs.List.{AllZip}
 use Rattle.mig_stream.specs.Reading as stream
 use Rattle.mig_packet.specs.Reading as channel
-use Rattle.mig_single_load.specs.Settings.{main_of}
+use Rattle.mig_single_load.specs.Settings.{main_of, channel_of}
 use Rattle.mig_single_load.specs.declared.settings.LoadSettings.{LoadSettings}
 
 -- ---- streams
@@ -56,5 +56,5 @@ pub record IsMainReading (given : LoadSettings) (text : Text) (reading : stream.
 -- expected as there are streams of channels.
 pub record AreReadings (given : LoadSettings) (uuid : List ℕ) (texts : Texts) (readings : Readings) : Type 0 where
   pub has_main : IsMainReading given texts.main readings.main
-  pub has_channels : AllZip (λ (text : Text) (reading : channel.ChannelReading). channel.IsReading (channel.settings given.page_size uuid (length texts.channels)) text.bytes text.ended reading)
+  pub has_channels : AllZip (λ (text : Text) (reading : channel.ChannelReading). channel.IsReading (channel_of given uuid (length texts.channels)) text.bytes text.ended reading)
       texts.channels readings.channels

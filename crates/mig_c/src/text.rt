@@ -112,6 +112,7 @@ fn of_load(status: u32) -> &'static [u8]
         62 => b"bad batch limit\0",
         63 => b"table differs\0",
         64 => b"stream: too many records wait\0",
+        65 => b"channel: too much waits\0",
         _ => b"unknown status\0",
     }
 }
@@ -148,7 +149,7 @@ fn text_of(status: u32) -> &'static [u8]
         1..=10 => of_table(status),
         11..=34 => of_stream(status),
         35..=45 => of_channel(status),
-        46..=59 | 61..=64 => of_load(status),
+        46..=59 | 61..=65 => of_load(status),
         _ => of_call(status),
     }
 }

@@ -23,7 +23,7 @@ use Rattle.mig_mem.proofs.PlaceOrder.{place_eq-from}
 use Rattle.mig_stream.specs.PageRecord.{PageRecord, page_of}
 use Rattle.mig_stream.specs.Reading.{StreamReading}
 use Rattle.mig_packet.specs.Packet.{Fields, fields_of}
-use Rattle.mig_packet.specs.Reading.{Settings, settings, ChannelReading, IsReading}
+use Rattle.mig_packet.specs.Reading.{Settings, ChannelReading, IsReading}
 use Rattle.mig_packet.specs.Paging.{GivenSoFar, OpenPacket}
 use Rattle.mig_assemble.specs.declared.fault.RoundFault.{RoundFault}
 use Rattle.mig_assemble.specs.Judging.{refusal, place_fault, packet_pages, places_of, numbers}
@@ -32,7 +32,7 @@ use Rattle.mig_assemble.proofs.Bags.{SameBag, bag_permutation, bag_length}
 use Rattle.mig_assemble.proofs.OrderFree.{last_at-same, lawful_once}
 use Rattle.mig_assemble.proofs.Lawful.{lawful_lies_right}
 use Rattle.mig_assemble.proofs.Putting.{put_after}
-use Rattle.mig_single_load.specs.Settings.{main_of, for_table}
+use Rattle.mig_single_load.specs.Settings.{main_of, for_table, channel_of}
 use Rattle.mig_single_load.specs.declared.settings.LoadSettings.{LoadSettings}
 use Rattle.mig_answer.specs.Texts.{Text, Readings, IsMainReading}
 use Rattle.mig_answer.specs.Rounds.{record_pages_at, channel_packets_at, packets_at, base_at, refusal_at, pages_at}
@@ -108,7 +108,7 @@ module _ (f : Loading) (memory : Image) (s : InPlaceLoad) (loads : Loads f memor
   table = f.first.table
 
   abbrev channel_given : Settings
-  channel_given = settings given.page_size f.uuid (length f.texts.channels)
+  channel_given = channel_of given f.uuid (length f.texts.channels)
 
   abbrev kept : Image
   kept = rounds_onto f.first k r.readings
@@ -366,7 +366,7 @@ advanced f memory s loads due passing cleared after next changed base keeps is_b
     let size : IsPageSize given.page_size = loads.is_table.has_page_size in
     let known = has_table f memory s loads due in
     let holds = r.own known in
-    let channels = channels_next (settings given.page_size f.uuid (length f.texts.channels)) table k f.texts.channels r.gave s.sources.channels r.readings.channels size r.as_many r.channels
+    let channels = channels_next (channel_of given f.uuid (length f.texts.channels)) table k f.texts.channels r.gave s.sources.channels r.readings.channels size r.as_many r.channels
     r.are_readings.has_channels (channels_have f memory s loads due) in
     let seen : s.round.arrivals.seen.table ≡ table = same_table table holds.arrivals s.round.arrivals holds.keeps.has_come in
     let begun : HoldsRound table (rounds_onto f.first (k + 1) r.readings) (k + 1) (record { records = []; channels = r.gave }) cleared memory = record {
@@ -428,5 +428,5 @@ pub never_twice : (f : Loading) (memory : Image) (s : InPlaceLoad) (loads : Load
 never_twice f memory s loads open_ due =
     let given : LoadSettings = for_table f.first.table f.given in
     let r : IsRunning given f.uuid f.first f.texts memory s = loads.is_running in
-    none_has (settings given.page_size f.uuid (length f.texts.channels)) f.first.table s.rounds f.texts.channels r.gave s.sources.channels r.readings.channels loads.is_table.has_page_size r.has_channel r.as_many r.channels
+    none_has (channel_of given f.uuid (length f.texts.channels)) f.first.table s.rounds f.texts.channels r.gave s.sources.channels r.readings.channels loads.is_table.has_page_size r.has_channel r.as_many r.channels
     r.are_readings.has_channels (channels_have f memory s loads due) open_

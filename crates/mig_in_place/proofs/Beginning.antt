@@ -13,9 +13,9 @@ use Rattle.mig_stream.specs.declared.item.StreamState.TheVariants.{Reading}
 use Rattle.mig_stream.specs.Progress.{StreamProgress, start}
 use Rattle.mig_stream.specs.Reading.{StreamReading}
 use Rattle.mig_stream.proofs.Feeding.{reads_short}
-use Rattle.mig_packet.specs.Reading.{Settings, settings}
+use Rattle.mig_packet.specs.Reading.{Settings}
 use Rattle.mig_packet.specs.Paging.{none_given}
-use Rattle.mig_single_load.specs.Settings.{main_of, for_table}
+use Rattle.mig_single_load.specs.Settings.{main_of, channel_of, for_table}
 use Rattle.mig_single_load.specs.declared.settings.LoadSettings.{LoadSettings}
 use Rattle.mig_answer.specs.declared.verdict.Verdict.{Verdict}
 use Rattle.mig_answer.specs.declared.verdict.Verdict.TheVariants.{Running}
@@ -61,7 +61,7 @@ all_alone given (suc n) = All-cons HasHelloAlone (none_given given) (replicate n
 
 pub stands_first : (given : LoadSettings) (uuid : List ℕ) (first : Image) (n : ℕ) (s : InPlaceLoad) → IsTable first.table → IsImage first → first.table ≡ s.table → 1 ≤ n → s.rounds ≡ 0 → s.base ≡ 0
     → s.verdict ≡ Running → HoldsMain (main_of (for_table first.table given)) 0 no_text s.sources.main
-    → AllZip (λ text c. HoldsChannel (settings first.table.page_size uuid n) first.table 0 text (none_given (settings first.table.page_size uuid n)) c) (replicate n no_text) s.sources.channels
+    → AllZip (λ text c. HoldsChannel (channel_of (for_table first.table given) uuid n) first.table 0 text (none_given (channel_of (for_table first.table given) uuid n)) c) (replicate n no_text) s.sources.channels
     → Keeps first.table [] s.round → StandsFor given uuid first (no_texts n) first s
 stands_first given uuid first n s is_table is_image same many none no_base running main channels keeps =
     let here : LoadSettings = for_table first.table given in
@@ -72,7 +72,7 @@ stands_first given uuid first n s is_table is_image same many none no_base runni
     let unknown : readings.main.table ≡ None = ap (λ (x : StreamReading). x.table) is in
     let no : readings.main.table ≡ Some first.table → ⊥ = λ own. (let clash : None ≡ Some first.table = sym unknown ∙ own in cc) in
     let count : length (replicate n no_text) ≡ n = length-replicate n no_text in
-    let channel_given : Settings = settings first.table.page_size uuid n in
+    let channel_given : Settings = channel_of here uuid n in
     let each = channels_first channel_given first.table n s.sources.channels channels in
     let f : Loading = record { given = given; uuid = uuid; first = first; texts = no_texts n } in
     let loads : Loads f first s = record {
@@ -88,7 +88,7 @@ stands_first given uuid first n s is_table is_image same many none no_base runni
         gave = replicate n (none_given channel_given);
         as_many = length-replicate n (none_given channel_given) ∙ sym count;
         has_channel = omega (arith, count, many);
-        channels = subst (λ (m : ℕ). AllZip (λ c kept. HoldsChannel (settings first.table.page_size uuid m) first.table s.rounds c.0 c.1 kept) (zip (replicate n no_text) (replicate n (none_given channel_given))) s.sources.channels) (sym count)
+        channels = subst (λ (m : ℕ). AllZip (λ c kept. HoldsChannel (channel_of here uuid m) first.table s.rounds c.0 c.1 kept) (zip (replicate n no_text) (replicate n (none_given channel_given))) s.sources.channels) (sym count)
             (subst (λ (k : ℕ). AllZip (λ c kept. HoldsChannel channel_given first.table k c.0 c.1 kept) (zip (replicate n no_text) (replicate n (none_given channel_given))) s.sources.channels) (sym none) each.0);
         has_base = no_base ∙ ap (λ (k : ℕ). base_at k readings) (sym none);
         own = λ own. absurd (no own);

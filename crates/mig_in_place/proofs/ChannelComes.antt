@@ -12,9 +12,9 @@ use Rattle.mig_mem.specs.Round.{with_rounds}
 use Rattle.mig_stream.specs.declared.item.StreamState.TheVariants as stream_state
 use Rattle.mig_stream.specs.PageRecord.{page_of}
 use Rattle.mig_stream.specs.Reading.{StreamReading}
-use Rattle.mig_packet.specs.Reading.{Settings, settings}
+use Rattle.mig_packet.specs.Reading.{Settings}
 use Rattle.mig_packet.specs.Paging.{GivenSoFar, none_given}
-use Rattle.mig_single_load.specs.Settings.{for_table}
+use Rattle.mig_single_load.specs.Settings.{for_table, channel_of}
 use Rattle.mig_single_load.specs.declared.settings.LoadSettings.{LoadSettings}
 use Rattle.mig_answer.specs.Texts.{Text, Texts, Readings, no_text, with_piece}
 use Rattle.mig_answer.specs.Growing.{GoesOn}
@@ -141,7 +141,7 @@ module _ (f : Loading) (memory : Image) (s : InPlaceLoad) (loads : Loads f memor
   table = f.first.table
 
   abbrev channel_given : Settings
-  channel_given = settings given.page_size f.uuid (length f.texts.channels)
+  channel_given = channel_of given f.uuid (length f.texts.channels)
 
   abbrev none : GivenSoFar
   none = none_given channel_given
@@ -234,7 +234,7 @@ module _ (f : Loading) (memory : Image) (s : InPlaceLoad) (loads : Loads f memor
           gave = set r.gave j more;
           as_many = length-set r.gave j more ∙ r.as_many ∙ sym (length-set f.texts.channels j new);
           has_channel = (let e = length-set f.texts.channels j new in let n = r.has_channel in omega (arith, e, n));
-          channels = subst (λ (n : ℕ). AllZip (λ c kept. HoldsChannel (settings given.page_size f.uuid n) table k c.0 c.1 kept) (zip (set f.texts.channels j new) (set r.gave j more)) (set s.sources.channels j next))
+          channels = subst (λ (n : ℕ). AllZip (λ c kept. HoldsChannel (channel_of given f.uuid n) table k c.0 c.1 kept) (zip (set f.texts.channels j new) (set r.gave j more)) (set s.sources.channels j next))
               (sym (length-set f.texts.channels j new))
               (put (HoldsChannel channel_given table k) f.texts.channels r.gave s.sources.channels j new more next r.as_many r.channels
               (subst (λ (t : RamTable). HoldsChannel channel_given t k new more next) to_table holds.holds));

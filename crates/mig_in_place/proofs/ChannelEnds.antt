@@ -9,9 +9,9 @@ use Rattle.mig_mem.specs.Image.{Page, Image}
 use Rattle.mig_mem.specs.Round.{with_rounds}
 use Rattle.mig_stream.specs.PageRecord.{page_of}
 use Rattle.mig_stream.specs.Reading.{StreamReading}
-use Rattle.mig_packet.specs.Reading.{Settings, settings}
+use Rattle.mig_packet.specs.Reading.{Settings}
 use Rattle.mig_packet.specs.Paging.{GivenSoFar}
-use Rattle.mig_single_load.specs.Settings.{for_table}
+use Rattle.mig_single_load.specs.Settings.{for_table, channel_of}
 use Rattle.mig_single_load.specs.declared.settings.LoadSettings.{LoadSettings}
 use Rattle.mig_answer.specs.Texts.{Text, Texts, Readings, no_text, over}
 use Rattle.mig_answer.specs.Growing.{GoesOn}
@@ -77,10 +77,10 @@ channel_ended f memory s loads j c next is same ends =
         gave = r.gave;
         as_many = r.as_many ∙ sym (length-set f.texts.channels j (over text));
         has_channel = (let e = length-set f.texts.channels j (over text) in let n = r.has_channel in omega (arith, e, n));
-        channels = subst (λ (n : ℕ). AllZip (λ c kept. HoldsChannel (settings given.page_size f.uuid n) table k c.0 c.1 kept) (zip (set f.texts.channels j (over text)) r.gave) (set s.sources.channels j next))
+        channels = subst (λ (n : ℕ). AllZip (λ c kept. HoldsChannel (channel_of given f.uuid n) table k c.0 c.1 kept) (zip (set f.texts.channels j (over text)) r.gave) (set s.sources.channels j next))
             (sym (length-set f.texts.channels j (over text)))
-            (end_at (settings given.page_size f.uuid (length f.texts.channels)) table k f.texts.channels r.gave s.sources.channels j c next r.as_many is
-            (λ t g holds. ends (settings given.page_size f.uuid (length f.texts.channels)) table k t g holds) r.channels);
+            (end_at (channel_of given f.uuid (length f.texts.channels)) table k f.texts.channels r.gave s.sources.channels j c next r.as_many is
+            (λ t g holds. ends (channel_of given f.uuid (length f.texts.channels)) table k t g holds) r.channels);
         has_base = r.has_base ∙ sym (base_still r.readings now k stay r.have_passed);
         own = λ own.
             subst (λ (m : Image). HoldsRound table m k (record { records = records_come table.page_size k now s.sources.main; channels = r.gave }) s.round memory) (sym onto)

@@ -12,9 +12,9 @@ use Rattle.mig_mem.specs.Image.{Image}
 use Rattle.mig_stream.specs.PageRecord.{PageRecord}
 use Rattle.mig_stream.specs.Reading.{StreamReading, IsReading as IsStreamReading}
 use Rattle.mig_stream.proofs.Exists.{one_reading_law}
-use Rattle.mig_packet.specs.Reading.{Settings, settings, ChannelReading, IsReading}
+use Rattle.mig_packet.specs.Reading.{Settings, ChannelReading, IsReading}
 use Rattle.mig_single_load.specs.InPlace.{IsOfOwnTable}
-use Rattle.mig_single_load.specs.Settings.{main_of, for_table}
+use Rattle.mig_single_load.specs.Settings.{main_of, for_table, channel_of}
 use Rattle.mig_single_load.specs.declared.fault.Origin.TheVariants as origin
 use Rattle.mig_single_load.specs.declared.settings.LoadSettings.{LoadSettings}
 use Rattle.mig_answer.specs.declared.verdict.Verdict.TheVariants.{Running}
@@ -100,9 +100,9 @@ never_due f memory after s now texts stands running main_same same many rounds l
     let count : length b.readings.main.rounds ≡ length n.main.rounds = ap (λ (l : List (List PageRecord)). length l) main_rounds in
     let below : k < length n.main.rounds = has_it k (length n.main.rounds) (stream_end n.main.state) (stream_ends n.main.state) (All-head IsWhole (main_at k n) (channels_at k n) all) in
     let main_whole : is_whole (main_status k b.readings.main) ≡ true = ap is_whole (status_whole k (length b.readings.main.rounds) (stream_end b.readings.main.state) (omega (arith, count, below))) in
-    let channels : AreRead (settings given.page_size f.uuid (length f.texts.channels)) texts.channels n.channels =
-    subst (λ (m : ℕ). AreRead (settings given.page_size f.uuid m) texts.channels n.channels) many loads.is_running.are_readings.has_channels in
-    let rest = whole_before (settings given.page_size f.uuid (length f.texts.channels)) k 0 f.texts.channels texts.channels b.readings.channels n.channels same b.are_readings.has_channels channels
+    let channels : AreRead (channel_of given f.uuid (length f.texts.channels)) texts.channels n.channels =
+    subst (λ (m : ℕ). AreRead (channel_of given f.uuid m) texts.channels n.channels) many loads.is_running.are_readings.has_channels in
+    let rest = whole_before (channel_of given f.uuid (length f.texts.channels)) k 0 f.texts.channels texts.channels b.readings.channels n.channels same b.are_readings.has_channels channels
     (All-tail IsWhole (main_at k n) (channels_at k n) all) in
     let whole : list_all (λ (x : Standing). is_whole x.status) (sources_at k b.readings) ≡ true =
     both_true (is_whole (main_status k b.readings.main)) (list_all (λ (x : Standing). is_whole x.status) (channels_at k b.readings)) main_whole rest in
@@ -132,9 +132,11 @@ ended_channel t c is =
         has_fed = g.has_fed;
         reads = g.reads;
         is_open = g.is_open;
+        is_reading = g.is_reading;
         has_packet = g.has_packet;
         has_hello = g.has_hello;
         has_packets = g.has_packets;
+        has_room = g.has_room;
       };
       has_block = is.has_block;
     }

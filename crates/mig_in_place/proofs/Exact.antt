@@ -23,11 +23,11 @@ use Rattle.mig_packet.specs.PageSize.{head_len}
 use Rattle.mig_packet.specs.declared.state.ChannelState.{ChannelState}
 use Rattle.mig_packet.specs.declared.state.ChannelState.TheVariants as channel_state
 use Rattle.mig_packet.specs.Progress.{ChannelProgress, due_fault}
-use Rattle.mig_packet.specs.Reading.{Settings, settings, ChannelReading, IsReading, state_at_end}
+use Rattle.mig_packet.specs.Reading.{Settings, ChannelReading, IsReading, state_at_end}
 use Rattle.mig_packet.specs.Reading as channel
 use Rattle.mig_packet.proofs.Exists.{one_reading_law as channel_law}
 use Rattle.mig_assemble.proofs.Elements.{contains_cases}
-use Rattle.mig_single_load.specs.Settings.{for_table, main_of}
+use Rattle.mig_single_load.specs.Settings.{for_table, main_of, channel_of}
 use Rattle.mig_single_load.specs.declared.settings.LoadSettings.{LoadSettings}
 use Rattle.mig_single_load.specs.declared.fault.Origin.TheVariants as origin
 use Rattle.mig_answer.specs.declared.status.Status.{Status}
@@ -160,7 +160,7 @@ exact_law given uuid first texts memory rounds is_table is_image is_memory here 
       let f : Place → List ℕ = λ p. option_map_or (λ (x : Page). x.content) (last_at p (all_pages (map (λ i. pages_at first.table i here.readings) (range_with_len 0 rounds)))) (content_at first p) in
       let none : (p : Place) → IsNamed page_given uuid first.table rounds texts p → ⊥ = λ p names. elim names [
         | inl m ↦ main_names_none page_given rounds texts.main here.readings.main p here.are_readings.has_main main.0 main.1 m
-        | inr c ↦ channels_name_none (settings first.table.page_size uuid (length texts.channels)) first.table rounds 0 texts.channels here.readings.channels p is_table.has_page_size
+        | inr c ↦ channels_name_none (channel_of page_given uuid (length texts.channels)) first.table rounds 0 texts.channels here.readings.channels p is_table.has_page_size
             here.are_readings.has_channels all.1 c
       ] in
       image_is memory is_memory

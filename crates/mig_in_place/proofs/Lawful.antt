@@ -12,7 +12,7 @@ use Rattle.mig_mem.specs.RamTable.{RamTable}
 use Rattle.mig_mem.specs.Image.{Page, Image}
 use Rattle.mig_stream.specs.PageRecord.{PageRecord}
 use Rattle.mig_packet.specs.Packet.{Fields, fields_of}
-use Rattle.mig_packet.specs.Reading.{Settings, settings, ChannelReading, IsReading}
+use Rattle.mig_packet.specs.Reading.{Settings, ChannelReading, IsReading}
 use Rattle.mig_packet.specs.Paging.{GivenSoFar, OpenPacket}
 use Rattle.mig_assemble.specs.declared.fault.RoundFault.{RoundFault}
 use Rattle.mig_assemble.specs.Judging.{refusal}
@@ -20,7 +20,7 @@ use Rattle.mig_assemble.specs.Arrivals.{records_in, packets_in, refusal_of, IsJu
 use Rattle.mig_assemble.proofs.Bags.{bag_permutation}
 use Rattle.mig_assemble.proofs.OrderFree.{refusal_bag}
 use Rattle.mig_assemble.proofs.Heads.{heads_judged}
-use Rattle.mig_single_load.specs.Settings.{main_of, for_table}
+use Rattle.mig_single_load.specs.Settings.{main_of, for_table, channel_of}
 use Rattle.mig_single_load.specs.declared.settings.LoadSettings.{LoadSettings}
 use Rattle.mig_single_load.specs.declared.fault.Origin.TheVariants as origin
 use Rattle.mig_single_load.specs.declared.fault.Fault.TheVariants as fault
@@ -128,7 +128,7 @@ module _ (f : Loading) (memory : Image) (s : InPlaceLoad) (loads : Loads f memor
   size = loads.is_table.has_page_size
 
   abbrev channel_given : Settings
-  channel_given = settings given.page_size f.uuid (length f.texts.channels)
+  channel_given = channel_of given f.uuid (length f.texts.channels)
 
   abbrev none_told : first_some (told_at k r.readings) ≡ None
   none_told = due r.readings r.are_readings

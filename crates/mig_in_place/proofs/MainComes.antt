@@ -16,11 +16,11 @@ use Rattle.mig_stream.specs.PageRecord.{PageRecord, page_of}
 use Rattle.mig_stream.specs.Reading.{StreamReading, IsReading}
 use Rattle.mig_stream.specs.Reader.{HasTable}
 use Rattle.mig_stream.proofs.Exists.{one_reading_law}
-use Rattle.mig_packet.specs.Reading.{Settings, settings}
+use Rattle.mig_packet.specs.Reading.{Settings}
 use Rattle.mig_packet.specs.Paging.{GivenSoFar, OpenPacket}
 use Rattle.mig_assemble.proofs.Putting.{put_none}
 use Rattle.mig_single_load.specs.InPlace.{IsOfOwnTable}
-use Rattle.mig_single_load.specs.Settings.{main_of, for_table}
+use Rattle.mig_single_load.specs.Settings.{main_of, for_table, channel_of}
 use Rattle.mig_single_load.specs.declared.fault.Origin.TheVariants as origin
 use Rattle.mig_single_load.specs.declared.fault.Fault.TheVariants as fault
 use Rattle.mig_single_load.specs.declared.settings.LoadSettings.{LoadSettings}
@@ -156,7 +156,7 @@ module _ (f : Loading) (memory : Image) (s : InPlaceLoad) (loads : Loads f memor
   pub writes_now : now.main.table ≡ Some table → IsFalse s.round.has_misplaced → AllZip WritesPages r.gave s.sources.channels
   writes_now is right = elim r.is_own [
     | inr own ↦ r.writes own right
-    | inl none ↦ alone_writes (settings given.page_size f.uuid (length f.texts.channels)) table k f.texts.channels r.gave s.sources.channels r.as_many r.channels (r.awaited none (was_reading none is))
+    | inl none ↦ alone_writes (channel_of given f.uuid (length f.texts.channels)) table k f.texts.channels r.gave s.sources.channels r.as_many r.channels (r.awaited none (was_reading none is))
   ]
 
   -- the load with more bytes of the main stream

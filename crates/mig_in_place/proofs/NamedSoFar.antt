@@ -16,15 +16,13 @@ use Rattle.mig_mem.proofs.Members.{map-map}
 use Rattle.mig_stream.specs.PageRecord.{PageRecord, page_of}
 use Rattle.mig_stream.specs.Reading.{StreamReading}
 use Rattle.mig_packet.specs.PageSize.{head_len}
-use Rattle.mig_packet.specs.Faults.{first_of}
 use Rattle.mig_packet.specs.declared.fault.ChannelFault.{ChannelFault}
-use Rattle.mig_packet.specs.Packet.{packet_faults}
-use Rattle.mig_packet.specs.Progress.{ChannelProgress, start, judged_len, faults, first_fault, due_fault}
-use Rattle.mig_packet.specs.Reading.{Settings, ChannelReading, state_at}
+use Rattle.mig_packet.specs.declared.state.ChannelState.{ChannelState}
+use Rattle.mig_packet.specs.declared.state.ChannelState.TheVariants.{Reading}
+use Rattle.mig_packet.specs.Progress.{ChannelProgress, start, due_fault, after_packet}
+use Rattle.mig_packet.specs.Reading.{Settings, ChannelReading, Ends, Reads, state_at}
 use Rattle.mig_packet.specs.Paging.{OpenPacket, GivenSoFar, IsOpenPacket, bytes_of, is_complete, read_to, open_bytes}
-use Rattle.mig_packet.proofs.Fronts.{due_is}
 use Rattle.mig_packet.proofs.Later.{IsLater-front}
-use Rattle.mig_packet.proofs.Judging.{packet_faults-front}
 use Rattle.mig_assemble.specs.Judging.{places_of}
 use Rattle.mig_single_load.specs.declared.settings.LoadSettings.{LoadSettings}
 use Rattle.mig_single_load.specs.Settings.{main_of}
@@ -79,33 +77,38 @@ main_named given k size text reading m p is_size holds is whole t =
 -- ---- a channel
 
 -- the head of the packet that was begun stands first in what is left
-begun_left : (c : ChannelProgress) (q : OpenPacket) (kept : List ℕ) (hello : Option ℕ) → c.hello ≡ hello → hello ≢ None → IsOpenPacket c.page_size q → begun c hello (bytes_of q ++ kept) ≡ (bytes_of q ++ kept) ∷ []
-begun_left c q kept None e some is = absurd (some refl)
-begun_left c q kept (Some id) e some is =
+begun_left : (c : ChannelProgress) (q : OpenPacket) (kept : List ℕ) (hello : Option ℕ) → hello ≢ None → IsOpenPacket c.page_size q → due_fault c (bytes_of q ++ kept) ≡ None
+    → begun c hello (bytes_of q ++ kept) ≡ (bytes_of q ++ kept) ∷ []
+begun_left c q kept None some is due = absurd (some refl)
+begun_left c q kept (Some id) some is due =
     let more : List ℕ = flat_map (λ page. page.content) q.pages ++ kept in
     let rest : List ℕ = bytes_of q ++ kept in
     let split : rest ≡ q.head ++ more = append_assoc q.head (flat_map (λ page. page.content) q.pages) kept in
     let head : head_len c.page_size ≤ length q.head = omega (arith, is.is_head.has_length) in
     let long : head_len c.page_size ≤ length rest = (let l = ap (λ (x : List ℕ). length x) split in omega (arith, l, head, length-append q.head more)) in
-    let none : first_fault c rest ≡ None =
-    ap (λ (h : Option ℕ). first_of (faults c h rest)) e
-    ∙ ap (λ (x : List ℕ). first_of (packet_faults c.page_size x)) split
-    ∙ ap first_of (packet_faults-front c.page_size q.head more head) ∙ is.is_head.has_no_fault in
-    let judged : judged_len c.page_size c.hello ≤ length rest = subst (λ (h : Option ℕ). judged_len c.page_size h ≤ length rest) (sym e) long in
-    let due : due_fault c rest ≡ None = due_is c rest judged ∙ none in
     ap (λ (b : Bool). if b && is_none (due_fault c rest) then rest ∷ [] else []) (le-leb (head_len c.page_size) (length rest) long)
     ∙ ap (λ (o : Option ChannelFault). if is_none o then rest ∷ [] else []) due
 
+-- a packet that was begun has no fault
+none_due : (from read : ChannelProgress) (text : List ℕ) (o : Option OpenPacket) (kept : List ℕ) (found : ChannelState) → IfSome o (λ packet. IsFalse (is_complete packet))
+    → IfSome o (λ packet. found ≡ Reading) → Reads from text (read_to read o) (open_bytes o ++ kept) found → IfSome o (λ packet. due_fault read (bytes_of packet ++ kept) ≡ None)
+none_due from read text None kept found missing reading r = tt
+none_due from read text (Some q) kept found missing reading r =
+    let ends : Ends (read_to read (Some q)) (open_bytes (Some q) ++ kept) Reading =
+    subst (λ (s : ChannelState). Ends (read_to read (Some q)) (open_bytes (Some q) ++ kept) s) reading r.ends in
+    subst (λ (b : Bool). due_fault (if b then after_packet read (bytes_of q) else read) ((if b then [] else bytes_of q) ++ kept) ≡ None) missing ends.0
+
 -- what was begun is named by what is left
 begun_named : (table : RamTable) (size : ℕ) (read : ChannelProgress) (o : Option OpenPacket) (kept : List ℕ) (p : Place) → read.page_size ≡ size → IfSome o (IsOpenPacket size)
-    → IfSome o (λ packet. read.hello ≢ None) → IfSome o (λ packet. IsFalse (is_complete packet)) → has_place (flat_map (head_places table) (heads_begun o)) p ≡ true
+    → IfSome o (λ packet. read.hello ≢ None) → IfSome o (λ packet. IsFalse (is_complete packet)) → IfSome o (λ packet. due_fault read (bytes_of packet ++ kept) ≡ None)
+    → has_place (flat_map (head_places table) (heads_begun o)) p ≡ true
     → has_place (flat_map (packet_places table) (begun read read.hello (open_bytes o ++ kept))) p ≡ true
-begun_named table size read None kept p same is hello missing t = absurd cc
-begun_named table size read (Some q) kept p same is hello missing t =
+begun_named table size read None kept p same is hello missing due t = absurd cc
+begun_named table size read (Some q) kept p same is hello missing due t =
     let more : List ℕ = flat_map (λ page. page.content) q.pages ++ kept in
     let left : open_bytes (Some q) ++ kept ≡ bytes_of q ++ kept = ap (λ (b : Bool). (if b then [] else bytes_of q) ++ kept) missing in
     let one : begun read read.hello (open_bytes (Some q) ++ kept) ≡ (bytes_of q ++ kept) ∷ [] =
-    ap (λ (l : List ℕ). begun read read.hello l) left ∙ begun_left read q kept read.hello refl hello (subst (λ (n : ℕ). IsOpenPacket n q) (sym same) is) in
+    ap (λ (l : List ℕ). begun read read.hello l) left ∙ begun_left read q kept read.hello hello (subst (λ (n : ℕ). IsOpenPacket n q) (sym same) is) due in
     let places : flat_map (head_places table) (q.head ∷ []) ≡ flat_map (packet_places table) ((bytes_of q ++ kept) ∷ []) =
     ap (λ (l : List Place). l ++ []) (places_front table size q.head more is.is_head
     ∙ ap (packet_places table) (sym (append_assoc q.head (flat_map (λ page. page.content) q.pages) kept))) in
@@ -115,7 +118,7 @@ begun_named table size read (Some q) kept p same is hello missing t =
 page_size_of : (given : Settings) (table : RamTable) (k : ℕ) (text : Text) (so_far : GivenSoFar) (c : KeptChannel) → HoldsChannel given table k text so_far c → so_far.read.page_size ≡ given.page_size
 page_size_of given table k text so_far c holds =
     sym (ap (λ (x : ChannelProgress). x.page_size) (read_as_given so_far.read so_far.packet holds.has_missing))
-    ∙ (IsLater-front (start given.page_size given.uuid given.channels) (read_to so_far.read so_far.packet) holds.gives.reads.front holds.gives.reads.leads).1.same_page_size
+    ∙ (IsLater-front (start given.page_size given.uuid given.channels given.waiting) (read_to so_far.read so_far.packet) holds.gives.reads.front holds.gives.reads.leads).1.same_page_size
 
 pub channel_named : (given : Settings) (table : RamTable) (k : ℕ) (text : Text) (so_far : GivenSoFar) (c : KeptChannel) (p : Place) → HoldsChannel given table k text so_far c
     → has_place (flat_map (head_places table) (heads_given k so_far)) p ≡ true → ChannelNames given table k text p
@@ -151,7 +154,9 @@ channel_named given table k text so_far c p holds t =
             let either : (has_place A p || has_place B p) ≡ true = elim (in_either (flat_map (head_places table) read.packets) (flat_map (head_places table) (heads_begun so_far.packet)) p parts) [
               | inl first ↦ or_left (has_place A p) (has_place B p) (ap (λ (l : List Place). has_place l p) (sym (all_places_named table read.packets)) ∙ first)
               | inr last ↦ or_right (has_place A p) (has_place B p)
-                  (begun_named table given.page_size read so_far.packet c.reader.kept p size holds.gives.is_open holds.has_hello holds.has_missing last)
+                  (begun_named table given.page_size read so_far.packet c.reader.kept p size holds.gives.is_open holds.has_hello holds.has_missing
+                  (none_due (start given.page_size given.uuid given.channels given.waiting) read text.bytes so_far.packet c.reader.kept c.reader.found holds.has_missing
+                  holds.gives.is_reading holds.gives.reads) last)
             ] in
             ap (λ (l : List (List ℕ)). has_place (flat_map (packet_places table) l) p) now
             ∙ ap (λ (l : List Place). has_place l p) (flat_map-append (packet_places table) read.packets (begun read read.hello rest))

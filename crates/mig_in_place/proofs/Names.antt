@@ -137,7 +137,7 @@ channel_stays_named given table k old new p size goes names settled = elim (case
         | inr end ↦
             let found : names.reading.state ≡ is.found = is.has_state ∙ ap (λ (b : Bool). channel.state_at b is.to is.rest is.found) f in
             let over : is.found ≢ channel_state.Reading = λ e. channel_over names.reading.state end.1 (found ∙ e) in
-            let on = channel_more (channel_start given.page_size given.uuid given.channels) old.bytes is.to is.rest goes.more is.found over is.reads in
+            let on = channel_more (channel_start given.page_size given.uuid given.channels given.waiting) old.bytes is.to is.rest goes.more is.found over is.reads in
             let none : begun is.to is.to.hello is.rest ≡ [] = begun_bad is.to is.to.hello is.rest is.found over is.reads.ends in
             let past : (in_hand : List (List ℕ)) → round_so_far k names.reading.rounds in_hand ≡ in_hand = λ in_hand. get_or-eq_default names.reading.rounds in_hand (omega (arith, end.0)) in
             let here : round_so_far k names.reading.rounds (is.to.packets ++ begun is.to is.to.hello is.rest) ≡ is.to.packets =
@@ -154,7 +154,7 @@ channel_stays_named given table k old new p size goes names settled = elim (case
                 to = is.to;
                 rest = is.rest ++ goes.more;
                 found = is.found;
-                reads = subst (λ (bytes : List ℕ). channel.Reads (channel_start given.page_size given.uuid given.channels) bytes is.to (is.rest ++ goes.more) is.found) (sym goes.has_bytes) on;
+                reads = subst (λ (bytes : List ℕ). channel.Reads (channel_start given.page_size given.uuid given.channels given.waiting) bytes is.to (is.rest ++ goes.more) is.found) (sym goes.has_bytes) on;
                 has_hello = is.has_hello;
                 has_rounds = is.has_rounds;
                 has_state = refl;

@@ -11,7 +11,7 @@ use Rattle.mig_stream.specs.Reading.{StreamReading, IsReading as IsStreamReading
 use Rattle.mig_stream.proofs.Exists.{one_reading_law as stream_law}
 use Rattle.mig_packet.specs.Reading as channel
 use Rattle.mig_assemble.proofs.Elements.{contains_cases, contains_here, contains_later}
-use Rattle.mig_single_load.specs.Settings.{for_table, main_of}
+use Rattle.mig_single_load.specs.Settings.{for_table, main_of, channel_of}
 use Rattle.mig_single_load.specs.declared.settings.LoadSettings.{LoadSettings}
 use Rattle.mig_single_load.specs.InPlace.{IsOfOtherTable}
 use Rattle.mig_single_load.proofs.Onto.{apart}
@@ -67,8 +67,8 @@ ended_named : (given : LoadSettings) (uuid : List ℕ) (table : RamTable) (k : �
 ended_named given uuid table k source.Main texts p names = names
 ended_named given uuid table k (source.Channel j) texts p (inl named) = inl named
 ended_named given uuid table k (source.Channel j) texts p (inr named) =
-    inr (subst (λ (n : ℕ). SomeChannelNames (channel.settings given.page_size uuid n) table k (set texts.channels j (over (get_or texts.channels j no_text))) p)
-    (sym (length-set texts.channels j (over (get_or texts.channels j no_text)))) (channels_named (channel.settings given.page_size uuid (length texts.channels)) table k j texts.channels p named))
+    inr (subst (λ (n : ℕ). SomeChannelNames (channel_of given uuid n) table k (set texts.channels j (over (get_or texts.channels j no_text))) p)
+    (sym (length-set texts.channels j (over (get_or texts.channels j no_text)))) (channels_named (channel_of given uuid (length texts.channels)) table k j texts.channels p named))
 
 -- ---- what is read stays read
 

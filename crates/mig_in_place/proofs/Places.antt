@@ -6,9 +6,9 @@ use Rattle.std.specs.List.{AllZip}
 use Rattle.std.proofs.lemmas.List.{length-set}
 use Rattle.mig_mem.specs.RamTable.{RamTable}
 use Rattle.mig_mem.specs.Image.{Image}
-use Rattle.mig_packet.specs.Reading.{Settings, settings}
+use Rattle.mig_packet.specs.Reading.{Settings}
 use Rattle.mig_packet.specs.Paging.{GivenSoFar, PageHolder, Gives}
-use Rattle.mig_single_load.specs.Settings.{main_of}
+use Rattle.mig_single_load.specs.Settings.{main_of, channel_of}
 use Rattle.mig_single_load.specs.declared.settings.LoadSettings.{LoadSettings}
 use Rattle.mig_answer.specs.Texts.{Text, Texts, no_text, over}
 use Rattle.mig_in_place.specs.Sources.{KeptMain, KeptChannel, KeptSources, HoldsChannel, HasGiven, StandsAt}
@@ -29,7 +29,7 @@ pub running_taken : (given : LoadSettings) (uuid : List ℕ) (first : Image) (te
 running_taken given uuid first texts memory s r = record {
   rounds = s.rounds;
   main = r.main.stands;
-  channels = given_each (settings given.page_size uuid (length texts.channels)) first.table s.rounds texts.channels r.gave s.sources.channels r.as_many r.channels;
+  channels = given_each (channel_of given uuid (length texts.channels)) first.table s.rounds texts.channels r.gave s.sources.channels r.as_many r.channels;
 }
 
 -- a main stream that names another table was taken too
@@ -46,9 +46,11 @@ gives_over given text so_far r g = record {
   has_fed = g.has_fed;
   reads = g.reads;
   is_open = g.is_open;
+  is_reading = g.is_reading;
   has_packet = g.has_packet;
   has_hello = g.has_hello;
   has_packets = g.has_packets;
+  has_room = g.has_room;
 }
 
 given_over : (given : Settings) (text : Text) (c q next : KeptChannel) → c ≡ q → next ≡ record q { reader = record q.reader { ended = true } } → HasGiven given text c → HasGiven given (over text) next
@@ -70,9 +72,9 @@ pub channel_taken : (given : LoadSettings) (uuid : List ℕ) (texts : Texts) (s 
 channel_taken given uuid texts s j q next is same taken = record {
   rounds = taken.rounds;
   main = taken.main;
-  channels = subst (λ (n : ℕ). AllZip (HasGiven (settings given.page_size uuid n)) (set texts.channels j (over (get_or texts.channels j no_text))) (set s.channels j next))
+  channels = subst (λ (n : ℕ). AllZip (HasGiven (channel_of given uuid n)) (set texts.channels j (over (get_or texts.channels j no_text))) (set s.channels j next))
       (sym (length-set texts.channels j (over (get_or texts.channels j no_text))))
-      (over_each (settings given.page_size uuid (length texts.channels)) texts.channels s.channels j q next is same taken.channels);
+      (over_each (channel_of given uuid (length texts.channels)) texts.channels s.channels j q next is same taken.channels);
 }
 
 -- ---- one channel

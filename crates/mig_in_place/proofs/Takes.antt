@@ -6,9 +6,9 @@ use Rattle.std.proofs.lemmas.List.{get_or-map}
 use Rattle.mig_mem.specs.PageSize.{IsPageSize}
 use Rattle.mig_mem.specs.Image.{Image}
 use Rattle.mig_packet.specs.declared.state.ChannelState.TheVariants as channel_state
-use Rattle.mig_packet.specs.Reading.{Settings, settings, ChannelReading, IsReading}
+use Rattle.mig_packet.specs.Reading.{Settings, ChannelReading, IsReading}
 use Rattle.mig_packet.specs.Paging.{none_given}
-use Rattle.mig_single_load.specs.Settings.{for_table}
+use Rattle.mig_single_load.specs.Settings.{for_table, channel_of}
 use Rattle.mig_single_load.specs.declared.settings.LoadSettings.{LoadSettings}
 use Rattle.mig_answer.specs.declared.verdict.Verdict.TheVariants.{Running}
 use Rattle.mig_answer.specs.declared.status.Status.{Status}
@@ -65,7 +65,7 @@ module _ (f : Loading) (memory : Image) (s : InPlaceLoad) (loads : Loads f memor
       → IsTrue result ↔ TakesBytes given f.uuid s.rounds f.texts (source.Channel j)
   channel_takes j c l result is lists tells =
       let k : ℕ = s.rounds in
-      let channel_given : Settings = settings given.page_size f.uuid (length f.texts.channels) in
+      let channel_given : Settings = channel_of given f.uuid (length f.texts.channels) in
       let picked = pick (HoldsChannel channel_given f.first.table k) f.texts.channels r.gave s.sources.channels j (none_given channel_given) c r.as_many r.channels is in
       let below : j < length f.texts.channels = (let many = r.as_many in let lt = picked.1 in omega (arith, many, lt)) in
       let d : ChannelReading = record { hello = None; rounds = []; state = channel_state.Reading } in

@@ -10,11 +10,11 @@ use Rattle.mig_mem.specs.declared.place.Place.{Place}
 use Rattle.mig_mem.specs.RamTable.{RamTable}
 use Rattle.mig_mem.specs.Place.{has_place}
 use Rattle.mig_mem.specs.Image.{Image}
-use Rattle.mig_packet.specs.Reading.{Settings, settings, ChannelReading, IsReading}
+use Rattle.mig_packet.specs.Reading.{Settings, ChannelReading, IsReading}
 use Rattle.mig_packet.specs.Paging.{GivenSoFar}
 use Rattle.mig_assemble.specs.Judging.{places_of}
 use Rattle.mig_assemble.proofs.Elements.{contains_here, contains_later}
-use Rattle.mig_single_load.specs.Settings.{for_table}
+use Rattle.mig_single_load.specs.Settings.{for_table, channel_of}
 use Rattle.mig_single_load.specs.declared.fault.Origin.TheVariants as origin
 use Rattle.mig_single_load.specs.declared.fault.Fault.TheVariants as fault
 use Rattle.mig_single_load.specs.declared.settings.LoadSettings.{LoadSettings}
@@ -83,7 +83,7 @@ module _ (f : Loading) (memory : Image) (s : InPlaceLoad) (loads : Loads f memor
   given = for_table f.first.table f.given
 
   abbrev channel_given : Settings
-  channel_given = settings given.page_size f.uuid (length f.texts.channels)
+  channel_given = channel_of given f.uuid (length f.texts.channels)
 
   abbrev r : IsRunning given f.uuid f.first f.texts memory s
   r = loads.is_running

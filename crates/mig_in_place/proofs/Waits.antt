@@ -21,7 +21,7 @@ use Rattle.mig_stream.specs.Reading.{StreamReading, state_at}
 use Rattle.mig_stream.specs.Law.{StaysRead}
 use Rattle.mig_stream.proofs.Exists.{one_reading_law as stream_law}
 use Rattle.mig_packet.specs.Reading as channel
-use Rattle.mig_single_load.specs.Settings.{for_table, main_of}
+use Rattle.mig_single_load.specs.Settings.{for_table, main_of, channel_of}
 use Rattle.mig_single_load.specs.declared.settings.LoadSettings.{LoadSettings}
 use Rattle.mig_single_load.specs.InPlace.{IsOfOwnTable}
 use Rattle.mig_single_load.proofs.Onto.{apart}
@@ -123,7 +123,7 @@ main_goes_on given uuid first texts k step before now size goes was are settled 
     let stay = readings_stay given uuid texts (record texts { main = step texts.main }) before now size (main_goes texts step goes) was are in
     let status : main_status k now.main ≡ main_status k before.main = main_kept k before.main now.main stay.main settled in
     let channels = any_kept k 0 before.channels now.channels
-    (all_kept (channel.settings given.page_size uuid (length texts.channels)) k texts.channels before.channels now.channels size was.has_channels are.has_channels) in
+    (all_kept (channel_of given uuid (length texts.channels)) k texts.channels before.channels now.channels size was.has_channels are.has_channels) in
     record {
       stay = stay;
       same_table = table_kept k before.main now.main stay.main stay.has_table_first settled;
@@ -142,8 +142,8 @@ main_goes_on given uuid first texts k step before now size goes was are settled 
 abbrev with_channel : Texts → ℕ → (Text → Text) → Texts
 with_channel texts j step = record texts { channels = set texts.channels j (step (get_or texts.channels j no_text)) }
 
-same_count : (given : LoadSettings) (uuid : List ℕ) (texts : Texts) (j : ℕ) (step : Text → Text) → channel.settings given.page_size uuid (length (with_channel texts j step).channels) ≡ channel.settings given.page_size uuid (length texts.channels)
-same_count given uuid texts j step = ap (channel.settings given.page_size uuid) (length-set texts.channels j (step (get_or texts.channels j no_text)))
+same_count : (given : LoadSettings) (uuid : List ℕ) (texts : Texts) (j : ℕ) (step : Text → Text) → channel_of given uuid (length (with_channel texts j step).channels) ≡ channel_of given uuid (length texts.channels)
+same_count given uuid texts j step = ap (channel_of given uuid) (length-set texts.channels j (step (get_or texts.channels j no_text)))
 
 abbrev AreRead : channel.Settings → List Text → List channel.ChannelReading → Type 0
 AreRead given texts readings = AllZip (λ (text : Text) (reading : channel.ChannelReading). channel.IsReading given text.bytes text.ended reading) texts readings
@@ -152,7 +152,7 @@ channel_goes_on : (given : LoadSettings) (uuid : List ℕ) (first : Image) (text
     → AreReadings given uuid texts before → AreReadings given uuid (with_channel texts j step) now → is_pending (get_or (map (channel_status k) before.channels) j Pending) ≡ false
     → list_any waits (sources_at k before) ≡ true → GoesOnRunning given uuid first k texts (with_channel texts j step) before now
 channel_goes_on given uuid first texts k j step before now size goes was are settled waited =
-    let s : channel.Settings = channel.settings given.page_size uuid (length texts.channels) in
+    let s : channel.Settings = channel_of given uuid (length texts.channels) in
     let stay = readings_stay given uuid texts (with_channel texts j step) before now size (channel_goes texts j step goes) was are in
     let main : now.main ≡ before.main = same_main given texts.main now.main before.main size are.has_main was.has_main in
     let read : AreRead s (with_channel texts j step).channels now.channels =

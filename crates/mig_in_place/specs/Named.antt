@@ -12,7 +12,7 @@ use Rattle.mig_packet.specs.Progress.{ChannelProgress, due_fault}
 use Rattle.mig_packet.specs.Reading as channel
 use Rattle.mig_assemble.specs.Judging.{places_of}
 use Rattle.mig_assemble.specs.Arrivals.{OnePacket, arrival_pages}
-use Rattle.mig_single_load.specs.Settings.{main_of}
+use Rattle.mig_single_load.specs.Settings.{main_of, channel_of}
 use Rattle.mig_single_load.specs.declared.settings.LoadSettings.{LoadSettings}
 use Rattle.mig_answer.specs.Texts.{Text, Texts}
 
@@ -51,4 +51,4 @@ SomeChannelNames given table k texts p = (text : Text) × Contains texts text ×
 abbrev pub IsNamed : LoadSettings → List ℕ → RamTable → ℕ → Texts → Place → Type 0
 IsNamed given uuid table k texts p =
     MainNames (main_of given) k texts.main.bytes p
-    ⊎ SomeChannelNames (channel.settings given.page_size uuid (length texts.channels)) table k texts.channels p
+    ⊎ SomeChannelNames (channel_of given uuid (length texts.channels)) table k texts.channels p

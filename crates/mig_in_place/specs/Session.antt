@@ -8,9 +8,8 @@ use Rattle.mig_mem.specs.Image.{Page, Image, IsImage}
 use Rattle.mig_stream.specs.declared.item.StreamState.TheVariants as stream_state
 use Rattle.mig_stream.specs.Reading as stream
 use Rattle.mig_stream.specs.Reader.{HasTable}
-use Rattle.mig_packet.specs.Reading as channel
 use Rattle.mig_packet.specs.Paging.{GivenSoFar}
-use Rattle.mig_single_load.specs.Settings.{main_of, for_table}
+use Rattle.mig_single_load.specs.Settings.{main_of, channel_of, for_table}
 use Rattle.mig_single_load.specs.InPlace.{IsOfOwnTable}
 use Rattle.mig_single_load.specs.declared.settings.LoadSettings.{LoadSettings}
 use Rattle.mig_single_load.specs.declared.fault.Origin.TheVariants as origin
@@ -89,7 +88,7 @@ pub record IsRunning (given : LoadSettings) (uuid : List ℕ) (first : Image) (t
   pub gave : List GivenSoFar
   pub as_many : length gave ≡ length texts.channels
   pub has_channel : 1 ≤ length texts.channels
-  pub channels : AllZip (λ c kept. HoldsChannel (channel.settings given.page_size uuid (length texts.channels)) first.table s.rounds c.0 c.1 kept) (zip texts.channels gave) s.sources.channels
+  pub channels : AllZip (λ c kept. HoldsChannel (channel_of given uuid (length texts.channels)) first.table s.rounds c.0 c.1 kept) (zip texts.channels gave) s.sources.channels
   pub has_base : s.base ≡ base_at s.rounds readings
   pub own : readings.main.table ≡ Some first.table
       → HoldsRound first.table (rounds_onto first s.rounds readings) s.rounds
@@ -104,7 +103,7 @@ pub record IsRunning (given : LoadSettings) (uuid : List ℕ) (first : Image) (t
 pub record HaveTaken (given : LoadSettings) (uuid : List ℕ) (texts : Texts) (s : KeptSources) : Type 0 where
   pub rounds : ℕ
   pub main : StandsAt (main_of given) rounds texts.main s.main
-  pub channels : AllZip (HasGiven (channel.settings given.page_size uuid (length texts.channels))) texts.channels s.channels
+  pub channels : AllZip (HasGiven (channel_of given uuid (length texts.channels))) texts.channels s.channels
 
 -- A load was made for the memory `first` with these settings and under this UUID, and took this
 -- much of the streams. Its answer on them is that of a load in place. `memory` is the memory now.

@@ -4,7 +4,7 @@ ghost use Rattle.std.specs.Prelude.{ℕ, ◌≡◌, ◌≢◌, ◌+◌, ◌<◌,
 ghost use Rattle.std.specs.Option.{option_map};
 ghost use Rattle.mig_mem.specs.Place.{IsPlace, place_at};
 ghost use Rattle.mig_packet.specs.PageSize.{IsPageSize};
-ghost use Rattle.mig_packet.specs.Reading.{settings};
+ghost use Rattle.mig_single_load.specs.Settings.{channel_of};
 ghost use Rattle.mig_packet.specs.Reader.{IsValidUpTo};
 ghost use Rattle.mig_packet.specs.Paging.{GivenSoFar, none_given, content_of};
 ghost use Rattle.mig_mem.specs.RamTable.{RamTable};
@@ -22,6 +22,7 @@ use crate::round::{Pages, RoundInHand};
 use mig_answer::{Status, channel_end};
 use mig_mem::{GuestTarget, NoMemory, Place};
 use mig_packet::{Came, PageContent, PageReader};
+use mig_single_load::LoadSettings;
 use std::alloc::{Allocator, Global};
 use std::marker::Model;
 use uuid::Uuid;
@@ -58,15 +59,17 @@ impl<A: Allocator + Copy> Channel<A> {
     /// Creates a channel before its first byte.
     pub(crate) fn new(
         alloc: A,
-        page_size: u64,
+        settings: LoadSettings,
         uuid: Uuid,
         channels: usize,
     ) -> Result<Channel<A>, NoMemory>
-        requires page_size { IsPageSize page_size }
-        ensures holds { IfOk result (λ c. (table : RamTable) → HoldsChannel (settings page_size uuid channels) table 0 no_text (none_given (settings page_size uuid channels)) c) }
+        requires page_size { IsPageSize settings.page_size }
+        ensures holds { IfOk result (λ c. (table : RamTable) → HoldsChannel (channel_of settings uuid channels) table 0 no_text (none_given (channel_of settings uuid channels)) c) }
         ensures count { IfOk result (λ c. channel_count c ≡ record { fed = 0; ended = false }) }
     {
-        let Ok(reader) = PageReader::new(alloc, page_size, uuid, channels) else {
+        let page_size = settings.page_size;
+        let waiting = settings.waiting;
+        let Ok(reader) = PageReader::new_within(alloc, page_size, uuid, channels, waiting) else {
             return Err(NoMemory);
         };
         Ok(Channel {

@@ -6,13 +6,12 @@ ghost use Rattle.std.specs.Option.{option_copied};
 ghost use Rattle.mig_mem.specs.PageSize.{IsPageSize};
 ghost use Rattle.mig_mem.specs.RamTable.{RamTable};
 ghost use Rattle.mig_mem.specs.Image.{Image, IsImage};
-ghost use Rattle.mig_packet.specs.Reading.{settings};
 ghost use Rattle.mig_packet.specs.Paging.{none_given};
 ghost use Rattle.mig_single_load.specs.declared.fault.InPlaceFault.TheVariants as in_place_fault;
 ghost use Rattle.mig_single_load.specs.declared.fault.Origin.TheVariants as origin;
 ghost use Rattle.mig_single_load.specs.declared.settings.LoadSettings.{LoadSettings};
 ghost use Rattle.mig_single_load.specs.declared.fault.Fault.TheVariants.{NoMemory as fault_no_memory};
-ghost use Rattle.mig_single_load.specs.Settings.{ram_settings, for_table, main_of};
+ghost use Rattle.mig_single_load.specs.Settings.{ram_settings, for_table, main_of, channel_of};
 ghost use Rattle.mig_answer.specs.declared.verdict.Verdict.TheVariants.{Running as running};
 ghost use Rattle.mig_answer.specs.Texts.{no_text, no_texts};
 ghost use Rattle.mig_answer.specs.MultiLoad.{failed};
@@ -131,18 +130,18 @@ fn failed(round: u64, source: Origin, fault: Fault) -> Verdict
 // Creates channels before their first byte.
 fn new_channels<A: Allocator + Copy>(
     alloc: A,
-    page_size: u64,
+    settings: LoadSettings,
     uuid: &Uuid,
     channels: usize,
 ) -> Result<Vec<Channel<A>, A>, NoMemory>
-    requires page_size { IsPageSize page_size }
-    ensures holds { IfOk result (λ v. (table : RamTable) → AllZip (λ text c. HoldsChannel (settings page_size uuid.now channels) table 0 text (none_given (settings page_size uuid.now channels)) c)
+    requires page_size { IsPageSize settings.page_size }
+    ensures holds { IfOk result (λ v. (table : RamTable) → AllZip (λ text c. HoldsChannel (channel_of settings uuid.now channels) table 0 text (none_given (channel_of settings uuid.now channels)) c)
         (replicate channels no_text) v.items) }
     ensures counts { IfOk result (λ v. map channel_count v.items ≡ replicate channels no_count) }
 {
     let mut made = Vec::with_capacity(alloc, channels)?;
     for _ in 0..channels {
-        made.push_reserved(Channel::new(alloc, page_size, *uuid, channels)?);
+        made.push_reserved(Channel::new(alloc, settings, *uuid, channels)?);
     }
     Ok(made)
 }
@@ -272,7 +271,7 @@ impl<A: Allocator + Copy> InPlaceSession<A> {
         Ok(InPlaceSession {
             table: table.copy_in(alloc)?,
             main: MainStream::new(alloc, settings),
-            channels: new_channels(alloc, page_size, uuid, channels)?,
+            channels: new_channels(alloc, settings, uuid, channels)?,
             round: RoundInHand::new(alloc, table)?,
             statuses: Vec::with_capacity(alloc, channels)?,
             hellos: Vec::with_capacity(alloc, channels)?,

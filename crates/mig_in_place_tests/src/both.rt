@@ -6,7 +6,7 @@ use mig_in_place::InPlaceSession;
 use mig_mem::{Memory, Table, first_difference, is_page_size};
 use mig_send::Sent;
 use mig_session::{Session, Source};
-use mig_single_load::{Fault, InPlaceFault, LoadFault, Origin};
+use mig_single_load::{Fault, InPlaceFault, LoadFault, LoadSettings, Origin};
 use rand_core::Rng;
 use rand_pcg::Pcg32;
 use std::alloc::{AllocGlobal, Allocator};
@@ -58,10 +58,21 @@ pub(crate) fn failed(round: u64, source: Origin, fault: Fault) -> Verdict {
 
 // Returns a session and a load in place of `channels` channels, into a memory of zeros.
 fn both_of(rt: &(impl AllocGlobal + Abort), table: &Table, channels: usize) -> Both {
+    both_within(rt, table, channels, None)
+}
+
+// A session and a load in place, with a limit on what may wait.
+fn both_within(
+    rt: &(impl AllocGlobal + Abort),
+    table: &Table,
+    channels: usize,
+    waiting: Option<u64>,
+) -> Both {
     let size = table.page_size();
     assert!(rt; is_page_size(size) && 1 <= channels && channels <= 255);
-    let session = Session::new(rt.alloc(), size, &Uuid::nil(), channels, LIMIT);
-    let in_place = InPlaceSession::new(rt.alloc(), table, &Uuid::nil(), channels, LIMIT);
+    let settings = LoadSettings::new(size, LIMIT).with_waiting(waiting);
+    let session = Session::new_in(rt.alloc(), settings, &Uuid::nil(), channels);
+    let in_place = InPlaceSession::new_in(rt.alloc(), table, settings, &Uuid::nil(), channels);
     Both {
         session: session.expect(rt, "a session"),
         in_place: in_place.expect(rt, "a load"),
@@ -215,6 +226,23 @@ pub(crate) fn assert_comes_to(
         if pages <= 2 || most >= 1000 {
             assert!(rt; rounds_and_verdict(rt, &table, texts, most) == (rounds, verdict));
         }
+    }
+}
+
+/// Feeds streams of one page in all kinds of pieces to loads with a limit on the packets that wait,
+/// and asserts what both came to.
+pub(crate) fn assert_comes_to_within(
+    rt: &(impl AllocGlobal + Abort),
+    waiting: u64,
+    texts: &Sent,
+    rounds: u64,
+    verdict: Verdict,
+) {
+    let table = table(rt.alloc(), &[("a", 1)]).expect(rt, "a table");
+    for most in MOSTS {
+        let mut both = both_within(rt, &table, texts.channels.len(), Some(waiting));
+        feed_both(rt, &mut both, texts, most, &mut Pcg32::new(5, most));
+        assert!(rt; both.session.rounds() == rounds && both.session.verdict() == verdict);
     }
 }
 

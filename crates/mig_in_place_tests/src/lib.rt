@@ -21,3 +21,5 @@ mod texts;
 mod turning;
 #[cfg(test)]
 mod waiting;
+#[cfg(test)]
+mod within;

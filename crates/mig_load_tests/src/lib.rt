@@ -31,4 +31,6 @@ mod relayed;
 #[cfg(test)]
 mod texts;
 #[cfg(test)]
+mod within;
+#[cfg(test)]
 mod workers;

@@ -25,3 +25,5 @@ mod pages_read;
 mod rounds;
 #[cfg(test)]
 mod threaded;
+#[cfg(test)]
+mod waiting;

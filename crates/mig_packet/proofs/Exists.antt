@@ -78,7 +78,7 @@ same_reading from text ended other c x s a d y t b hello rounds state =
 -- The bytes of a channel have exactly one reading.
 pub one_reading_law : HasOneReading
 one_reading_law = λ given text ended is.
-    let from : ChannelProgress = start given.page_size given.uuid given.channels in
+    let from : ChannelProgress = start given.page_size given.uuid given.channels given.waiting in
     let r = some_reading from text in
     let reading : ChannelReading = record { hello = r.0.hello; rounds = r.0.rounds; state = state_at ended r.0 r.1 r.2 } in (
       reading,
@@ -98,7 +98,7 @@ same_items from text c x s a d y t b =
 -- The bytes of a channel that has ended have exactly one list of items.
 pub one_list_law : HasOneListOfItems
 one_list_law = λ given text is.
-    let from : ChannelProgress = start given.page_size given.uuid given.channels in
+    let from : ChannelProgress = start given.page_size given.uuid given.channels given.waiting in
     let r = some_reading from text in (
       items_of r.0 (state_at true r.0 r.1 r.2),
       record { to = r.0; rest = r.1; found = r.2; reads = r.3; has_items = refl },

@@ -11,7 +11,9 @@ use Rattle.mig_packet.specs.Faults.{first_of}
 use Rattle.mig_packet.specs.Packet.{IsPacketText}
 use Rattle.mig_packet.specs.Progress.{ChannelProgress, judged_len, item_len, faults, first_fault, due_fault, after}
 use Rattle.mig_packet.specs.Reading.{IsItem, AreFaultless, after_all, Front}
-use Rattle.mig_packet.proofs.Judged.{hello_faults_stay, packet_faults_stay, count_stays, faultless_text}
+use Rattle.mig_packet.specs.Waiting.{room_after}
+use Rattle.mig_packet.proofs.Judged.{hello_faults_stay, count_stays, faultless_text}
+use Rattle.mig_packet.proofs.Waiting.{faultless_within, faults_within-front}
 
 -- ---- one item
 
@@ -22,7 +24,7 @@ judged_le p (Some id) item w = omega arith
 -- what follows an item's judged bytes doesn't change its faults
 pub faults_stay : (c : ChannelProgress) (h : Option ℕ) (a b : List ℕ) → judged_len c.page_size h ≤ length a → faults c h (a ++ b) ≡ faults c h a
 faults_stay c None a b le = hello_faults_stay c.uuid c.channels a b le
-faults_stay c (Some id) a b le = packet_faults_stay c.page_size a b le
+faults_stay c (Some id) a b le = faults_within-front c.page_size (room_after c.waiting c.packets) a b le
 
 -- nor its length
 pub len_stays : (p : ℕ) (h : Option ℕ) (a b : List ℕ) → judged_len p h ≤ length a → item_len p h (a ++ b) ≡ item_len p h a
@@ -74,7 +76,8 @@ faultless_front c rest item more free e is =
 pub item_text : (c : ChannelProgress) (h : Option ℕ) (item : List ℕ) → h ≢ None → IsItem c.page_size h item → first_of (faults c h item) ≡ None
     → IsPacketText c.page_size item
 item_text c None item some is free = absurd (some refl)
-item_text c (Some id) item some is free = faultless_text c.page_size item free is
+item_text c (Some id) item some is free =
+    faultless_text c.page_size item (faultless_within c.page_size (room_after c.waiting c.packets) item free).0 is
 
 -- ---- items
 

@@ -149,6 +149,10 @@ sync_channels : (c : ChannelProgress) (sync : Bool) (packet : List ℕ) → (aft
 sync_channels c true packet = refl
 sync_channels c false packet = refl
 
+sync_waiting : (c : ChannelProgress) (sync : Bool) (packet : List ℕ) → (after_sync sync c packet).waiting ≡ c.waiting
+sync_waiting c true packet = refl
+sync_waiting c false packet = refl
+
 later_packet : (old mid : ChannelProgress) (sync : Bool) (packet : List ℕ) (more : List (List ℕ)) → IsLater old more mid
     → IsLaterBy old more (after_sync sync mid packet)
 later_packet old mid sync packet more l =
@@ -158,6 +162,7 @@ later_packet old mid sync packet more l =
         same_page_size = sync_page_size mid sync packet ∙ l.same_page_size;
         same_uuid = sync_uuid mid sync packet ∙ l.same_uuid;
         same_channels = sync_channels mid sync packet ∙ l.same_channels;
+        same_waiting = sync_waiting mid sync packet ∙ l.same_waiting;
         has_grown = grown.1;
       },
     )
@@ -167,7 +172,7 @@ later_step : (old mid : ChannelProgress) (h : Option ℕ) (item : List ℕ) (mor
 later_step old mid None item more l = (
   [],
   subst (λ (x : List (List ℕ)). IsLater old x (after_item mid None item)) (sym (append-nil more))
-      (record { same_page_size = l.same_page_size; same_uuid = l.same_uuid; same_channels = l.same_channels; has_grown = l.has_grown }),
+      (record { same_page_size = l.same_page_size; same_uuid = l.same_uuid; same_channels = l.same_channels; same_waiting = l.same_waiting; has_grown = l.has_grown }),
 )
 later_step old mid (Some id) item more l = later_packet old mid (is_sync item) item more l
 
@@ -179,7 +184,7 @@ later_all old mid (item ∷ items) more l =
     (first.0 ++ all.0, subst (λ (x : List (List ℕ)). IsLater old x (after_all (after mid item) items)) (append_assoc more first.0 all.0) all.1)
 
 later_self : (c : ChannelProgress) → IsLater c [] c
-later_self c = record { same_page_size = refl; same_uuid = refl; same_channels = refl; has_grown = inl (refl, sym (append-nil c.packets)) }
+later_self c = record { same_page_size = refl; same_uuid = refl; same_channels = refl; same_waiting = refl; has_grown = inl (refl, sym (append-nil c.packets)) }
 
 -- a front leads to a later place
 pub IsLater-front : (c d : ChannelProgress) (bytes : List ℕ) → Front c bytes d → IsLaterBy c [] d
@@ -192,5 +197,5 @@ IsLater-packet c mid d packet bytes e f =
     subst (λ (x : ChannelProgress). IsLaterBy c (packet ∷ []) x) (sym f.leads_to) (later_all c mid f.items (packet ∷ []) first)
   where
     one_packet : (c : ChannelProgress) (sync : Bool) (packet : List ℕ) → IsLater c (packet ∷ []) (after_sync sync c packet)
-    one_packet c true packet = record { same_page_size = refl; same_uuid = refl; same_channels = refl; has_grown = inr ([], refl) }
-    one_packet c false packet = record { same_page_size = refl; same_uuid = refl; same_channels = refl; has_grown = inl (refl, refl) }
+    one_packet c true packet = record { same_page_size = refl; same_uuid = refl; same_channels = refl; same_waiting = refl; has_grown = inr ([], refl) }
+    one_packet c false packet = record { same_page_size = refl; same_uuid = refl; same_channels = refl; same_waiting = refl; has_grown = inl (refl, refl) }

@@ -2,6 +2,8 @@ pub mod Appends
 pub mod Places
 pub mod Judging
 pub mod Finding
+pub mod Waiting
+pub mod Within
 pub mod Parts
 pub mod ReadBack
 pub mod Judged
@@ -15,6 +17,7 @@ pub mod Standing
 pub mod Exists
 pub mod Valid
 pub mod Limits
+pub mod Bounded
 pub mod Paging
 pub mod PagingSteps
 pub mod PagingHello

@@ -8,9 +8,11 @@ use Rattle.mig_packet.specs.declared.state.ChannelState.TheVariants.{Reading, Cl
 use Rattle.mig_packet.specs.Faults.{first_of}
 use Rattle.mig_packet.specs.Packet.{is_sync, IsPacketText}
 use Rattle.mig_packet.specs.Progress.{ChannelProgress, start, faults, after_item, after}
-use Rattle.mig_packet.specs.Reading.{IsItem, AreFaultless, after_all, Front, Ends, state_at, state_at_end}
+use Rattle.mig_packet.specs.Reading.{IsItem, AreFaultless, after_all, Front, Ends, state_at, state_at_end, Settings, ChannelReading, IsReading}
 use Rattle.mig_packet.specs.Law.{EndsWithSync, ReadingsKeepLimits}
+use Rattle.mig_packet.specs.Waiting.{room_after}
 use Rattle.mig_packet.proofs.Judged.{faultless_text}
+use Rattle.mig_packet.proofs.Waiting.{faultless_within}
 
 -- what holds of all that was read
 record Keeps (page_size : ℕ) (c : ChannelProgress) : Type 0 where
@@ -21,8 +23,8 @@ record Keeps (page_size : ℕ) (c : ChannelProgress) : Type 0 where
   in_rounds : All (All (IsPacketText page_size)) c.rounds
   has_hello_first : c.hello ≡ None → c.rounds ≡ []
 
-first_keeps : (p : ℕ) (uuid : List ℕ) (channels : ℕ) → Keeps p (start p uuid channels)
-first_keeps p uuid channels = record {
+first_keeps : (p : ℕ) (uuid : List ℕ) (channels : ℕ) (waiting : Option ℕ) → Keeps p (start p uuid channels waiting)
+first_keeps p uuid channels waiting = record {
   same_page_size = refl;
   end_with_sync = All-nil EndsWithSync;
   none_yet = All-nil (λ packet. IsFalse (is_sync packet));
@@ -66,7 +68,7 @@ keeps_item p c None item e is free k = record {
 }
 keeps_item p c (Some id) item e is free k =
     keeps_packet p c item (is_sync item) refl (λ none. absurd (let clash : None ≡ Some id = sym none ∙ e in cc))
-    (subst (λ (n : ℕ). IsPacketText n item) k.same_page_size (faultless_text c.page_size item free is)) k
+    (subst (λ (n : ℕ). IsPacketText n item) k.same_page_size (faultless_text c.page_size item (faultless_within c.page_size (room_after c.waiting c.packets) item free).0 is)) k
 
 keeps_all : (p : ℕ) (c : ChannelProgress) (items : List (List ℕ)) → AreFaultless c items → Keeps p c → Keeps p (after_all c items)
 keeps_all p c [] free k = k
@@ -103,13 +105,22 @@ hello_where_closed false c rest found ends closed = absurd (open_still c rest fo
 
 -- ---- the law
 
+kept : (given : Settings) (text : List ℕ) (ended : Bool) (reading : ChannelReading) → (is : IsReading given text ended reading) → Keeps given.page_size is.to
+kept given text ended reading is =
+    let page_size : ℕ = given.page_size in
+    let from : ChannelProgress = start page_size given.uuid given.channels given.waiting in
+    let f : Front from is.reads.front is.to = is.reads.leads in
+    subst (Keeps page_size) (sym f.leads_to) (keeps_all page_size from f.items f.are_faultless (first_keeps page_size given.uuid given.channels given.waiting))
+
+-- what waits is packets
+pub open_packets : (given : Settings) (text : List ℕ) (ended : Bool) (reading : ChannelReading) → (is : IsReading given text ended reading)
+    → All (IsPacketText given.page_size) is.to.packets
+open_packets given text ended reading is = (kept given text ended reading is).in_open_round
+
 pub limits_law : ReadingsKeepLimits
 limits_law = λ given text ended reading size_is is.
     let page_size : ℕ = given.page_size in
-    let from : ChannelProgress = start page_size given.uuid given.channels in
-    let f : Front from is.reads.front is.to = is.reads.leads in
-    let k : Keeps page_size is.to =
-    subst (Keeps page_size) (sym f.leads_to) (keeps_all page_size from f.items f.are_faultless (first_keeps page_size given.uuid given.channels)) in
+    let k : Keeps page_size is.to = kept given text ended reading is in
     record {
       end_with_sync = subst (All EndsWithSync) (sym is.has_rounds) k.end_with_sync;
       are_packets = subst (All (All (IsPacketText page_size))) (sym is.has_rounds) k.in_rounds;

@@ -23,6 +23,8 @@ use Rattle.mig_packet.specs.Paging.{OpenPacket, IsOpenPacket, bytes_of, is_compl
 use Rattle.mig_packet.specs.Fields.{be64_at}
 use Rattle.mig_packet.proofs.Places.{range-front, range-past, be32_at-front}
 use Rattle.mig_packet.proofs.Judging.{packet_faults-front, normal_count-front, free_text}
+use Rattle.mig_packet.specs.Waiting.{room_after, packet_faults_within}
+use Rattle.mig_packet.proofs.Waiting.{faults_within-front}
 use Rattle.mig_packet.proofs.Fronts.{due_is, Front-push}
 use Rattle.mig_packet.proofs.Feeding.{reads_short}
 
@@ -117,11 +119,25 @@ split p kept = append_assoc p.head (contents p.pages) kept
 head_long : (size : ℕ) (p : OpenPacket) → IsOpenPacket size p → head_len size ≤ length p.head
 head_long size p is = let head = is.is_head.has_length in omega (arith, head)
 
-no_fault : (c : ChannelProgress) (id : ℕ) (p : OpenPacket) (kept : List ℕ) → c.hello ≡ Some id → IsOpenPacket c.page_size p
-    → first_fault c (bytes_of p ++ kept) ≡ None
-no_fault c id p kept e is = ap (λ (h : Option ℕ). first_of (faults c h (bytes_of p ++ kept))) e
-    ∙ ap (λ (x : List ℕ). first_of (packet_faults c.page_size x)) (split p kept)
-    ∙ ap first_of (packet_faults-front c.page_size p.head (behind p kept) (head_long c.page_size p is)) ∙ is.is_head.has_no_fault
+-- what may be wrong with a packet that was begun is what may be wrong with its head
+faults_of_head : (c : ChannelProgress) (id : ℕ) (p : OpenPacket) (kept : List ℕ) → c.hello ≡ Some id → IsOpenPacket c.page_size p
+    → first_fault c (bytes_of p ++ kept) ≡ first_fault c p.head
+faults_of_head c id p kept e is =
+    let room = room_after c.waiting c.packets in
+    ap (λ (h : Option ℕ). first_of (faults c h (bytes_of p ++ kept))) e
+    ∙ ap (λ (x : List ℕ). first_of (packet_faults_within c.page_size room x)) (split p kept)
+    ∙ ap first_of (faults_within-front c.page_size room p.head (behind p kept) (head_long c.page_size p is))
+    ∙ sym (ap (λ (h : Option ℕ). first_of (faults c h p.head)) e)
+
+-- where pages are missing, the head was judged
+pub head_free : (from c : ChannelProgress) (id : ℕ) (text : List ℕ) (p : OpenPacket) (kept : List ℕ) (s : ChannelState) → s ≡ Reading → c.hello ≡ Some id
+    → IsOpenPacket c.page_size p → Reads from text c (bytes_of p ++ kept) s → first_fault c p.head ≡ None
+head_free from c id text p kept s reading e is r =
+    let size = c.page_size in
+    let ends : Ends c (bytes_of p ++ kept) Reading = subst (λ (x : ChannelState). Ends c (bytes_of p ++ kept) x) reading r.ends in
+    let judged : judged_len size c.hello ≡ head_len size = ap (judged_len size) e in
+    let long : head_len size ≤ length (bytes_of p ++ kept) = omega (arith, length-append (bytes_of p) kept, bytes_length size p is) in
+    sym (faults_of_head c id p kept e is) ∙ sym (due_is c (bytes_of p ++ kept) (omega (arith, judged, long))) ∙ ends.0
 
 tells_len : (c : ChannelProgress) (id : ℕ) (p : OpenPacket) (kept : List ℕ) → c.hello ≡ Some id → IsOpenPacket c.page_size p
     → item_len c.page_size c.hello (bytes_of p ++ kept) ≡ head_len c.page_size + normal_count p.head * c.page_size
@@ -130,14 +146,14 @@ tells_len c id p kept e is = ap (λ (h : Option ℕ). item_len c.page_size h (by
     ∙ ap (λ (n : ℕ). head_len c.page_size + n * c.page_size) (normal_count-front c.page_size p.head (behind p kept) (head_long c.page_size p is))
 
 unfinished_packet : (c : ChannelProgress) (id : ℕ) (p : OpenPacket) (kept : List ℕ) → c.hello ≡ Some id → IsOpenPacket c.page_size p
-    → length p.pages < normal_count p.head → length kept < c.page_size → IsUnfinished c (bytes_of p ++ kept)
-unfinished_packet c id p kept e is few short =
+    → first_fault c p.head ≡ None → length p.pages < normal_count p.head → length kept < c.page_size → IsUnfinished c (bytes_of p ++ kept)
+unfinished_packet c id p kept e is free few short =
     let size = c.page_size in
     let len : length (bytes_of p ++ kept) ≡ head_len size + length p.pages * size + length kept =
     omega (arith, length-append (bytes_of p) kept, bytes_length size p is) in
     let judged : judged_len size c.hello ≡ head_len size = ap (judged_len size) e in
     record {
-      has_no_fault = due_is c (bytes_of p ++ kept) (omega (arith, len, judged)) ∙ no_fault c id p kept e is;
+      has_no_fault = due_is c (bytes_of p ++ kept) (omega (arith, len, judged)) ∙ faults_of_head c id p kept e is ∙ free;
       is_short = λ _. omega (arith, len, tells_len c id p kept e is, page_fits size (length p.pages) (normal_count p.head) few, short);
     }
 
@@ -154,16 +170,16 @@ after_known c id item e = ap (λ (h : Option ℕ). after_item c h item) e
 
 -- How bytes stand that end in a packet that was begun.
 pub packet_reads : (from c : ChannelProgress) (id : ℕ) (front text : List ℕ) (p : OpenPacket) (kept : List ℕ) → c.hello ≡ Some id → Front from front c
-    → text ≡ front ++ (bytes_of p ++ kept) → IsOpenPacket c.page_size p → length kept < c.page_size → (length p.pages ≡ normal_count p.head → kept ≡ [])
+    → text ≡ front ++ (bytes_of p ++ kept) → IsOpenPacket c.page_size p → first_fault c p.head ≡ None → length kept < c.page_size → (length p.pages ≡ normal_count p.head → kept ≡ [])
     → Reads from text (read_to c (Some p)) (open_bytes (Some p) ++ kept) Reading
-packet_reads from c id front text p kept e leads has_text is short none =
+packet_reads from c id front text p kept e leads has_text is free short none =
     elim (is_complete p) as (λ b. (is_complete p ≡ b) → Reads from text (cond b (after_packet c (bytes_of p)) c) (cond b [] (bytes_of p) ++ kept) Reading) [
       | true ↦ λ complete.
           let all : length p.pages ≡ normal_count p.head = eqb-true (length p.pages) (normal_count p.head) complete in
           let item = bytes_of p in
           let whole : text ≡ front ++ item = has_text ∙ ap (λ (x : List ℕ). front ++ (item ++ x)) (none all) ∙ ap (λ (x : List ℕ). front ++ x) (append-nil item) in
-          let free : first_fault c item ≡ None = ap (first_fault c) (sym (append-nil item)) ∙ no_fault c id p [] e is in
-          let pushed : Front from (front ++ item) (after c item) = Front-push from c front item leads (whole_packet c id p e is all) free in
+          let whole_free : first_fault c item ≡ None = ap (first_fault c) (sym (append-nil item)) ∙ faults_of_head c id p [] e is ∙ free in
+          let pushed : Front from (front ++ item) (after c item) = Front-push from c front item leads (whole_packet c id p e is all) whole_free in
           let d = after_packet c item in
           record {
             front = front ++ item;
@@ -179,7 +195,7 @@ packet_reads from c id front text p kept e leads has_text is short none =
             front = front;
             has_text = has_text;
             leads = leads;
-            ends = (reads_short c (bytes_of p ++ kept) (unfinished_packet c id p kept e is few short)).ends;
+            ends = (reads_short c (bytes_of p ++ kept) (unfinished_packet c id p kept e is free few short)).ends;
           }
     ] refl
 

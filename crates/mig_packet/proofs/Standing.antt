@@ -15,7 +15,7 @@ use Rattle.mig_packet.proofs.Unique.{one_reading}
 
 -- where these settings start
 abbrev from : Settings → ChannelProgress
-from given = start given.page_size given.uuid given.channels
+from given = start given.page_size given.uuid given.channels given.waiting
 
 -- before the first byte
 pub stands_first : (given : Settings) (r : Reader) → r.progress ≡ from given → r.pending ≡ [] → r.found ≡ Reading → r.valid_up_to ≡ 0 → r.fed ≡ 0 → r.ended ≡ false

@@ -14,7 +14,7 @@ use Rattle.mig_packet.proofs.Unique.{one_item, no_end, one_reading}
 
 -- where a reading begins
 abbrev from : Settings → ChannelProgress
-from given = start given.page_size given.uuid given.channels
+from given = start given.page_size given.uuid given.channels given.waiting
 
 pub valid_stands : (r : Reader) → Tells r (λ given so_far. IsValidUpTo given so_far.text r.valid_up_to)
 valid_stands r given so_far s = record {

@@ -36,5 +36,5 @@ pub record AreItems (given : Settings) (text : List ℕ) (items : List ChannelIt
   pub to : ChannelProgress
   pub rest : List ℕ
   pub found : ChannelState
-  pub reads : Reads (start given.page_size given.uuid given.channels) text to rest found
+  pub reads : Reads (start given.page_size given.uuid given.channels given.waiting) text to rest found
   pub has_items : items ≡ items_of to (state_at true to rest found)

@@ -15,6 +15,7 @@ fault_number fault.PageCount = 42
 fault_number fault.PacketSize = 43
 fault_number fault.Truncated = 44
 fault_number fault.Unsynced = 45
+fault_number fault.Waiting = 65
 
 abbrev pub no_memory_number : ℕ
 no_memory_number = 60

@@ -20,6 +20,7 @@ pub record IsLater (old : ChannelProgress) (more : List (List ℕ)) (new : Chann
   pub same_page_size : new.page_size ≡ old.page_size
   pub same_uuid : new.uuid ≡ old.uuid
   pub same_channels : new.channels ≡ old.channels
+  pub same_waiting : new.waiting ≡ old.waiting
   pub has_grown : HasGrownBy old more new
 
 -- with round `n` open again, and without those after it

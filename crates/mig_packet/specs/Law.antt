@@ -1,13 +1,16 @@
 -- Properties of hellos, packets and channels, whatever code writes and reads them.
-use Rattle.std.specs.Prelude.{◌≡◌, ◌≢◌, ℕ, ◌≤◌, Bool, true, false, List, [], ◌∷◌, ◌++◌, length, All, Some, None, IsTrue, IsFalse}
+use Rattle.std.specs.Prelude.{◌≡◌, ◌≢◌, ℕ, ◌+◌, ◌*◌, ◌≤◌, ◌<◌, Bool, true, false, List, [], ◌∷◌, ◌++◌, length, All, Some, None, IsTrue, IsFalse}
+use Rattle.std.specs.List.{concat}
 use Rattle.mig_packet.specs.PageSize.{IsPageSize}
 use Rattle.mig_packet.specs.Hello.{IsHello, written_hello}
 use Rattle.mig_packet.specs.Packet.{IsPacketText, IsPacket, is_sync}
 use Rattle.mig_packet.specs.Written.{written_packet, written_fields, IsWritable}
 use Rattle.mig_packet.specs.declared.state.ChannelState.TheVariants.{Reading, Closed, Bad}
 use Rattle.mig_packet.specs.declared.fault.ChannelFault.{ChannelFault}
+use Rattle.mig_packet.specs.declared.fault.ChannelFault.TheVariants.{Waiting}
+use Rattle.mig_packet.specs.Waiting.{weight, weight_of_all, IsWithin}
 use Rattle.mig_packet.specs.Progress.{ChannelProgress, start, due_fault}
-use Rattle.mig_packet.specs.Reading.{Front, ChannelReading, Settings, IsReading}
+use Rattle.mig_packet.specs.Reading.{Front, ChannelReading, Settings, with_waiting, IsReading}
 use Rattle.mig_packet.specs.Reader.{HasState, IsSettled, HasFront, IsValidUpTo}
 use Rattle.mig_packet.specs.ChannelItems.{ChannelItem, AreItems}
 
@@ -59,6 +62,23 @@ abbrev pub ReadingsKeepLimits : Type 0
 ReadingsKeepLimits = (given : Settings) (text : List ℕ) (ended : Bool) (reading : ChannelReading) → IsPageSize given.page_size
     → IsReading given text ended reading → KeepsLimits given.page_size ended reading
 
+-- ---- the limit on packets that wait
+
+-- No round, complete or open, has packets that count more than the limit.
+abbrev pub WaitingIsBounded : Type 0
+WaitingIsBounded = (given : Settings) (text : List ℕ) (ended : Bool) (reading : ChannelReading) → (is : IsReading given text ended reading)
+    → All (IsWithin given.waiting) reading.rounds × IsWithin given.waiting is.to.packets
+
+-- So the packets of an open round have at most as many bytes as the limit times a page.
+abbrev pub WaitingBytesAreBounded : Type 0
+WaitingBytesAreBounded = (given : Settings) (text : List ℕ) (ended : Bool) (reading : ChannelReading) (waiting : ℕ) → IsPageSize given.page_size
+    → given.waiting ≡ Some waiting → (is : IsReading given text ended reading) → length (concat is.to.packets) ≤ waiting * given.page_size
+
+-- A limit only refuses: a reading without its fault is the reading without a limit.
+abbrev pub LimitOnlyRefuses : Type 0
+LimitOnlyRefuses = (given : Settings) (text : List ℕ) (ended : Bool) (reading : ChannelReading) → IsReading given text ended reading
+    → reading.state ≢ Bad Waiting → IsReading (with_waiting None given) text ended reading
+
 -- ---- up to which byte a channel is valid
 
 -- Bytes are valid up to exactly one offset, and none of their fronts is longer.
@@ -83,8 +103,14 @@ pub record HasFaultAt (given : Settings) (text : List ℕ) (n : ℕ) (fault : Ch
   pub rest : List ℕ
   pub has_text : text ≡ front ++ rest
   pub has_length : length front ≡ n
-  pub leads : Front (start given.page_size given.uuid given.channels) front to
+  pub leads : Front (start given.page_size given.uuid given.channels given.waiting) front to
   pub has_fault : due_fault to rest ≡ Some fault
+
+-- A limit refuses no packet that has room: the one at fault, together with those of its round before
+-- it, counts more than the limit.
+abbrev pub RefusedIsOver : Type 0
+RefusedIsOver = (given : Settings) (text : List ℕ) (n : ℕ) → (at : HasFaultAt given text n Waiting)
+    → (waiting : ℕ) × (given.waiting ≡ Some waiting) × (waiting < weight_of_all at.to.packets + weight at.rest)
 
 -- A bad channel is valid up to the beginning of the item at fault.
 abbrev pub BadIsValidBefore : Type 0

@@ -1,10 +1,12 @@
--- To read first, in this order: a hello, a packet, and the packet that is written for some fields.
+-- To read first, in this order: a hello, a packet, what a packet counts toward the limit on packets
+-- that wait, and the packet that is written for some fields.
 pub mod PageSize
 pub mod Fields
 pub mod Faults
 pub mod Hello
 pub mod Packet
 pub mod PacketHead
+pub mod Waiting
 pub mod Written
 pub mod Lent
 pub mod FaultNumber

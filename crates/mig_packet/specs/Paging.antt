@@ -13,6 +13,7 @@ use Rattle.mig_packet.specs.declared.page_reader.PageContent.TheVariants as cont
 use Rattle.mig_packet.specs.PageSize.{IsPageSize, head_len}
 use Rattle.mig_packet.specs.Packet.{NormalPage, Fields, IsPacket, normal_count, offset_at}
 use Rattle.mig_packet.specs.PacketHead.{IsPacketHead}
+use Rattle.mig_packet.specs.Waiting.{room_after}
 use Rattle.mig_packet.specs.Progress.{ChannelProgress, start, judged_len, after_packet}
 use Rattle.mig_packet.specs.Reading.{Reads, Settings, ChannelReading, IsReading}
 
@@ -47,7 +48,7 @@ pub record GivenSoFar : Type 0 where
 
 -- before the first byte
 abbrev pub none_given : Settings → GivenSoFar
-none_given given = record { read = start given.page_size given.uuid given.channels; packet = None }
+none_given given = record { read = start given.page_size given.uuid given.channels given.waiting; packet = None }
 
 abbrev pub with_page : ℕ → List ℕ → Option OpenPacket → Option OpenPacket
 with_page offset content None = None
@@ -64,8 +65,9 @@ pub record PageHolder : Type 0 where
   pub given : Settings
   -- the id that the hello named
   pub hello : Option ℕ
-  -- whether the open round has packets
+  -- whether the open round has packets, and what the limit leaves after them
   pub has_packets : Bool
+  pub room : Option ℕ
   -- the head of the packet that was begun, and how many of its pages were given
   pub packet : Option (List ℕ × ℕ)
   -- the bytes of the hello, the head or the page that isn't complete yet
@@ -121,11 +123,14 @@ pub record Gives (given : Settings) (text : List ℕ) (so_far : GivenSoFar) (r :
   pub has_settings : r.given ≡ given
   pub has_fed : r.fed ≡ length text
   -- the bytes are read as the results given; left are pages that were given and bytes that are kept
-  pub reads : Reads (start given.page_size given.uuid given.channels) text (read_to so_far.read so_far.packet) (open_bytes so_far.packet ++ r.kept) r.found
+  pub reads : Reads (start given.page_size given.uuid given.channels given.waiting) text (read_to so_far.read so_far.packet) (open_bytes so_far.packet ++ r.kept) r.found
   pub is_open : IfSome so_far.packet (IsOpenPacket given.page_size)
+  -- a packet isn't begun after a fault
+  pub is_reading : IfSome so_far.packet (λ packet. r.found ≡ Reading)
   pub has_packet : r.packet ≡ kept_of so_far.packet
   pub has_hello : r.hello ≡ so_far.read.hello
   pub has_packets : r.has_packets ≡ has_any so_far.read.packets
+  pub has_room : r.room ≡ room_after given.waiting so_far.read.packets
 
 -- a statement on a reader that depends on nothing else than what it represents
 abbrev pub HolderTells : PageHolder → (Settings → List ℕ → GivenSoFar → Type 0) → Type 0

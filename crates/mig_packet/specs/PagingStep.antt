@@ -10,27 +10,34 @@ use Rattle.mig_packet.specs.declared.page_reader.PageContent.{PageContent}
 use Rattle.mig_packet.specs.declared.page_reader.PageContent.TheVariants as content
 use Rattle.mig_packet.specs.Faults.{first_of}
 use Rattle.mig_packet.specs.Packet.{normal_count, is_sync, offset_at}
-use Rattle.mig_packet.specs.Progress.{start, judged_len, faults}
+use Rattle.mig_packet.specs.Hello.{hello_faults}
+use Rattle.mig_packet.specs.Waiting.{next_room, packet_faults_within}
+use Rattle.mig_packet.specs.Progress.{judged_len}
 use Rattle.mig_packet.specs.Reading.{Settings}
 use Rattle.mig_packet.specs.Paging.{PageHolder, content_of, Stops, IsShort, CopiesCutPages}
 
--- the first fault of the next hello or head
-abbrev pub fault_of : Settings → Option ℕ → List ℕ → Option ChannelFault
-fault_of given hello bytes = first_of (faults (start given.page_size given.uuid given.channels) hello bytes)
+-- the faults of the next hello or head, if the open round has this much room
+abbrev pub faults_of : Settings → Option ℕ → Option ℕ → List ℕ → List (Bool × ChannelFault)
+faults_of given None room bytes = hello_faults given.uuid given.channels bytes
+faults_of given (Some id) room bytes = packet_faults_within given.page_size room bytes
+
+-- the first of them
+abbrev pub fault_of : Settings → Option ℕ → Option ℕ → List ℕ → Option ChannelFault
+fault_of given hello room bytes = first_of (faults_of given hello room bytes)
 
 -- a complete hello or head, without a fault
 pub record IsJudged (r : PageHolder) (bytes : List ℕ) : Type 0 where
   pub has_none_begun : r.packet ≡ None
   pub is_reading : r.found ≡ Reading
   pub has_length : length bytes ≡ judged_len r.given.page_size r.hello
-  pub has_no_fault : fault_of r.given r.hello bytes ≡ None
+  pub has_no_fault : fault_of r.given r.hello r.room bytes ≡ None
 
 -- the bytes have a fault
 pub record IsFaulty (bytes : List ℕ) (fault : ChannelFault) (old new : PageHolder) : Type 0 where
   pub has_none_begun : old.packet ≡ None
   pub is_reading : old.found ≡ Reading
   pub has_length : length bytes ≡ judged_len old.given.page_size old.hello
-  pub has_fault : fault_of old.given old.hello bytes ≡ Some fault
+  pub has_fault : fault_of old.given old.hello old.room bytes ≡ Some fault
   pub leaves : new ≡ record old { found = Bad fault; kept = bytes; fed = new.fed }
 
 -- one more page is given
@@ -48,7 +55,7 @@ pub record IsLast (sync : Bool) (head : List ℕ) (old new : PageHolder) : Type 
   pub is_begun : old.packet ≡ Some (head, normal_count head)
   pub has_kept : old.kept ≡ []
   pub has_sync : sync ≡ is_sync head
-  pub leaves : new ≡ record old { packet = None; kept = []; page = new.page; has_packets = not sync }
+  pub leaves : new ≡ record old { packet = None; kept = []; page = new.page; has_packets = not sync; room = next_room old.given.waiting old.room head }
 
 -- These bytes of a piece are taken, and this is returned.
 abbrev pub Moves : Came → List ℕ → PageHolder → PageHolder → Type 0

@@ -4,14 +4,17 @@ use Rattle.mig_packet.specs.declared.fault.ChannelFault.{ChannelFault}
 use Rattle.mig_packet.specs.PageSize.{IsPageSize, head_len}
 use Rattle.mig_packet.specs.Faults.{first_of}
 use Rattle.mig_packet.specs.Hello.{hello_len, hello_faults}
-use Rattle.mig_packet.specs.Packet.{normal_count, is_sync, IsPacketText, packet_faults}
+use Rattle.mig_packet.specs.Packet.{normal_count, is_sync, IsPacketText}
+use Rattle.mig_packet.specs.Waiting.{room_after, packet_faults_within}
 
 -- how far a channel has been read
 pub record ChannelProgress : Type 0 where
   pub page_size : ℕ
-  -- the UUID and the number of channels that were passed
+  -- the UUID and the number of channels that were passed, and the most that may wait in the open
+  -- round, or None for any
   pub uuid : List ℕ
   pub channels : ℕ
+  pub waiting : Option ℕ
   -- the id in the hello: None before the hello
   pub hello : Option ℕ
   -- the packets of the open round, each as its bytes
@@ -19,8 +22,9 @@ pub record ChannelProgress : Type 0 where
   -- the complete rounds: each is the packets up to and with a SYNC packet
   pub rounds : List (List (List ℕ))
 
-abbrev pub start : ℕ → List ℕ → ℕ → ChannelProgress
-start page_size uuid channels = record { page_size = page_size; uuid = uuid; channels = channels; hello = None; packets = []; rounds = [] }
+abbrev pub start : ℕ → List ℕ → ℕ → Option ℕ → ChannelProgress
+start page_size uuid channels waiting =
+    record { page_size = page_size; uuid = uuid; channels = channels; waiting = waiting; hello = None; packets = []; rounds = [] }
 
 -- all that is kept are packets of this page size
 pub record ArePackets (page_size : ℕ) (packets : List (List ℕ)) (rounds : List (List (List ℕ))) : Type 0 where
@@ -42,7 +46,7 @@ item_len page_size (Some id) bytes = head_len page_size + normal_count bytes * p
 
 abbrev pub faults : ChannelProgress → Option ℕ → List ℕ → List (Bool × ChannelFault)
 faults c None bytes = hello_faults c.uuid c.channels bytes
-faults c (Some id) bytes = packet_faults c.page_size bytes
+faults c (Some id) bytes = packet_faults_within c.page_size (room_after c.waiting c.packets) bytes
 
 abbrev pub first_fault : ChannelProgress → List ℕ → Option ChannelFault
 first_fault c bytes = first_of (faults c c.hello bytes)

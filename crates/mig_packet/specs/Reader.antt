@@ -71,7 +71,7 @@ pub record Stands (given : Settings) (so_far : SoFar) (r : Reader) : Type 0 wher
   pub rounds : List (List (List ℕ))
   pub has_taken : length rounds ≡ so_far.taken
   pub rest : List ℕ
-  pub reads : Reads (start given.page_size given.uuid given.channels) so_far.text (with_taken rounds r.progress) rest r.found
+  pub reads : Reads (start given.page_size given.uuid given.channels given.waiting) so_far.text (with_taken rounds r.progress) rest r.found
   pub has_pending : r.found ≡ Reading → rest ≡ r.pending
   pub has_valid_up_to : r.valid_up_to + length rest ≡ length so_far.text
 
@@ -116,7 +116,7 @@ pub record HasFront (given : Settings) (text : List ℕ) (n : ℕ) : Type 0 wher
   pub rest : List ℕ
   pub has_text : text ≡ front ++ rest
   pub has_length : length front ≡ n
-  pub leads : Front (start given.page_size given.uuid given.channels) front to
+  pub leads : Front (start given.page_size given.uuid given.channels given.waiting) front to
 
 -- The channel is read to its first n bytes: these are its longest front of complete items without a
 -- fault. If it is bad, the item at fault begins after them.
@@ -124,7 +124,7 @@ pub record IsValidUpTo (given : Settings) (text : List ℕ) (n : ℕ) : Type 0 w
   pub to : ChannelProgress
   pub rest : List ℕ
   pub found : ChannelState
-  pub reads : Reads (start given.page_size given.uuid given.channels) text to rest found
+  pub reads : Reads (start given.page_size given.uuid given.channels given.waiting) text to rest found
   pub has_length : length reads.front ≡ n
 
 -- the id in its hello

@@ -64,22 +64,28 @@ pub record ChannelReading : Type 0 where
   pub rounds : List (List (List ℕ))
   pub state : ChannelState
 
--- what isn't in the bytes: the page size, the UUID and the number of channels
+-- what isn't in the bytes: the page size, the UUID, the number of channels, and the limit on what
+-- waits in the open round, or None for no limit
 pub record Settings : Type 0 where
   pub page_size : ℕ
   pub uuid : List ℕ
   pub channels : ℕ
+  pub waiting : Option ℕ
 
 -- as a caller passes them
 abbrev pub settings : ℕ → List ℕ → ℕ → Settings
-settings page_size uuid channels = record { page_size = page_size; uuid = uuid; channels = channels }
+settings page_size uuid channels = record { page_size = page_size; uuid = uuid; channels = channels; waiting = None }
+
+-- these settings, with a limit on what may wait
+abbrev pub with_waiting : Option ℕ → Settings → Settings
+with_waiting waiting given = record given { waiting = waiting }
 
 -- This is the reading of a channel's bytes, ended or not, with these settings.
 pub record IsReading (given : Settings) (text : List ℕ) (ended : Bool) (reading : ChannelReading) : Type 0 where
   pub to : ChannelProgress
   pub rest : List ℕ
   pub found : ChannelState
-  pub reads : Reads (start given.page_size given.uuid given.channels) text to rest found
+  pub reads : Reads (start given.page_size given.uuid given.channels given.waiting) text to rest found
   pub has_hello : reading.hello ≡ to.hello
   pub has_rounds : reading.rounds ≡ to.rounds
   pub has_state : reading.state ≡ state_at ended to rest found

@@ -35,6 +35,8 @@ pub enum ChannelFault {
     Truncated,
     /// The channel ended after a packet without SYNC.
     Unsynced,
+    /// The packet and those of its round before it are more than may wait.
+    Waiting,
 }
 
 impl ChannelFault {
@@ -54,6 +56,7 @@ impl ChannelFault {
             ChannelFault::PacketSize => 43,
             ChannelFault::Truncated => 44,
             ChannelFault::Unsynced => 45,
+            ChannelFault::Waiting => 65,
         }
     }
 
@@ -71,6 +74,7 @@ impl ChannelFault {
             ChannelFault::PacketSize => "next_packet_size isn't that of the normal pages",
             ChannelFault::Truncated => "the text ends inside the hello or a packet",
             ChannelFault::Unsynced => "the text ends after a packet without SYNC",
+            ChannelFault::Waiting => "more pages and packets than may wait for their round's end",
         }
     }
 }

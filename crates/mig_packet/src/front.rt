@@ -1,18 +1,19 @@
 //! Reads a hello or a packet at the beginning of bytes. `progress` calls it, the feeder of a relay,
 //! and callers that have all bytes of a channel.
 
-ghost use Rattle.std.specs.Prelude.{◌≡◌, ◌+◌, ◌*◌, ◌<◌, ◌≤◌, ◌++◌, ℕ, List, length};
+ghost use Rattle.std.specs.Prelude.{◌≡◌, ◌+◌, ◌*◌, ◌<◌, ◌≤◌, ◌++◌, ℕ, List, length, None};
 ghost use Rattle.mig_packet.specs.declared.front.HelloRead.TheVariants as hello_read;
 ghost use Rattle.mig_packet.specs.PageSize.{IsPageSize, head_len};
 ghost use Rattle.mig_packet.specs.Faults.{first_of};
 ghost use Rattle.mig_packet.specs.Hello.{IsHello, hello_len, hello_faults};
 ghost use Rattle.mig_packet.specs.Packet.{Fields, IsPacket, packet_faults, normal_count};
-ghost use Rattle.mig_packet.specs.FrontRead.{ReadsHello, ReadsPacket, FindsPacket};
+ghost use Rattle.mig_packet.specs.Waiting.{packet_faults_within};
+ghost use Rattle.mig_packet.specs.FrontRead.{ReadsHello, ReadsPacket, ReadsPacketWithin, FindsPacket};
 
 use crate::ChannelFault;
 use crate::fields::be32;
 use crate::format::{HELLO_LEN, MULTIFD_FLAG_SYNC, MULTIFD_MAGIC, MULTIFD_VERSION};
-use crate::packet::{Packet, head_len, page_limit};
+use crate::packet::{Packet, head_len, is_over, page_limit, weight_of};
 use uuid::Uuid;
 
 /// The result of reading a hello at the beginning of bytes.
@@ -92,12 +93,57 @@ fn read_front<'a>(page_size: u64, bytes: &'a [u8]) -> PacketRead<'a>
     if let Some(fault) = head_fault(page_size, bytes) {
         return PacketRead::Bad(fault);
     }
+    read_judged(page_size, bytes)
+}
+
+// Reads the packet whose head is at the beginning of `bytes` and has no fault.
+fn read_judged<'a>(page_size: u64, bytes: &'a [u8]) -> PacketRead<'a>
+    requires page_size { IsPageSize page_size }
+    requires head { head_len page_size ≤ length bytes.now }
+    requires faultless { first_of (packet_faults page_size bytes.now) ≡ None }
+    ensures { ReadsPacket page_size bytes.now result }
+{
     let len = packet_len(page_size, bytes);
     if bytes.len() < len {
         return PacketRead::Cut;
     }
     let bytes = &bytes[..len];
     PacketRead::Whole(Packet { page_size, bytes }, len)
+}
+
+/// Reads the packet at the beginning of `bytes` as `read_packet` does, where its round has room for
+/// packets that count `room` together. One that counts more is the fault `Waiting`, which is judged
+/// after all others. `None` is no limit.
+pub fn read_packet_within<'a>(page_size: u64, room: Option<u64>, bytes: &'a [u8]) -> PacketRead<'a>
+    requires { IsPageSize page_size }
+    ensures { ReadsPacketWithin page_size room bytes.now result }
+{
+    if bytes.len() < head_len(page_size) {
+        return PacketRead::Cut;
+    }
+    if let Some(fault) = head_fault_within(page_size, room, bytes) {
+        return PacketRead::Bad(fault);
+    }
+    read_judged(page_size, bytes)
+}
+
+/// Returns the first fault of a packet's head, if it has one, where its round has `room` left.
+pub(crate) fn head_fault_within(
+    page_size: u64,
+    room: Option<u64>,
+    bytes: &[u8],
+) -> Option<ChannelFault>
+    requires page_size { IsPageSize page_size }
+    requires head { head_len page_size ≤ length bytes.now }
+    ensures { result ≡ first_of (packet_faults_within page_size room bytes.now) }
+{
+    if let Some(fault) = head_fault(page_size, bytes) {
+        return Some(fault);
+    }
+    if is_over(room, weight_of(bytes)) {
+        return Some(ChannelFault::Waiting);
+    }
+    None
 }
 
 /// Returns the first fault of a packet's head, if it has one.

@@ -6,6 +6,7 @@
 
 ghost use Rattle.mig_packet.specs.Law.{WrittenHellosAreHellos, WrittenPacketsArePackets, NoPacketBeginsAnother};
 ghost use Rattle.mig_packet.specs.Law.{HasOneReading, HasOneListOfItems, ReadingsKeepLimits};
+ghost use Rattle.mig_packet.specs.Law.{WaitingIsBounded, WaitingBytesAreBounded, LimitOnlyRefuses, RefusedIsOver};
 ghost use Rattle.mig_packet.specs.Law.{IsValidUpToOnePlace, LongerTextsStayValid, ClosedIsValid, BadIsValidBefore};
 
 /// The bytes that are written for a UUID and an id are a hello with them. So `read_hello` finds it,
@@ -41,6 +42,16 @@ pub fn text_has_one_list_of_items()
 /// complete before the hello is. A channel is closed by its end alone.
 pub fn readings_keep_limits()
     ensures { ReadingsKeepLimits }
+{}
+
+/// What waits in a channel's round is within the caller's limit, and has at most as many bytes as
+/// the limit times a page. A limit only refuses the packet that would exceed it: without that fault
+/// the reading is the one without a limit.
+pub fn waiting_is_bounded()
+    ensures bounded { WaitingIsBounded }
+    ensures bytes { WaitingBytesAreBounded }
+    ensures only { LimitOnlyRefuses }
+    ensures over { RefusedIsOver }
 {}
 
 /// A channel's bytes are valid up to exactly one offset, which `ChannelReader::valid_up_to`

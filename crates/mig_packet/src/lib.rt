@@ -4,6 +4,7 @@
 //! order:
 //!
 //! - `Hello`, `Packet`: the layout of a hello and of a packet.
+//! - `Waiting`: what a packet counts toward the limit on packets that wait.
 //! - `Written`: the packet that is written for some fields.
 //! - `Progress`, `Reading`: how any bytes of a channel are read, with every fault by name.
 //! - `Reader`: what a reader represents.
@@ -39,13 +40,13 @@ mod wanted;
 mod written;
 
 pub use fault::{ChannelFault, NoMemory};
-pub use front::{HelloRead, PacketRead, read_hello, read_packet};
+pub use front::{HelloRead, PacketRead, read_hello, read_packet, read_packet_within};
 pub use gate::{Gate, OpenGate, Step};
 pub use head::PacketHead;
 pub use laws::{
     no_packet_begins_another, readings_keep_limits, text_has_one_list_of_items,
-    text_has_one_reading, text_is_valid_up_to_one_place, written_hellos_are_hellos,
-    written_packets_are_packets,
+    text_has_one_reading, text_is_valid_up_to_one_place, waiting_is_bounded,
+    written_hellos_are_hellos, written_packets_are_packets,
 };
 pub use packet::{Packet, head_len, page_limit};
 pub use page_reader::{Came, PageContent, PageReader};

@@ -5,6 +5,7 @@ ghost use Rattle.std.specs.Prelude.{◌≡◌, ◌+◌, ◌*◌, ◌<◌, ◌≤
 ghost use Rattle.std.specs.List.{before_first, position};
 ghost use Rattle.mig_packet.specs.PageSize.{IsPageSize, IsPageSize-prop, page_limit, head_len};
 ghost use Rattle.mig_packet.specs.Packet.{IsPacketText, number_in, is_sync, id_in, normal_count, zero_count, offset_at, content_at};
+ghost use Rattle.mig_packet.specs.Waiting.{weight, is_over, less_room, next_room};
 
 use crate::fields::{be32, be64};
 use crate::format::{FIELDS_LEN, MULTIFD_FLAG_SYNC, MULTIFD_PACKET_SIZE};
@@ -70,6 +71,15 @@ impl<'a> Packet<'a> {
         ensures { result ≡ zero_count self.now.bytes.now }
     {
         zero_count_of(self.bytes)
+    }
+
+    /// Returns the room that is left after the packet, if `waiting` may wait in a round and the
+    /// packet's round has `room` left. The packet counts one, and each of its pages counts one. A
+    /// SYNC packet ends its round, so the next one has room for `waiting`. `None` is no limit.
+    pub fn next_room(&self, waiting: Option<u64>, room: Option<u64>) -> Option<u64>
+        ensures { result ≡ next_room waiting room self.now.bytes.now }
+    {
+        next_room(waiting, room, self.bytes)
     }
 
     /// Returns the offset of page `i` in its block, in bytes. The normal pages are first, then the
@@ -143,6 +153,14 @@ pub(crate) fn offset_of(head: &[u8], i: usize) -> u64
     be64(head, FIELDS_LEN + 8 * i)
 }
 
+/// Returns how much a packet counts of what may wait: one for itself, and one for each of its pages.
+pub(crate) fn weight_of(head: &[u8]) -> u64
+    requires { 320 ≤ length head.now }
+    ensures { result ≡ weight head.now }
+{
+    1 + u64::from(be32(head, 16)) + u64::from(be32(head, 32))
+}
+
 // Returns the bytes before the first byte 0, or all.
 fn up_to_zero(name: &[u8]) -> &[u8]
     ensures { result.now ≡ before_first (λ byte. byte == 0) name.now }
@@ -157,6 +175,37 @@ fn zero_at(name: &[u8]) -> Option<usize>
     ensures { result ≡ position (λ byte. byte == 0) name.now }
 {
     name.iter().position(|byte| *byte == 0)
+}
+
+/// Returns what there is room for after a packet, where its round has `room` left.
+pub(crate) fn next_room(waiting: Option<u64>, room: Option<u64>, head: &[u8]) -> Option<u64>
+    requires { 320 ≤ length head.now }
+    ensures { result ≡ next_room waiting room head.now }
+{
+    if sync_of(head) {
+        return waiting;
+    }
+    less_room(room, weight_of(head))
+}
+
+/// Returns what is left of `room` after a packet that counts `weight`. None is no limit.
+pub(crate) fn less_room(room: Option<u64>, weight: u64) -> Option<u64>
+    ensures { result ≡ less_room room weight }
+{
+    match room {
+        Some(room) => Some(room.saturating_sub(weight)),
+        None => None,
+    }
+}
+
+/// Returns whether a packet that counts `weight` has no room.
+pub(crate) fn is_over(room: Option<u64>, weight: u64) -> bool
+    ensures { result ≡ is_over room weight }
+{
+    match room {
+        Some(room) => room < weight,
+        None => false,
+    }
 }
 
 /// Returns how many pages a packet may have. A packet always has as many offsets.

@@ -9,7 +9,7 @@ ghost use Rattle.std.specs.Prelude.{◌≡◌, ◌≢◌, ◌+◌, ◌*◌, ◌<
 ghost use Rattle.std.specs.Prelude.{IsTrue, IsFalse, IsSome, None, Some, IfOk, IfSome, OnOk, vec_len, vec_capacity, IfNone, Bool};
 ghost use Rattle.mig_packet.specs.PageSize.{IsPageSize, head_len};
 ghost use Rattle.mig_packet.specs.declared.state.ChannelState.TheVariants as state;
-ghost use Rattle.mig_packet.specs.Reading.{settings, Settings};
+ghost use Rattle.mig_packet.specs.Reading.{settings, with_waiting, Settings};
 ghost use Rattle.mig_packet.specs.Reader.{HasState, HasHello, IsValidUpTo};
 ghost use Rattle.mig_packet.specs.Paging.{GivenSoFar, none_given, Gives, GivesOn, HolderTells, Comes, Stops, NeedsMore, LeavesLess, CopiesCutPages, HasReading, IsWhole, head_of, content_of, begun_in};
 ghost use Rattle.mig_packet.specs.PagingStep.{Moves, Steps, IsTaken, IsCut, is_between, is_unsynced, closing_state};
@@ -19,9 +19,9 @@ ghost use Rattle.mig_packet.specs.declared.page_reader.Came.TheVariants as came;
 ghost use Rattle.std.specs.Option.{IsSomeAnd, option_map};
 
 use crate::format::HELLO_LEN;
-use crate::front::{head_fault, hello_fault};
+use crate::front::{head_fault_within, hello_fault};
 use crate::head::PacketHead;
-use crate::packet::{head_len, normal_count_of, offset_of, sync_of};
+use crate::packet::{head_len, next_room, normal_count_of, offset_of, sync_of};
 use crate::{ChannelFault, ChannelState, NoMemory};
 use std::alloc::{Allocator, Global};
 use std::marker::Model;
@@ -61,6 +61,9 @@ pub struct PageReader<A: Allocator = Global> {
     pub(crate) page_size: u64,
     pub(crate) uuid: Uuid,
     pub(crate) channels: usize,
+    // the most that may wait in a round, and what the open one has left of it: None is no limit
+    pub(crate) waiting: Option<u64>,
+    pub(crate) room: Option<u64>,
     pub(crate) hello: Option<u8>,
     // whether the open round has packets
     pub(crate) has_packets: bool,
@@ -80,15 +83,16 @@ pub struct PageReader<A: Allocator = Global> {
 
 impl<A: Allocator> Model for PageReader<A> {
     ghost use Rattle.std.specs.Prelude.{vec_capacity};
-    ghost use Rattle.mig_packet.specs.Reading.{settings};
+    ghost use Rattle.mig_packet.specs.Reading.{settings, with_waiting};
     ghost use Rattle.mig_packet.specs.Paging.{PageHolder, packet_in, kept_in, page_in, IsHeld};
 
     ghost Value = { PageHolder };
 
     ghost view = { λ r. record {
-      given = settings r.page_size r.uuid r.channels;
+      given = with_waiting r.waiting (settings r.page_size r.uuid r.channels);
       hello = r.hello;
       has_packets = r.has_packets;
+      room = r.room;
       packet = packet_in r.pages r.head.items;
       kept = kept_in r.pages r.has_page r.head.items r.page.items;
       page = page_in r.has_page r.page.items;
@@ -182,10 +186,33 @@ impl<A: Allocator + Copy> PageReader<A> {
         ensures open { IfOk result (λ r. IsFalse r.ended) }
         ensures fed { IfOk result (λ r. r.fed ≡ 0) }
     {
+        PageReader::new_within(alloc, page_size, uuid, channels, None)
+    }
+
+    /// Creates the reader as `new` does, with the limit that `ChannelReader::new_within` takes. This
+    /// reader keeps no packets; it judges the limit all the same, so that both report one fault.
+    ///
+    /// # Errors
+    ///
+    /// `NoMemory`: the room for a head and a page could not be allocated.
+    pub fn new_within(
+        alloc: A,
+        page_size: u64,
+        uuid: Uuid,
+        channels: usize,
+        waiting: Option<u64>,
+    ) -> Result<PageReader<A>, NoMemory>
+        requires page_size { IsPageSize page_size }
+        ensures gives { IfOk result (λ r. Gives (with_waiting waiting (settings page_size uuid channels)) [] (none_given (with_waiting waiting (settings page_size uuid channels))) r) }
+        ensures open { IfOk result (λ r. IsFalse r.ended) }
+        ensures fed { IfOk result (λ r. r.fed ≡ 0) }
+    {
         Ok(PageReader {
             page_size,
             uuid,
             channels,
+            waiting,
+            room: waiting,
             hello: None,
             has_packets: false,
             pages: None,
@@ -357,7 +384,7 @@ impl<A: Allocator> PageReader<A> {
         if self.head.len() < len {
             return (Came::More, taken);
         }
-        if let Some(fault) = head_fault(self.page_size, &self.head) {
+        if let Some(fault) = head_fault_within(self.page_size, self.room, &self.head) {
             self.found = ChannelState::Bad(fault);
             return (Came::Over, taken);
         }
@@ -416,6 +443,7 @@ impl<A: Allocator> PageReader<A> {
         ensures fed { self.new.fed ≡ self.old.fed }
     {
         let sync = sync_of(&self.head);
+        self.room = next_room(self.waiting, self.room, &self.head);
         self.has_packets = !sync;
         self.pages = None;
         self.head.clear();

@@ -11,8 +11,8 @@ ghost use Rattle.mig_packet.specs.Reader.{with_taken};
 
 use crate::fields::be32;
 use crate::format::{HELLO_LEN, MULTIFD_FLAG_SYNC};
-use crate::front::{head_fault, hello_fault, packet_len};
-use crate::packet::head_len;
+use crate::front::{head_fault_within, hello_fault, packet_len};
+use crate::packet::{head_len, less_room, weight_of};
 use crate::round::{PacketRound, PacketText, Packets};
 use crate::{ChannelFault, ChannelState, NoMemory};
 use std::alloc::Allocator;
@@ -28,6 +28,9 @@ pub(crate) struct Progress<A: Allocator> {
     page_size: u64,
     uuid: Uuid,
     channels: usize,
+    // the most that may wait in a round, and what the open one has left of it: None is no limit
+    waiting: Option<u64>,
+    room: Option<u64>,
     hello: Option<u8>,
     // the packets of the open round, and the complete rounds that were not taken
     packets: Packets<A>,
@@ -35,6 +38,8 @@ pub(crate) struct Progress<A: Allocator> {
 }
 
 impl<A: Allocator> Model for Progress<A> {
+    ghost use Rattle.std.specs.Prelude.{◌≡◌};
+    ghost use Rattle.mig_packet.specs.Waiting.{room_after};
     ghost use Rattle.mig_packet.specs.Progress.{ChannelProgress, ArePackets};
 
     ghost Value = { ChannelProgress };
@@ -43,12 +48,13 @@ impl<A: Allocator> Model for Progress<A> {
       page_size = c.page_size;
       uuid = c.uuid;
       channels = c.channels;
+      waiting = c.waiting;
       hello = c.hello;
       packets = c.packets;
       rounds = c.rounds.items;
     } };
 
-    ghost invariant = { λ c. ArePackets c.page_size c.packets c.rounds.items };
+    ghost invariant = { λ c. ArePackets c.page_size c.packets c.rounds.items × (c.room ≡ room_after c.waiting c.packets) };
 }
 
 /// How far a channel had been read, to go back to. The lists of the progress only grow.
@@ -61,15 +67,23 @@ pub(crate) struct Checkpoint {
 
 impl<A: Allocator + Copy> Progress<A> {
     /// Creates the progress of a channel before its first byte.
-    pub(crate) fn new(alloc: A, page_size: u64, uuid: Uuid, channels: usize) -> Progress<A>
+    pub(crate) fn new(
+        alloc: A,
+        page_size: u64,
+        uuid: Uuid,
+        channels: usize,
+        waiting: Option<u64>,
+    ) -> Progress<A>
         requires { IsPageSize page_size }
-        ensures { result ≡ start page_size uuid channels }
+        ensures { result ≡ start page_size uuid channels waiting }
     {
         Progress {
             alloc,
             page_size,
             uuid,
             channels,
+            waiting,
+            room: waiting,
             hello: None,
             packets: Packets::new(alloc),
             rounds: VecDeque::new(alloc),
@@ -109,8 +123,11 @@ impl<A: Allocator + Copy> Progress<A> {
         ensures err { OnErr result (self.new ≡ self.old) }
         ensures back { IfErr result (λ p. p ≡ packet) }
     {
+        let room = less_room(self.room, weight_of(packet.as_slice()));
         if be32(packet.as_slice(), 8) != MULTIFD_FLAG_SYNC {
-            return self.packets.push(packet);
+            self.packets.push(packet)?;
+            self.room = room;
+            return Ok(());
         }
         if self.rounds.reserve(1).is_err() {
             return Err(packet);
@@ -118,6 +135,7 @@ impl<A: Allocator + Copy> Progress<A> {
         self.packets.push(packet)?;
         let round = mem::replace(&mut self.packets, Packets::new(self.alloc));
         self.rounds.push_back(round).unwrap();
+        self.room = self.waiting;
         Ok(())
     }
 
@@ -178,7 +196,7 @@ impl<A: Allocator> Progress<A> {
     {
         match self.hello {
             None => hello_fault(bytes, &self.uuid, self.channels),
-            Some(_) => head_fault(self.page_size, bytes),
+            Some(_) => head_fault_within(self.page_size, self.room, bytes),
         }
     }
 
@@ -237,7 +255,9 @@ impl<A: Allocator> Progress<A> {
     {
         self.hello = checkpoint.hello;
         self.reopen(checkpoint.rounds);
-        self.packets.cut(checkpoint.packets)
+        let first = self.packets.cut(checkpoint.packets);
+        self.room = self.packets.room_after(self.page_size, self.waiting);
+        first
     }
 
     // Drops the complete rounds from number `n` on. The first of them is open again.
@@ -248,6 +268,7 @@ impl<A: Allocator> Progress<A> {
         if let Some(round) = self.rounds.remove(n) {
             self.packets = round;
             self.rounds.truncate(n);
+            self.room = self.packets.room_after(self.page_size, self.waiting);
         }
     }
 }

@@ -10,7 +10,7 @@ ghost use Rattle.std.specs.Prelude.{IsTrue, IsFalse, IsOk, None, IfOk, IfSome, I
 ghost use Rattle.mig_packet.specs.PageSize.{IsPageSize};
 ghost use Rattle.mig_packet.specs.declared.state.ChannelState.TheVariants as state;
 ghost use Rattle.mig_packet.specs.Progress.{first_fault};
-ghost use Rattle.mig_packet.specs.Reading.{IsItem, state_at_end, settings};
+ghost use Rattle.mig_packet.specs.Reading.{IsItem, state_at_end, settings, with_waiting};
 ghost use Rattle.mig_packet.specs.Taking.{HasTaken};
 ghost use Rattle.mig_packet.specs.Filling.{Fills};
 ghost use Rattle.mig_packet.specs.Reader.{IsUnfinished, ReadsOn, Stands, StepsOn, Tells, nothing_yet, with_piece, over, one_taken, waiting};
@@ -235,8 +235,28 @@ impl<A: Allocator + Copy> ChannelReader<A> {
         ensures open { IsFalse result.ended }
         ensures fed { result.fed ≡ 0 }
     {
+        ChannelReader::new_within(alloc, page_size, uuid, channels, None)
+    }
+
+    /// Creates a reader as `new` does, with a limit on what may wait: the packets of a round may
+    /// count `waiting` together, one for each packet and one for each of its pages. The packet that
+    /// would pass it is the fault `Waiting`. Complete rounds that wait to be taken aren't counted.
+    /// `None` is no limit.
+    pub fn new_within(
+        alloc: A,
+        page_size: u64,
+        uuid: Uuid,
+        channels: usize,
+        waiting: Option<u64>,
+    ) -> ChannelReader<A>
+        requires page_size { IsPageSize page_size }
+        requires channels { (0 < channels) × (channels ≤ 255) }
+        ensures stands { Stands (with_waiting waiting (settings page_size uuid channels)) nothing_yet result }
+        ensures open { IsFalse result.ended }
+        ensures fed { result.fed ≡ 0 }
+    {
         ChannelReader {
-            progress: Progress::new(alloc, page_size, uuid, channels),
+            progress: Progress::new(alloc, page_size, uuid, channels, waiting),
             pending: Vec::new(alloc),
             found: ChannelState::Reading,
             valid_up_to: 0,

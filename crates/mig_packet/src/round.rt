@@ -3,9 +3,10 @@
 
 ghost use Rattle.std.specs.Prelude.{◌≡◌, ◌++◌, [], ◌∷◌, length, take, map, All, slice_get, IfOk, IfErr, OnOk, OnErr};
 ghost use Rattle.mig_packet.specs.Reader.{IsPacketRound};
+ghost use Rattle.mig_packet.specs.Waiting.{room_after};
 
 use crate::NoMemory;
-use crate::packet::Packet;
+use crate::packet::{Packet, less_room, weight_of};
 use std::alloc::{AllocFailed, Allocator, Global};
 use std::fmt;
 use std::marker::Model;
@@ -107,6 +108,20 @@ impl<A: Allocator> Packets<A> {
         }
         self.items.truncate(n + 1);
         self.items.pop()
+    }
+}
+
+impl<A: Allocator> Packets<A> {
+    /// Returns what is left of `waiting` after the packets. None is no limit.
+    pub(crate) fn room_after(&self, page_size: u64, waiting: Option<u64>) -> Option<u64>
+        requires { IsPacketRound page_size self.now }
+        ensures { result ≡ room_after waiting self.now }
+    {
+        let mut room = waiting;
+        for text in &self.items {
+            room = less_room(room, weight_of(text.as_slice()));
+        }
+        room
     }
 }
 

@@ -1,5 +1,5 @@
 -- What the two ends of a channel's queue know after a step, and what they show.
-use Rattle.std.proofs.Common.{◌≡◌, ◌⊎◌, ℕ, ◌+◌, ◌-◌, Bool, true, false, true≢false, List, [], ◌∷◌, ◌++◌, length, map, take, drop, get_or, take-suc, ◌<◌, refl, sym, ap, subst, ◌∙◌, inl, inr, arith}
+use Rattle.std.proofs.Common.{◌≡◌, ◌⊎◌, ℕ, ◌+◌, ◌-◌, Bool, true, false, true≢false, List, [], ◌∷◌, ◌++◌, length, map, take, drop, get_or, take-suc, ◌<◌, Option, refl, sym, ap, subst, ◌∙◌, inl, inr, arith}
 use Rattle.std.proofs.lemmas.List.{map-append, append-nil}
 use Rattle.std.proofs.Math.Numerals.{add-one}
 use Rattle.std.specs.List.{All}
@@ -17,6 +17,7 @@ use Rattle.mig_packet.specs.declared.packet.Packet.{Packet}
 use Rattle.mig_packet.specs.Lent.{fields}
 use Rattle.mig_packet.specs.ChannelItems.{ChannelItem, Page}
 use Rattle.mig_packet.proofs.Exists.{one_list_law}
+use Rattle.mig_packet.proofs.Waiting.{room_at_first}
 use Rattle.mig_relay.specs.declared.cursor.Cursor.{Cursor}
 use Rattle.mig_relay.specs.declared.item.Item.{Item}
 use Rattle.mig_relay.specs.declared.log.ChannelText.{ChannelText}
@@ -116,11 +117,11 @@ pushes_more v w m p q r is same e b last =
     let done = ap (λ (u : Log). u.done) e in
     (item_of_message v.source m, passed_on v w m p q r is same source done, on_the_way v w m source done last b)
 
-pub feeds_first : (k : Cursor) (text : List ℕ) (v : Log) → IsPageSize k.page_size → (k.at ≡ 0) × (k.greeted ≡ false) × (k.unsynced ≡ false)
+pub feeds_first : (k : Cursor) (text : List ℕ) (v : Log) → IsPageSize k.page_size → (k.at ≡ 0) × (k.greeted ≡ false) × (k.unsynced ≡ false) × (k.room ≡ k.waiting)
     → v ≡ feeding (text_of k text) [] → IsFeeding k text 0 v
 feeds_first k text v size_is at_start e =
     let are = (one_list_law (given (text_of k text)) text size_is).1 in
-    let first = start k.page_size k.uuid k.channels in
+    let first = start k.page_size k.uuid k.channels k.waiting in
     let done : v.done ≡ [] = ap (λ (u : Log). u.done) e in record {
       has_page_size = size_is;
       within = omega (arith, at_start.0);
@@ -130,6 +131,8 @@ feeds_first k text v size_is at_start e =
         has_page_size = refl;
         has_uuid = refl;
         has_channels = refl;
+        has_waiting = refl;
+        has_room = at_start.3 ∙ sym (room_at_first k.waiting);
         has_done = done;
         has_few = omega (arith, ap length done);
         before_hello = λ _. (refl, at_start.0, refl);
@@ -148,18 +151,20 @@ feeds_first k text v size_is at_start e =
 -- ---- the end that collects
 
 -- what was popped lies in the channel's bytes
-pub lies : (page_size : ℕ) (text : List ℕ) (items : List Item) (over : Bool) (v : Log) (m : Message) → IsCollecting page_size text items over v
+pub lies : (page_size : ℕ) (waiting : Option ℕ) (text : List ℕ) (items : List Item) (over : Bool) (v : Log) (m : Message) → IsCollecting page_size waiting text items over v
     → BeginsMessages v.source (v.done ++ m ∷ []) → IsMessageIn page_size text m
-lies page_size text items over v m k b =
+lies page_size waiting text items over v m k b =
     subst (λ (x : ℕ × List ℕ). IsMessageIn x.0 x.1 m) (λ i. (k.of_page_size i, k.of_text i)) (lies_in v.source v.done m b)
 
-pub collects_none : (page_size : ℕ) (text : List ℕ) (source : ChannelText) (items : List Item) (v : Log) → IsPageSize page_size → source.page_size ≡ page_size → source.text ≡ text
-    → v ≡ collecting source [] → items ≡ [] → IsCollecting page_size text items false v
-collects_none page_size text source items v size_is of_page_size of_text e none =
+pub collects_none : (page_size : ℕ) (waiting : Option ℕ) (text : List ℕ) (source : ChannelText) (items : List Item) (v : Log) → IsPageSize page_size
+    → source.page_size ≡ page_size → source.waiting ≡ waiting → source.text ≡ text → v ≡ collecting source [] → items ≡ []
+    → IsCollecting page_size waiting text items false v
+collects_none page_size waiting text source items v size_is of_page_size of_waiting of_text e none =
     let own : v.source ≡ source = ap (λ (u : Log). u.source) e in
     let done : v.done ≡ [] = ap (λ (u : Log). u.done) e in record {
       has_page_size = size_is;
       of_page_size = ap (λ (s : ChannelText). s.page_size) own ∙ of_page_size;
+      of_waiting = ap (λ (s : ChannelText). s.waiting) own ∙ of_waiting;
       of_text = ap (λ (s : ChannelText). s.text) own ∙ of_text;
       role = e ∙ (λ i. collecting (sym own i) (sym done i));
       has_items = ap (map as_channel_item) none ∙ sym (ap (map (item_of_message v.source)) done);
@@ -169,15 +174,17 @@ collects_none page_size text source items v size_is of_page_size of_text e none 
       whole = λ no. absurd (true≢false (sym no));
     }
 
-pub collects : (page_size : ℕ) (text : List ℕ) (items : List Item) (over : Bool) (v w : Log) (m : Message) (item : Item) → IsCollecting page_size text items over v
+pub collects : (page_size : ℕ) (waiting : Option ℕ) (text : List ℕ) (items : List Item) (over : Bool) (v w : Log) (m : Message) (item : Item)
+    → IsCollecting page_size waiting text items over v
     → BeginsMessages v.source (v.done ++ m ∷ []) → w ≡ collecting v.source (v.done ++ m ∷ []) → as_channel_item item ≡ item_in page_size text m
-    → IsOfPageSize page_size item → IsCollecting page_size text (items ++ item ∷ []) (is_last m) w
-collects page_size text items over v w m item k b e is size =
+    → IsOfPageSize page_size item → IsCollecting page_size waiting text (items ++ item ∷ []) (is_last m) w
+collects page_size waiting text items over v w m item k b e is size =
     let own : w.source ≡ v.source = ap (λ (u : Log). u.source) e in
     let done : w.done ≡ v.done ++ m ∷ [] = ap (λ (u : Log). u.done) e in
     let piece : as_channel_item item ≡ item_of_message v.source m = is ∙ (λ i. item_in (sym k.of_page_size i) (sym k.of_text i) m) in record {
       has_page_size = k.has_page_size;
       of_page_size = ap (λ (s : ChannelText). s.page_size) own ∙ k.of_page_size;
+      of_waiting = ap (λ (s : ChannelText). s.waiting) own ∙ k.of_waiting;
       of_text = ap (λ (s : ChannelText). s.text) own ∙ k.of_text;
       role = e ∙ (λ i. collecting (sym own i) (sym done i));
       has_items = map-append as_channel_item items (item ∷ []) ∙ (λ i. k.has_items i ++ piece i ∷ [])
@@ -195,17 +202,17 @@ takes v w m p q r is same b e =
     (item_of_message v.source m, passed_on v w m p q r is same source done, begun_now v w m source done b)
 
 -- if the stop was popped, all items were
-pub is_through : (page_size : ℕ) (text : List ℕ) (items : List Item) (over : Bool) (v : Log) (p : QueueEnd) (q : TableId) → queue_end q v.source (items_in v) ≡ p
-    → IsCollecting page_size text items over v → over ≡ true → IsThrough p
-is_through page_size text items over v p q is k yes_ = subst IsThrough is (items_law v.source v.done (k.whole yes_))
+pub is_through : (page_size : ℕ) (waiting : Option ℕ) (text : List ℕ) (items : List Item) (over : Bool) (v : Log) (p : QueueEnd) (q : TableId)
+    → queue_end q v.source (items_in v) ≡ p → IsCollecting page_size waiting text items over v → over ≡ true → IsThrough p
+is_through page_size waiting text items over v p q is k yes_ = subst IsThrough is (items_law v.source v.done (k.whole yes_))
 
-pub shows : (page_size : ℕ) (text : List ℕ) (items : List Item) (over : Bool) (v : Log) (p : QueueEnd) (q : TableId) → queue_end q v.source (items_in v) ≡ p
-    → IsCollecting page_size text items over v → BeginsItems p.source p.passed
-shows page_size text items over v p q is k = subst (λ (s : QueueEnd). BeginsItems s.source s.passed) is (items_begin v.source v.done k.begun)
+pub shows : (page_size : ℕ) (waiting : Option ℕ) (text : List ℕ) (items : List Item) (over : Bool) (v : Log) (p : QueueEnd) (q : TableId)
+    → queue_end q v.source (items_in v) ≡ p → IsCollecting page_size waiting text items over v → BeginsItems p.source p.passed
+shows page_size waiting text items over v p q is k = subst (λ (s : QueueEnd). BeginsItems s.source s.passed) is (items_begin v.source v.done k.begun)
 
-pub sized : (page_size : ℕ) (text : List ℕ) (items : List Item) (over : Bool) (v : Log) (p : QueueEnd) (q : TableId) → queue_end q v.source (items_in v) ≡ p
-    → IsCollecting page_size text items over v → All (IsOfPageSize p.source.page_size) items
-sized page_size text items over v p q is k =
+pub sized : (page_size : ℕ) (waiting : Option ℕ) (text : List ℕ) (items : List Item) (over : Bool) (v : Log) (p : QueueEnd) (q : TableId)
+    → queue_end q v.source (items_in v) ≡ p → IsCollecting page_size waiting text items over v → All (IsOfPageSize p.source.page_size) items
+sized page_size waiting text items over v p q is k =
     subst (λ (s : QueueEnd). All (IsOfPageSize s.source.page_size) items) is (subst (λ (n : ℕ). All (IsOfPageSize n) items) (sym k.of_page_size) k.of_size)
 
 -- ---- a relay's start

@@ -10,12 +10,16 @@ use Rattle.mig_packet.specs.declared.state.ChannelState.{ChannelState}
 use Rattle.mig_packet.specs.declared.state.ChannelState.TheVariants as state
 use Rattle.mig_packet.specs.Faults.{first_of}
 use Rattle.mig_packet.specs.Hello.{IsHello, hello_len, hello_faults, due_hello_fault}
-use Rattle.mig_packet.specs.Packet.{IsPacketText, is_sync, due_packet_fault}
+use Rattle.mig_packet.specs.Packet.{IsPacketText, is_sync}
+use Rattle.mig_packet.specs.Waiting.{weight, is_over, room_after, next_room}
+use Rattle.mig_packet.specs.FrontRead.{due_fault_within}
 use Rattle.mig_packet.specs.Progress.{ChannelProgress, start, judged_len, item_len, faults, first_fault, due_fault, after_packet, after_item, after}
 use Rattle.mig_packet.specs.Reading.{IsItem, AreFaultless, after_all, Ends, Reads, state_at, state_at_end}
 use Rattle.mig_packet.specs.ChannelItems.{all_packets}
 use Rattle.mig_packet.proofs.Fronts.{len-append, faults_stay, judged_le, cond_none, due_is, faultless_front, item_text, no_head, Front-none}
 use Rattle.mig_packet.proofs.Judging.{hello_free, text_free}
+use Rattle.mig_packet.proofs.Waiting.{free_within}
+use Rattle.mig_packet.proofs.PagingSteps.{room_is}
 use Rattle.mig_packet.proofs.Unique.{one_reading}
 use Rattle.mig_relay.specs.declared.cursor.Cursor.{Cursor}
 use Rattle.mig_relay.specs.declared.item.ChannelEnd.{ChannelEnd}
@@ -120,7 +124,7 @@ front_goes_on c (item ∷ items) none =
 
 -- if a reading goes on from there, the channel's messages begin with those before
 begins_there : (k : Cursor) (text more : List ℕ) (c to : ChannelProgress) (rest : List ℕ) (found : ChannelState) → HasNoneBefore c
-    → Reads (start k.page_size k.uuid k.channels) text to rest found → Reads c more to rest found → BeginsMessages (text_of k text) (front_messages c)
+    → Reads (start k.page_size k.uuid k.channels k.waiting) text to rest found → Reads c more to rest found → BeginsMessages (text_of k text) (front_messages c)
 begins_there k text more c to rest found none whole r =
     let on = front_goes_on c r.leads.items none in
     let stop = stop_message (state_at true to rest found) in (
@@ -200,6 +204,8 @@ goes_on_hello k text id done before few is b =
       has_page_size = b.has_page_size;
       has_uuid = b.has_uuid;
       has_channels = b.has_channels;
+      has_waiting = b.has_waiting;
+      has_room = b.has_room;
       has_done = (λ i. b.has_done i ++ message.Hello (sym is.has_id i) ∷ []) ∙ sym (item_behind b.c None item none.0 (λ _. none.2));
       has_few = omega (arith, b.has_few, length-append done (message.Hello id ∷ []));
       before_hello = λ no. absurd (true≢false no);
@@ -249,15 +255,17 @@ not_true : (b : Bool) → not b ≡ true → b ≡ false
 not_true true e = absurd (true≢false (sym e))
 not_true false e = refl
 
--- after the hello, this is the next item
+-- after the hello, this is the next item, where it has room
 packet_item : (k : Cursor) (text : List ℕ) (done : List Message) (len id : ℕ) (b : IsBehind k text done) → b.c.hello ≡ Some id
-    → IsPacketText k.page_size (take len (drop k.at text))
+    → IsPacketText k.page_size (take len (drop k.at text)) → is_over k.room (weight (take len (drop k.at text))) ≡ false
     → IsItem b.c.page_size b.c.hello (take len (drop k.at text)) × (first_fault b.c (take len (drop k.at text)) ≡ None)
-packet_item k text done len id b e is =
+packet_item k text done len id b e is fits =
     let item = take len (drop k.at text) in
-    let own : IsPacketText b.c.page_size item = subst (λ (p : ℕ). IsPacketText p item) (sym b.has_page_size) is in (
+    let own : IsPacketText b.c.page_size item = subst (λ (p : ℕ). IsPacketText p item) (sym b.has_page_size) is in
+    let room : Option ℕ = room_after b.c.waiting b.c.packets in
+    let there : is_over room (weight item) ≡ false = ap (λ (r : Option ℕ). is_over r (weight item)) (sym b.has_room) ∙ fits in (
       subst (λ (h : Option ℕ). IsItem b.c.page_size h item) (sym e) own.has_length,
-      ap (λ (h : Option ℕ). first_of (faults b.c h item)) e ∙ text_free b.c.page_size item own,
+      ap (λ (h : Option ℕ). first_of (faults b.c h item)) e ∙ free_within b.c.page_size room item (text_free b.c.page_size item own) there,
     )
 
 packet_message : (k : Cursor) (text : List ℕ) (done : List Message) (len id : ℕ) (b : IsBehind k text done) → k.greeted ≡ true
@@ -267,15 +275,24 @@ packet_message k text done len id b behind le =
     let long : length (take len (drop k.at text)) ≡ len = length-take-le len (drop k.at text) le in
     λ i. message.Page (sym at i) (long i)
 
-goes_on_packet : (k : Cursor) (text : List ℕ) (len : ℕ) (sync : Bool) (done : List Message) → k.greeted ≡ true → len ≤ length (drop k.at text)
-    → IsPacketText k.page_size (take len (drop k.at text)) → sync ≡ is_sync (take len (drop k.at text)) → IsBehind k text done
-    → IsBehind (record k { at = k.at + len; unsynced = not sync }) text (done ++ message.Page k.at len ∷ [])
+-- the room after it
+room_behind : (k : Cursor) (text : List ℕ) (done : List Message) (item : List ℕ) (room : Option ℕ) (b : IsBehind k text done) → room ≡ next_room k.waiting k.room item
+    → room ≡ room_after (after_packet b.c item).waiting (after_packet b.c item).packets
+room_behind k text done item room b is =
+    let d : ChannelProgress = after_packet b.c item in
+    is ∙ (λ i. next_room (sym b.has_waiting i) (b.has_room i) item) ∙ room_is b.c.waiting b.c item (is_sync item) refl
+    ∙ ap (λ (w : Option ℕ). room_after w d.packets) (sym (same_settings b.c item).4)
+
+goes_on_packet : (k : Cursor) (text : List ℕ) (len : ℕ) (sync : Bool) (room : Option ℕ) (done : List Message) → k.greeted ≡ true → len ≤ length (drop k.at text)
+    → IsPacketText k.page_size (take len (drop k.at text)) → is_over k.room (weight (take len (drop k.at text))) ≡ false
+    → sync ≡ is_sync (take len (drop k.at text)) → room ≡ next_room k.waiting k.room (take len (drop k.at text)) → IsBehind k text done
+    → IsBehind (record k { at = k.at + len; unsynced = not sync; room = room }) text (done ++ message.Page k.at len ∷ [])
 unfolding item_message HasNoneBefore
-goes_on_packet k text len sync done behind le is sync_is b =
+goes_on_packet k text len sync room done behind le is fits sync_is room_next b =
     let item = take len (drop k.at text) in
     let some = (b.behind_hello behind).0 in
     let id = some_id b.c.hello some in
-    let found = packet_item k text done len id.0 b id.1 is in
+    let found = packet_item k text done len id.0 b id.1 is fits in
     let d : ChannelProgress = after_packet b.c item in
     let same : after b.c item ≡ d = ap (λ (h : Option ℕ). after_item b.c h item) id.1 in
     let kept = same_settings b.c item in
@@ -289,6 +306,8 @@ goes_on_packet k text len sync done behind le is sync_is b =
       has_page_size = kept.0 ∙ b.has_page_size;
       has_uuid = kept.1 ∙ b.has_uuid;
       has_channels = kept.2 ∙ b.has_channels;
+      has_waiting = kept.4 ∙ b.has_waiting;
+      has_room = room_behind k text done item room b room_next;
       has_done = (λ i. b.has_done i ++ sym (packet_message k text done len id.0 b behind le) i ∷ [])
           ∙ sym (item_behind b.c (Some id.0) item id.1 (none_before k text done true b behind));
       has_few = omega (arith, b.has_few, long, is.has_length, length-append done (message.Page k.at len ∷ []));
@@ -303,18 +322,19 @@ goes_on_packet k text len sync done behind le is sync_is b =
       whole = b.whole;
     }
 
-pub finds_packet : (k : Cursor) (text : List ℕ) (len : ℕ) (sync : Bool) → k.greeted ≡ true → k.at ≤ length text → len ≤ length (drop k.at text)
-    → IsPacketText k.page_size (take len (drop k.at text)) → sync ≡ is_sync (take len (drop k.at text))
-    → Finds k text (message.Page k.at len) (record k { at = k.at + len; unsynced = not sync })
+pub finds_packet : (k : Cursor) (text : List ℕ) (len : ℕ) (sync : Bool) (room : Option ℕ) → k.greeted ≡ true → k.at ≤ length text → len ≤ length (drop k.at text)
+    → IsPacketText k.page_size (take len (drop k.at text)) → is_over k.room (weight (take len (drop k.at text))) ≡ false
+    → sync ≡ is_sync (take len (drop k.at text)) → room ≡ next_room k.waiting k.room (take len (drop k.at text))
+    → Finds k text (message.Page k.at len) (record k { at = k.at + len; unsynced = not sync; room = room })
 unfolding item_message
-finds_packet k text len sync behind in_text le is sync_is =
+finds_packet k text len sync room behind in_text le is fits sync_is room_next =
     let item = take len (drop k.at text) in record {
       next = λ done b.
           let id = some_id b.c.hello (b.behind_hello behind).0 in
-          let found = packet_item k text done len id.0 b id.1 is in
+          let found = packet_item k text done len id.0 b id.1 is fits in
           next_found k text done len (message.Page k.at len) b found.0 found.1
           (ap (λ (h : Option ℕ). item_message b.c h item) id.1 ∙ packet_message k text done len id.0 b behind le);
-      goes_on = λ _ done b. goes_on_packet k text len sync done behind le is sync_is b;
+      goes_on = λ _ done b. goes_on_packet k text len sync room done behind le is fits sync_is room_next b;
       same = refl;
       within = within_item text k.at len in_text (length-take-le len (drop k.at text) le);
     }
@@ -374,26 +394,26 @@ finds_bad_hello k text fault before in_text due = finds_stop k text (Bad fault) 
     ))
 
 pub finds_bad_packet : (k : Cursor) (text : List ℕ) (fault : ChannelFault) → k.greeted ≡ true → k.at ≤ length text
-    → due_packet_fault k.page_size (drop k.at text) ≡ Some fault → Finds k text (message.Stop (Bad fault)) k
+    → due_fault_within k.page_size k.room (drop k.at text) ≡ Some fault → Finds k text (message.Stop (Bad fault)) k
 unfolding StopsAt
 finds_bad_packet k text fault behind in_text due = finds_stop k text (Bad fault) in_text (λ done b.
     let rest = drop k.at text in
     let id = some_id b.c.hello (b.behind_hello behind).0 in (
       state.Bad fault,
-      due_at b.c (Some id.0) rest id.1 ∙ (λ i. due_packet_fault (b.has_page_size i) rest) ∙ due,
+      due_at b.c (Some id.0) rest id.1 ∙ (λ i. due_fault_within (b.has_page_size i) (sym b.has_room i) rest) ∙ due,
       refl,
     ))
 
--- what `read_packet` answers where no packet is there yet
+-- what `read_packet_within` answers where no packet is there yet
 abbrev HasNoPacket : Cursor → List ℕ → Type 0
-HasNoPacket k text = (due_packet_fault k.page_size (drop k.at text) ≡ None) × ((front more : List ℕ) → drop k.at text ≡ front ++ more → IsPacketText k.page_size front → ⊥)
+HasNoPacket k text = (due_fault_within k.page_size k.room (drop k.at text) ≡ None) × ((front more : List ℕ) → drop k.at text ≡ front ++ more → IsPacketText k.page_size front → ⊥)
 
 cut_there : (k : Cursor) (text : List ℕ) (done : List Message) (b : IsBehind k text done) → k.greeted ≡ true → HasNoPacket k text → Ends b.c (drop k.at text) state.Reading
 cut_there k text done b behind cut =
     let rest = drop k.at text in
     let some = (b.behind_hello behind).0 in
     let id = some_id b.c.hello some in
-    let none : due_fault b.c rest ≡ None = due_at b.c (Some id.0) rest id.1 ∙ (λ i. due_packet_fault (b.has_page_size i) rest) ∙ cut.0 in (
+    let none : due_fault b.c rest ≡ None = due_at b.c (Some id.0) rest id.1 ∙ (λ i. due_fault_within (b.has_page_size i) (sym b.has_room i) rest) ∙ cut.0 in (
       none,
       λ item more e is.
           let long : judged_len b.c.page_size b.c.hello ≤ length rest =

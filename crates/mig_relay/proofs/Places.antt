@@ -14,11 +14,13 @@ use Rattle.mig_packet.specs.Faults.{first_of}
 use Rattle.mig_packet.specs.PageSize.{IsPageSize}
 use Rattle.mig_packet.specs.Hello.{hello_len}
 use Rattle.mig_packet.specs.Packet.{fields_of, is_sync, IsPacketText}
+use Rattle.mig_packet.specs.Waiting.{room_after}
 use Rattle.mig_packet.specs.Progress.{ChannelProgress, start, faults, after_packet, after_item, after}
 use Rattle.mig_packet.specs.Reading.{IsItem, AreFaultless, after_all, Front, state_at, state_at_end}
 use Rattle.mig_packet.specs.ChannelItems.{ChannelItem, Page, all_packets, item_of_hello, item_of_stop}
 use Rattle.mig_packet.proofs.Exists.{one_list_law}
 use Rattle.mig_packet.proofs.Judged.{faultless_text}
+use Rattle.mig_packet.proofs.Waiting.{faultless_within}
 use Rattle.mig_relay.specs.declared.item.ChannelEnd.{ChannelEnd}
 use Rattle.mig_relay.specs.declared.log.ChannelText.{ChannelText}
 use Rattle.mig_relay.specs.declared.message.Message.{Message}
@@ -51,13 +53,13 @@ more_packets c packet =
 
 -- what stays the same
 pub same_settings : (c : ChannelProgress) (packet : List ℕ) → ((after_packet c packet).page_size ≡ c.page_size) × ((after_packet c packet).uuid ≡ c.uuid)
-    × ((after_packet c packet).channels ≡ c.channels) × ((after_packet c packet).hello ≡ c.hello)
+    × ((after_packet c packet).channels ≡ c.channels) × ((after_packet c packet).hello ≡ c.hello) × ((after_packet c packet).waiting ≡ c.waiting)
 same_settings c packet =
     let packets = c.packets ++ packet ∷ [] in
-    let Same : ChannelProgress → Type 0 = λ d. (d.page_size ≡ c.page_size) × (d.uuid ≡ c.uuid) × (d.channels ≡ c.channels) × (d.hello ≡ c.hello) in
+    let Same : ChannelProgress → Type 0 = λ d. (d.page_size ≡ c.page_size) × (d.uuid ≡ c.uuid) × (d.channels ≡ c.channels) × (d.hello ≡ c.hello) × (d.waiting ≡ c.waiting) in
     elim (is_sync packet) as (λ b. Same (cond b (record c { packets = []; rounds = c.rounds ++ packets ∷ [] }) (record c { packets = packets }))) [
-      | true ↦ (refl, refl, refl, refl)
-      | false ↦ (refl, refl, refl, refl)
+      | true ↦ (refl, refl, refl, refl, refl)
+      | false ↦ (refl, refl, refl, refl, refl)
     ]
 
 -- How a front lies: the hello, and then the packets, one after another. Before the hello there are
@@ -70,8 +72,8 @@ record IsLaid (page_size : ℕ) (c : ChannelProgress) (front : List ℕ) : Type 
   before_hello : c.hello ≡ None → (hello ≡ []) × (all_packets c ≡ [])
   behind_hello : c.hello ≢ None → length hello ≡ hello_len
 
-laid_at_start : (page_size : ℕ) (uuid : List ℕ) (channels : ℕ) → IsLaid page_size (start page_size uuid channels) []
-laid_at_start page_size uuid channels = record {
+laid_at_start : (page_size : ℕ) (uuid : List ℕ) (channels : ℕ) (waiting : Option ℕ) → IsLaid page_size (start page_size uuid channels waiting) []
+laid_at_start page_size uuid channels waiting = record {
   has_page_size = refl;
   hello = [];
   has_front = refl;
@@ -97,7 +99,8 @@ laid_item page_size c front item (Some id) e is free l =
     let same = same_settings c item in
     let more = more_packets c item in
     let some : c.hello ≢ None = λ no. absurd (let clash : None ≡ Some id = sym no ∙ e in cc) in
-    let packet : IsPacketText page_size item = subst (λ (n : ℕ). IsPacketText n item) l.has_page_size (faultless_text c.page_size item free is) in record {
+    let judged = faultless_within c.page_size (room_after c.waiting c.packets) item free in
+    let packet : IsPacketText page_size item = subst (λ (n : ℕ). IsPacketText n item) l.has_page_size (faultless_text c.page_size item judged.0 is) in record {
       has_page_size = same.0 ∙ l.has_page_size;
       hello = l.hello;
       has_front = ap (λ (x : List ℕ). x ++ item) l.has_front ∙ append_assoc l.hello (concat (all_packets c)) item
@@ -115,12 +118,13 @@ laid_all page_size c front (item ∷ items) free l =
     subst (IsLaid page_size (after_all (after c item) items)) (append_assoc front item (concat items))
     (laid_all page_size (after c item) (front ++ item) items free.2 (laid_item page_size c front item c.hello refl free.0 free.1 l))
 
-laid : (source : ChannelText) (c : ChannelProgress) (front : List ℕ) → Front (start source.page_size source.uuid source.channels) front c → IsLaid source.page_size c front
+laid : (source : ChannelText) (c : ChannelProgress) (front : List ℕ) → Front (start source.page_size source.uuid source.channels source.waiting) front c
+    → IsLaid source.page_size c front
 laid source c front f =
     let p = source.page_size in
-    let from = start p source.uuid source.channels in
+    let from = start p source.uuid source.channels source.waiting in
     subst (λ (d : ChannelProgress). IsLaid p d front) (sym f.leads_to)
-    (subst (IsLaid p (after_all from f.items)) (sym f.has_bytes) (laid_all p from [] f.items f.are_faultless (laid_at_start p source.uuid source.channels)))
+    (subst (IsLaid p (after_all from f.items)) (sym f.has_bytes) (laid_all p from [] f.items f.are_faultless (laid_at_start p source.uuid source.channels source.waiting)))
 
 -- ---- the packets, read at their places
 

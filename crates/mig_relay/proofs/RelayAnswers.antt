@@ -1,5 +1,5 @@
 -- The answer of a load of what a relay brings.
-use Rattle.std.proofs.Common.{ℕ, ◌≡◌, ◌<◌, ◌≤◌, Bool, true, false, List, [], ◌∷◌, length, map, replicate, refl, sym, ap, ◌∙◌, inl, inr, Some, None, arith, subst}
+use Rattle.std.proofs.Common.{ℕ, ◌≡◌, ◌<◌, ◌≤◌, Bool, true, false, List, [], ◌∷◌, length, map, replicate, refl, sym, ap, ◌∙◌, inl, inr, Option, Some, None, arith, subst}
 use Rattle.std.specs.Prelude.{◌^◌, IsTrue}
 use Rattle.std.specs.List.{All, AllZip, range_with_len}
 use Rattle.std.specs.Option.{option_map}
@@ -16,6 +16,7 @@ use Rattle.mig_stream.specs.Reading.{StreamReading}
 use Rattle.mig_stream.specs.Reader.{Reader, Stands, HasTable, HasRound, HasState}
 use Rattle.mig_stream.proofs.Exists.{one_reading_law}
 use Rattle.mig_stream.proofs.Limits.{limits_law}
+use Rattle.mig_packet.specs.Reading.{settings, with_waiting}
 use Rattle.mig_assemble.specs.Target.{LoadTarget, new_target}
 use Rattle.mig_single_load.specs.Settings.{main_of}
 use Rattle.mig_single_load.specs.declared.settings.LoadSettings.{LoadSettings}
@@ -29,7 +30,7 @@ use Rattle.mig_answer.specs.Received.{round_count}
 use Rattle.mig_relay.specs.RelayItems.{with_settings, QueueEnd, IsThrough}
 use Rattle.mig_relay.specs.Relayed.{IsRelayOf, Continues, HasReceived, AreAtRound, Load, HaveRounds, HasEnded, EndsAt, Goes, Begins, IsAnswerOf}
 use Rattle.mig_answer.proofs.OneAnswer.{some_readings}
-use Rattle.mig_relay.proofs.Relays.{sizes_are}
+use Rattle.mig_relay.proofs.Relays.{sizes_are, limits_are}
 use Rattle.mig_relay.proofs.GoingThrough.{goes_on}
 use Rattle.mig_relay.proofs.MainStream.{main_so_far, same_main, ends_in}
 
@@ -138,13 +139,26 @@ are_at_start (p ∷ ends) = (
 -- ---- the relay
 
 -- its channels are these
-pub relay_size : (page_size n : ℕ) (uuid : List ℕ) (texts : List (List ℕ)) (ends : List QueueEnd) → IsRelayOf page_size uuid texts ends → All (λ p. p.source.page_size ≡ n) ends → n ≡ page_size
-relay_size page_size n uuid texts [] is all =
+none_of_relay : (page_size : ℕ) (waiting : Option ℕ) (uuid : List ℕ) (texts : List (List ℕ)) → IsRelayOf page_size waiting uuid texts [] → ⊥
+none_of_relay page_size waiting uuid texts is =
     let some = is.has_some in
-    absurd (omega (arith, some, ap (λ (l : List ChannelText). length l) is.has_sources, length-map texts (with_settings page_size uuid (length texts))))
-relay_size page_size n uuid texts (p ∷ ends) is all =
+    omega (arith, some, ap (λ (l : List ChannelText). length l) is.has_sources, length-map texts (with_settings (with_waiting waiting (settings page_size uuid (length texts)))))
+
+pub relay_size : (page_size n : ℕ) (waiting : Option ℕ) (uuid : List ℕ) (texts : List (List ℕ)) (ends : List QueueEnd) → IsRelayOf page_size waiting uuid texts ends
+    → All (λ p. p.source.page_size ≡ n) ends → n ≡ page_size
+relay_size page_size n waiting uuid texts [] is all = absurd (none_of_relay page_size waiting uuid texts is)
+relay_size page_size n waiting uuid texts (p ∷ ends) is all =
     sym (All-head (λ (p : QueueEnd). p.source.page_size ≡ n) p ends all)
-    ∙ All-head (λ (p : QueueEnd). p.source.page_size ≡ page_size) p ends (sizes_are page_size uuid (length texts) texts (p ∷ ends) is.has_sources)
+    ∙ All-head (λ (p : QueueEnd). p.source.page_size ≡ page_size) p ends
+    (sizes_are (with_waiting waiting (settings page_size uuid (length texts))) texts (p ∷ ends) is.has_sources)
+
+pub relay_limit : (page_size : ℕ) (waiting limit : Option ℕ) (uuid : List ℕ) (texts : List (List ℕ)) (ends : List QueueEnd) → IsRelayOf page_size waiting uuid texts ends
+    → All (λ p. p.source.waiting ≡ limit) ends → limit ≡ waiting
+relay_limit page_size waiting limit uuid texts [] is all = absurd (none_of_relay page_size waiting uuid texts is)
+relay_limit page_size waiting limit uuid texts (p ∷ ends) is all =
+    sym (All-head (λ (p : QueueEnd). p.source.waiting ≡ limit) p ends all)
+    ∙ All-head (λ (p : QueueEnd). p.source.waiting ≡ waiting) p ends
+    (limits_are (with_waiting waiting (settings page_size uuid (length texts))) texts (p ∷ ends) is.has_sources)
 
 -- a load of them, with what they say
 abbrev pub load_of : (given : LoadSettings) (uuid : List ℕ) (main : List ℕ) (texts : List (List ℕ)) → IsPageSize given.page_size → Load
@@ -157,7 +171,7 @@ load_of given uuid main texts size = record {
 }
 
 pub load_begins : (given : LoadSettings) (uuid : List ℕ) (main : List ℕ) (texts : List (List ℕ)) (ends : List QueueEnd) (reader : Reader) (size : IsPageSize given.page_size)
-    → IsRelayOf given.page_size uuid texts ends → Stands (main_of given) (main_so_far main 0) reader → length main < 2 ^ 63
+    → IsRelayOf given.page_size given.waiting uuid texts ends → Stands (main_of given) (main_so_far main 0) reader → length main < 2 ^ 63
     → Begins (load_of given uuid main texts size) reader (replicate (length ends) 0) ends
 load_begins given uuid main texts ends reader size is stands short = record {
   stands = stands;

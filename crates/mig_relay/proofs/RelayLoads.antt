@@ -10,7 +10,8 @@ use Rattle.std.proofs.lemmas.List.Elements.{All-nil, All-cons, All-head, All-tai
 use Rattle.mig_mem.specs.First.{first_some}
 use Rattle.mig_packet.specs.Packet.{Fields}
 use Rattle.mig_packet.specs.ChannelItems.{ChannelItem, AreItems}
-use Rattle.mig_packet.specs.Reading.{settings}
+use Rattle.mig_packet.specs.Reading.{Settings}
+use Rattle.mig_single_load.specs.Settings.{channel_of}
 use Rattle.mig_single_load.specs.declared.fault.Origin.TheVariants as origin
 use Rattle.mig_single_load.specs.declared.fault.Fault.{Fault}
 use Rattle.mig_single_load.specs.declared.fault.Fault.TheVariants as fault
@@ -35,9 +36,8 @@ use Rattle.mig_answer.proofs.ToldSources.{TellsSources, told_stops, told_refused
 -- ---- what was received says
 
 -- a channel of which a round was processed has enough items
-enough : (k : ℕ) (p : QueueEnd) (page_size : ℕ) (uuid : List ℕ) (n : ℕ) (text : List ℕ) → p.source ≡ with_settings page_size uuid n text → HasEnough k p
-    → IsEnough (settings page_size uuid n) k text p.passed
-enough k p page_size uuid n text is told = elim told.1 [
+enough : (k : ℕ) (p : QueueEnd) (read : Settings) (text : List ℕ) → p.source ≡ with_settings read text → HasEnough k p → IsEnough read k text p.passed
+enough k p read text is told = elim told.1 [
   | inl more ↦ record {
     items = p.passed ++ told.0.0;
     are_items = subst (λ (s : ChannelText). AreItems (given s) s.text (p.passed ++ told.0.0)) is told.0.1;
@@ -52,23 +52,24 @@ enough k p page_size uuid n text is told = elim told.1 [
   }
 ]
 
-all_enough : (k page_size : ℕ) (uuid : List ℕ) (n : ℕ) (texts : List (List ℕ)) (ends : List QueueEnd) → map source_of ends ≡ map (with_settings page_size uuid n) texts
-    → All (HasEnough k) ends → AllZip (IsEnough (settings page_size uuid n) k) texts (received_of ends)
-all_enough k page_size uuid n [] [] e told = tt
-all_enough k page_size uuid n [] (p ∷ ends) e told = absurd cc
-all_enough k page_size uuid n (text ∷ texts) [] e told = absurd cc
-all_enough k page_size uuid n (text ∷ texts) (p ∷ ends) e told =
-    let here : p.source ≡ with_settings page_size uuid n text = cc in
-    let there : map source_of ends ≡ map (with_settings page_size uuid n) texts = cc in (
-      enough k p page_size uuid n text here (All-head (HasEnough k) p ends told),
-      all_enough k page_size uuid n texts ends there (All-tail (HasEnough k) p ends told),
+all_enough : (k : ℕ) (read : Settings) (texts : List (List ℕ)) (ends : List QueueEnd) → map source_of ends ≡ map (with_settings read) texts → All (HasEnough k) ends
+    → AllZip (IsEnough read k) texts (received_of ends)
+all_enough k read [] [] e told = tt
+all_enough k read [] (p ∷ ends) e told = absurd cc
+all_enough k read (text ∷ texts) [] e told = absurd cc
+all_enough k read (text ∷ texts) (p ∷ ends) e told =
+    let here : p.source ≡ with_settings read text = cc in
+    let there : map source_of ends ≡ map (with_settings read) texts = cc in (
+      enough k p read text here (All-head (HasEnough k) p ends told),
+      all_enough k read texts ends there (All-tail (HasEnough k) p ends told),
     )
 
 tells_channels : (l : Load) (k : ℕ) (places places_now : List ℕ) (ends ends_now : List QueueEnd) (statuses : List Status) (packets : List Fields) → Loading l k places ends
     → AllZip Continues ends ends_now → HaveGone k places_now ends_now statuses packets → TellsAllChannels l.given.page_size k (received_of ends_now) l.readings
 tells_channels l k places places_now ends ends_now statuses packets loading zip gone =
     together_law l.given l.uuid k l.main l.texts (received_of ends_now) l.readings loading.is_page_size loading.are_readings
-    (all_enough k l.given.page_size l.uuid (length l.texts) l.texts ends_now (of_relay l.given.page_size l.uuid l.texts ends ends_now loading.is_relay zip).has_sources gone.are_told)
+    (all_enough k (channel_of l.given l.uuid (length l.texts)) l.texts ends_now
+    (of_relay l.given.page_size l.given.waiting l.uuid l.texts ends ends_now loading.is_relay zip).has_sources gone.are_told)
 
 abbrev told_standing : ℕ × Status → Standing
 told_standing s = record { source = origin.Channel s.0; status = s.1 }

@@ -13,6 +13,7 @@ use Rattle.mig_packet.specs.declared.packet.Packet.{Packet}
 use Rattle.mig_packet.specs.ChannelItems.{ChannelItem}
 use Rattle.mig_assemble.specs.Judging.{refusal}
 use Rattle.mig_assemble.specs.Target.{LoadTarget, pages_of_round, after_round}
+use Rattle.mig_single_load.specs.Settings.{channel_of}
 use Rattle.mig_single_load.specs.declared.fault.Origin.TheVariants as origin
 use Rattle.mig_single_load.specs.declared.fault.Fault.{Fault}
 use Rattle.mig_single_load.specs.declared.fault.Fault.TheVariants as fault
@@ -98,7 +99,7 @@ pub sizes_of_packets : (l : Load) (k : ℕ) (target : LoadTarget) (places : List
     → All (λ packet. packet.page_size ≡ target.memory.table.page_size) packets
 sizes_of_packets l k target places ends packets loading has sizes =
     subst (λ (n : ℕ). All (λ (packet : Packet). packet.page_size ≡ n) packets) (sym (size_is l k target places ends loading has))
-    (sizes l.given.page_size (sizes_are l.given.page_size l.uuid (length l.texts) l.texts ends loading.is_relay.has_sources))
+    (sizes l.given.page_size (sizes_are (channel_of l.given l.uuid (length l.texts)) l.texts ends loading.is_relay.has_sources))
 
 -- why it is refused
 pub refusal_is : (l : Load) (target : LoadTarget) (places : List ℕ) (ends : List QueueEnd) (round : RoundOfRecords) (packets : List Fields) → ComesToRound l target places ends round
@@ -138,7 +139,7 @@ goes_in l target new places places_now ends now round packets comes zip told law
     let here : IsTrue (passes k l.readings) = told.passes refl (refusal_is l target places ends round packets comes (told.has_packets refl) ∙ lawful) in (
       record {
         is_page_size = loading.is_page_size;
-        is_relay = of_relay l.given.page_size l.uuid l.texts ends now loading.is_relay zip;
+        is_relay = of_relay l.given.page_size l.given.waiting l.uuid l.texts ends now loading.is_relay zip;
         are_readings = loading.are_readings;
         have_passed = λ j below. elim (cases_order j k) [
           | inl same ↦ subst (λ i. IsTrue (passes i l.readings)) (sym same) here

@@ -48,7 +48,7 @@ pub record AreMessages (source : ChannelText) (messages : List Message) : Type 0
   pub to : ChannelProgress
   pub rest : List ℕ
   pub found : ChannelState
-  pub reads : Reads (start source.page_size source.uuid source.channels) source.text to rest found
+  pub reads : Reads (start source.page_size source.uuid source.channels source.waiting) source.text to rest found
   pub has_messages : messages ≡ front_messages to ++ stop_message (state_at true to rest found)
 
 -- the channel's messages begin with these

@@ -10,5 +10,5 @@ use Rattle.mig_relay.specs.RelayItems.{QueueEnd}
 use Rattle.mig_relay.specs.Relayed.{IsRelayOf}
 
 abbrev pub AnswersRelay : {A : Type 0} → LoadSettings → List ℕ → List QueueEnd → Loaded A → Type 0
-AnswersRelay given main ends loaded = (uuid : List ℕ) (texts : List (List ℕ)) → IsPageSize given.page_size → IsRelayOf given.page_size uuid texts ends
+AnswersRelay given main ends loaded = (uuid : List ℕ) (texts : List (List ℕ)) → IsPageSize given.page_size → IsRelayOf given.page_size given.waiting uuid texts ends
     → IsAnswerOrWithoutMemory given uuid (ended_texts main texts) (answer_of loaded)

@@ -3,6 +3,7 @@ use Rattle.std.specs.Prelude.{◌≡◌, ℕ, Bool, true, false, List, [], ◌�
 use mathlib.Core.Option.{some}
 use lib.ListN.{get_elem?}
 use Rattle.mig_packet.specs.ChannelItems.{ChannelItem}
+use Rattle.mig_packet.specs.Reading.{settings}
 use Rattle.mig_relay.specs.declared.log.ChannelText.{ChannelText}
 use Rattle.mig_relay.specs.declared.log.Log.{Log}
 use Rattle.mig_relay.specs.declared.message.Message.{Message}
@@ -16,7 +17,7 @@ log feeds collects source done = record { feeds = feeds; collects = collects; so
 
 -- a channel without bytes, before the pass knows one
 abbrev pub no_channel_text : ChannelText
-no_channel_text = with_settings 4096 [] 0 []
+no_channel_text = with_settings (settings 4096 [] 0) []
 
 -- the pass before it is split
 abbrev pub fresh : Log

@@ -1,5 +1,6 @@
 -- A relay: what its calls do to the items that were pushed and popped.
 use Rattle.std.specs.Prelude.{◌≡◌, ℕ, Bool, true, false, List, [], Vec, slice_get, slice_set, Some}
+use Rattle.mig_packet.specs.Reading.{Settings}
 use Rattle.mig_packet.specs.ChannelItems.{ChannelItem}
 use Rattle.mig_relay.specs.declared.feeder.FeederStep.{FeederStep}
 use Rattle.mig_relay.specs.declared.feeder.FeederStep.TheVariants.{More, Ended}
@@ -24,6 +25,6 @@ TakesAt j old new more = (p : QueueEnd) × (q : QueueEnd) × (slice_get old j �
 abbrev pub so_far : QueueEnd → ChannelText × List ChannelItem
 so_far p = (p.source, p.passed)
 
--- a channel of which no item was pushed or popped
-abbrev pub at_start : {A : Type 0} → ℕ → List ℕ → ℕ → Vec ℕ A → ChannelText × List ChannelItem
-at_start page_size uuid channels text = (with_settings page_size uuid channels text.items, [])
+-- a channel, read with these settings, of which no item was pushed or popped
+abbrev pub at_start : {A : Type 0} → Settings → Vec ℕ A → ChannelText × List ChannelItem
+at_start given text = (with_settings given text.items, [])

@@ -2,7 +2,7 @@
 use Rattle.std.specs.Prelude.{◌≡◌, ℕ, List, [], ◌∷◌, ◌++◌, Option, None, Some, ⊤}
 use Rattle.atomic_table.specs.Seated.{TableId}
 use Rattle.mig_packet.specs.declared.fault.ChannelFault.{ChannelFault}
-use Rattle.mig_packet.specs.Reading.{Settings, settings}
+use Rattle.mig_packet.specs.Reading.{Settings}
 use Rattle.mig_packet.specs.Lent.{fields}
 use Rattle.mig_packet.specs.ChannelItems.{ChannelItem, Hello, Page, Stop, AreItems}
 use Rattle.mig_relay.specs.declared.item.ChannelEnd.{ChannelEnd}
@@ -30,11 +30,12 @@ IsOfPageSize page_size (item.Stop end) = ⊤
 
 -- ---- the items of a channel that has ended
 
-abbrev pub with_settings : ℕ → List ℕ → ℕ → List ℕ → ChannelText
-with_settings page_size uuid channels text = record { page_size = page_size; uuid = uuid; channels = channels; text = text }
+-- its bytes, and how they are read
+abbrev pub with_settings : Settings → List ℕ → ChannelText
+with_settings given text = record { page_size = given.page_size; uuid = given.uuid; channels = given.channels; waiting = given.waiting; text = text }
 
 abbrev pub given : ChannelText → Settings
-given source = settings source.page_size source.uuid source.channels
+given source = record { page_size = source.page_size; uuid = source.uuid; channels = source.channels; waiting = source.waiting }
 
 -- these are the channel's items
 abbrev pub HasItems : ChannelText → List ChannelItem → Type 0

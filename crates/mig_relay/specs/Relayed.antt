@@ -6,6 +6,7 @@ use Rattle.mig_packet.specs.Lent.{fields}
 use Rattle.mig_packet.specs.Packet.{Fields}
 use Rattle.mig_packet.specs.declared.packet.Packet.{Packet}
 use Rattle.mig_packet.specs.ChannelItems.{ChannelItem}
+use Rattle.mig_packet.specs.Reading.{settings, with_waiting}
 use Rattle.mig_assemble.specs.declared.fault.RoundFault.{RoundFault}
 use Rattle.mig_assemble.specs.Target.{LoadTarget, FitsTable}
 use Rattle.mig_stream.specs.Reader.{Reader, Stands}
@@ -34,19 +35,20 @@ use Rattle.mig_answer.specs.Putting.{HasLoaded}
 
 -- ---- the relay of some channels
 
--- these are the ends that pop of the queues of these channels, with pages of this size and this
--- UUID
-pub record IsRelayOf (page_size : ℕ) (uuid : List ℕ) (texts : List (List ℕ)) (ends : List QueueEnd) : Type 0 where
+-- these are the ends that pop of the queues of these channels, with pages of this size, this UUID
+-- and this limit on what waits in a round
+pub record IsRelayOf (page_size : ℕ) (waiting : Option ℕ) (uuid : List ℕ) (texts : List (List ℕ)) (ends : List QueueEnd) : Type 0 where
   pub has_some : 1 ≤ length texts
-  pub has_sources : map (λ p. p.source) ends ≡ map (with_settings page_size uuid (length texts)) texts
+  pub has_sources : map (λ p. p.source) ends ≡ map (with_settings (with_waiting waiting (settings page_size uuid (length texts)))) texts
 
 -- they are of the queues of some channels
 pub record IsRelay (ends : List QueueEnd) : Type 0 where
   pub page_size : ℕ
+  pub waiting : Option ℕ
   pub uuid : List ℕ
   pub texts : List (List ℕ)
   pub is_page_size : IsPageSize page_size
-  pub is_relay : IsRelayOf page_size uuid texts ends
+  pub is_relay : IsRelayOf page_size waiting uuid texts ends
 
 abbrev pub received_of : List QueueEnd → List (List ChannelItem)
 received_of ends = map (λ p. p.passed) ends
@@ -157,7 +159,7 @@ pub record Load : Type 0 where
 -- to it.
 pub record Loading (l : Load) (k : ℕ) (places : List ℕ) (ends : List QueueEnd) : Type 0 where
   pub is_page_size : IsPageSize l.given.page_size
-  pub is_relay : IsRelayOf l.given.page_size l.uuid l.texts ends
+  pub is_relay : IsRelayOf l.given.page_size l.given.waiting l.uuid l.texts ends
   pub are_readings : AreReadings l.given l.uuid (ended_texts l.main l.texts) l.readings
   pub have_passed : (j : ℕ) → j < k → IsTrue (passes j l.readings)
   pub are_at : AreAtRound k places ends

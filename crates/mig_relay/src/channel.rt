@@ -18,6 +18,8 @@ use std::sync::Wait;
 #[derive(Drop)]
 pub struct Channel<'a, A: Allocator = Global> {
     pub(crate) page_size: u64,
+    // the most that may wait in a round of it
+    pub(crate) waiting: Option<u64>,
     pub(crate) text: &'a [u8],
     pub(crate) items: Vec<Item<'a>, A>,
     // whether the stop was popped
@@ -39,7 +41,7 @@ impl<'a, A: Allocator> Model for Channel<'a, A> {
 
     ghost view = { λ a. queue_end a.pass.table_id (known a.pass).source (items_in (known a.pass)) };
 
-    ghost invariant = { λ a. IsSeatAt (receives_on a.receiver) a.pass × IsCollecting a.page_size a.text.now a.items.items a.over (known a.pass) };
+    ghost invariant = { λ a. IsSeatAt (receives_on a.receiver) a.pass × IsCollecting a.page_size a.waiting a.text.now a.items.items a.over (known a.pass) };
 }
 
 impl<'a, A: Allocator> Channel<'a, A> {
@@ -49,6 +51,13 @@ impl<'a, A: Allocator> Channel<'a, A> {
         ensures page_size { IsPageSize result }
     {
         self.page_size
+    }
+
+    /// Returns the most that may wait in a round of it.
+    pub(crate) fn waiting(&self) -> Option<u64>
+        ensures { result ≡ self.now.source.waiting }
+    {
+        self.waiting
     }
 
     /// Returns the items that were popped.
@@ -82,6 +91,7 @@ impl<'a, A: Allocator> Channel<'a, A> {
     pub(crate) fn drain<R: Wait>(self, wait: &R) {
         let Channel {
             page_size: _,
+            waiting: _,
             text: _,
             items: _,
             over,

@@ -9,7 +9,7 @@ ghost use Rattle.mig_relay.specs.Cursor.{Finds};
 
 use crate::item::ChannelEnd;
 use crate::message::Message;
-use mig_packet::{ChannelFault, HelloRead, PacketRead, read_hello, read_packet};
+use mig_packet::{ChannelFault, HelloRead, PacketRead, read_hello, read_packet_within};
 use uuid::Uuid;
 
 // how many bytes a hello has
@@ -22,6 +22,9 @@ pub(crate) struct Cursor {
     pub(crate) page_size: u64,
     pub(crate) uuid: Uuid,
     pub(crate) channels: usize,
+    // the limit on what waits in a round, and what the open one has left of it: None is no limit
+    pub(crate) waiting: Option<u64>,
+    pub(crate) room: Option<u64>,
     // how many bytes are before it
     pub(crate) at: usize,
     // whether the hello is before it
@@ -69,11 +72,12 @@ impl Cursor {
         requires within { self.at ≤ length text.now }
         ensures { Finds self text.now result.0 result.1 }
     {
-        match read_packet(self.page_size, &text[self.at..]) {
+        match read_packet_within(self.page_size, self.room, &text[self.at..]) {
             PacketRead::Whole(packet, len) => {
                 let behind = Cursor {
                     at: self.at + len,
                     unsynced: !packet.sync(),
+                    room: packet.next_room(self.waiting, self.room),
                     ..self
                 };
                 (Message::Page(self.at, len), behind)

@@ -18,6 +18,7 @@ pub struct ChannelText {
     pub page_size: u64,
     pub uuid: LinkedList<u8>,
     pub channels: usize,
+    pub waiting: Option<u64>,
     pub text: LinkedList<u8>,
 }
 

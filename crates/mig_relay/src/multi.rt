@@ -109,8 +109,15 @@ pub fn load_multi_in<
         ⊎ IsWithoutMemory settings uuid.now (ended_texts main.now (bytes_of channels.now)) (answer_of result) }
 {
     let page_size = settings.page_size;
-    let Ok((feeders, collector)) = Relay::start(alloc, page_size, uuid, channels, QUEUE_CAPACITY)
-    else {
+    let waiting = settings.waiting;
+    let Ok((feeders, collector)) = Relay::start_within(
+        alloc,
+        page_size,
+        uuid,
+        channels,
+        QUEUE_CAPACITY,
+        waiting,
+    ) else {
         return without_memory();
     };
     load(rt, alloc, feeders, collector, main, settings, gate)

@@ -5,10 +5,11 @@ ghost use Rattle.std.specs.Prelude.{◌≡◌, ◌<◌, true, [], ◌∷◌, ◌
 ghost use Rattle.crossbeam_channel.specs.Claims.{view, IsSeatAt};
 ghost use Rattle.crossbeam_channel.specs.Ends.{sends_on, receives_on};
 ghost use Rattle.mig_packet.specs.PageSize.{IsPageSize};
-ghost use Rattle.mig_relay.specs.RelayItems.{with_settings};
+ghost use Rattle.mig_relay.specs.Cursor.{text_of};
 ghost use Rattle.mig_relay.specs.Messages.{BeginsMessages};
 ghost use Rattle.mig_relay.specs.Queue.{fresh, feeding, collecting};
 
+use crate::cursor::Cursor;
 use crate::log::{Carries, Cut, InOrder, Log, Popped, Pushed};
 use crate::message::Message;
 use crossbeam_channel::{Pass, RuledReceiver, RuledSender, bounded_with};
@@ -16,7 +17,6 @@ use mig_mem::NoMemory;
 use std::alloc::{Allocator, Global};
 use std::marker::Brand;
 use std::sync::Wait;
-use uuid::Uuid;
 
 pub(crate) type Sender<A> = RuledSender<Message, Log, InOrder, A>;
 
@@ -28,41 +28,37 @@ pub(crate) type LogPass = Pass<Message, Log>;
 fn cut<Q: Carries, A: Allocator>(
     sender: &Sender<A>,
     pass: &mut LogPass,
-    page_size: u64,
-    uuid: &Uuid,
-    channels: usize,
+    cursor: &Cursor,
     text: &[u8],
 ) -> LogPass
-    requires page_size { IsPageSize page_size }
+    requires page_size { IsPageSize cursor.now.page_size }
     requires seat { IsSeatAt (sends_on sender.now) pass.old }
     requires first { view pass.old ≡ fresh }
-    requires source { Q.source ≡ with_settings page_size uuid.now channels text.now }
-    ensures feeder { IsSeatAt (sends_on sender.now) pass.new × (view pass.new ≡ feeding (with_settings page_size uuid.now channels text.now) []) }
-    ensures collector { IsSeatAt (sends_on sender.now) result × (view result ≡ collecting (with_settings page_size uuid.now channels text.now) []) }
+    requires source { Q.source ≡ text_of cursor.now text.now }
+    ensures feeder { IsSeatAt (sends_on sender.now) pass.new × (view pass.new ≡ feeding (text_of cursor.now text.now) []) }
+    ensures collector { IsSeatAt (sends_on sender.now) result × (view result ≡ collecting (text_of cursor.now text.now) []) }
 {
-    let _numbers = (page_size, channels);
-    let _uuid = uuid;
+    let _cursor = cursor;
     let _bytes = text;
     sender.another::<Cut<Q>>(pass)
 }
 
-/// Makes a queue for the items of the channel `text`. Returns its two ends, each with its pass.
+/// Makes a queue for the items of the channel `text`, which `cursor` finds. Returns its two ends,
+/// each with its pass.
 pub(crate) fn queue_for<A: Allocator + Copy>(
     alloc: A,
-    page_size: u64,
-    uuid: &Uuid,
-    channels: usize,
+    cursor: &Cursor,
     text: &[u8],
     capacity: usize,
 ) -> Result<(Sender<A>, LogPass, Receiver<A>, LogPass), NoMemory>
-    requires page_size { IsPageSize page_size }
+    requires page_size { IsPageSize cursor.now.page_size }
     requires capacity { 0 < capacity }
     ensures same { IfOk result (λ r. r.1.table_id ≡ r.3.table_id) }
-    ensures feeder { IfOk result (λ r. IsSeatAt (sends_on r.0) r.1 × (view r.1 ≡ feeding (with_settings page_size uuid.now channels text.now) [])) }
-    ensures collector { IfOk result (λ r. IsSeatAt (receives_on r.2) r.3 × (view r.3 ≡ collecting (with_settings page_size uuid.now channels text.now) [])) }
+    ensures feeder { IfOk result (λ r. IsSeatAt (sends_on r.0) r.1 × (view r.1 ≡ feeding (text_of cursor.now text.now) [])) }
+    ensures collector { IfOk result (λ r. IsSeatAt (receives_on r.2) r.3 × (view r.3 ≡ collecting (text_of cursor.now text.now) [])) }
 {
     let (sender, receiver, mut pass) = bounded_with::<Message, Log, InOrder, A>(alloc, capacity)?;
-    let other = cut::<Brand, A>(&sender, &mut pass, page_size, uuid, channels, text);
+    let other = cut::<Brand, A>(&sender, &mut pass, cursor, text);
     Ok((sender, pass, receiver, other))
 }
 

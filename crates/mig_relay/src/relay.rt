@@ -3,6 +3,7 @@
 
 ghost use Rattle.std.specs.Prelude.{◌≡◌, ◌<◌, ◌≤◌, false, [], map, length, slice_get, All, IfOk, IfSome, OnErr};
 ghost use Rattle.mig_packet.specs.PageSize.{IsPageSize};
+ghost use Rattle.mig_packet.specs.Reading.{settings, with_waiting};
 ghost use Rattle.mig_relay.specs.RelayItems.{as_channel_item, BeginsItems, IsOfPageSize};
 ghost use Rattle.mig_relay.specs.Cursor.{text_of};
 ghost use Rattle.mig_relay.specs.Relay.{at_start, so_far, TakesAt};
@@ -69,7 +70,31 @@ impl Relay {
         requires page_size { IsPageSize page_size }
         requires texts { (1 ≤ length texts.now) × (length texts.now ≤ 255) }
         requires capacity { (1 ≤ capacity) × (capacity ≤ 1024) }
-        ensures start { IfOk result (λ r. map so_far r.1 ≡ map (at_start page_size uuid.now (length texts.now)) texts.now) }
+        ensures start { IfOk result (λ r. map so_far r.1 ≡ map (at_start (settings page_size uuid.now (length texts.now))) texts.now) }
+        ensures same { IfOk result (λ r. r.0.items ≡ r.1) }
+    {
+        Relay::start_within(alloc, page_size, uuid, texts, capacity, None)
+    }
+
+    /// Makes a relay as `start` does, with the limit that `ChannelReader::new_within` takes: the
+    /// packets of a round of each channel may count `waiting` together. The stop of a channel that
+    /// passes it is the fault `Waiting`. `None` is no limit.
+    ///
+    /// # Errors
+    ///
+    /// `NoMemory`: an allocation was refused.
+    pub fn start_within<'a, A: Allocator + Copy, B: Allocator>(
+        alloc: A,
+        page_size: u64,
+        uuid: &Uuid,
+        texts: &'a [Vec<u8, B>],
+        capacity: usize,
+        waiting: Option<u64>,
+    ) -> Result<(Vec<Feeder<'a, A>, A>, Collector<'a, A>), NoMemory>
+        requires page_size { IsPageSize page_size }
+        requires texts { (1 ≤ length texts.now) × (length texts.now ≤ 255) }
+        requires capacity { (1 ≤ capacity) × (capacity ≤ 1024) }
+        ensures start { IfOk result (λ r. map so_far r.1 ≡ map (at_start (with_waiting waiting (settings page_size uuid.now (length texts.now)))) texts.now) }
         ensures same { IfOk result (λ r. r.0.items ≡ r.1) }
     {
         let mut feeders = Vec::new(alloc);
@@ -79,6 +104,8 @@ impl Relay {
                 page_size,
                 uuid: *uuid,
                 channels: texts.len(),
+                waiting,
+                room: waiting,
                 at: 0,
                 greeted: false,
                 unsynced: false,
@@ -100,19 +127,12 @@ fn open<'a, A: Allocator + Copy>(
     capacity: usize,
 ) -> Result<(Feeder<'a, A>, Channel<'a, A>), NoMemory>
     requires page_size { IsPageSize cursor.page_size }
-    requires start { (cursor.at ≡ 0) × (cursor.greeted ≡ false) × (cursor.unsynced ≡ false) }
+    requires start { (cursor.at ≡ 0) × (cursor.greeted ≡ false) × (cursor.unsynced ≡ false) × (cursor.room ≡ cursor.waiting) }
     requires capacity { 0 < capacity }
     ensures start { IfOk result (λ r. so_far r.1 ≡ (text_of cursor text.now, [])) }
     ensures same { IfOk result (λ r. r.0 ≡ r.1) }
 {
-    let (sender, feeding, receiver, collecting) = queue_for(
-        alloc,
-        cursor.page_size,
-        &cursor.uuid,
-        cursor.channels,
-        text,
-        capacity,
-    )?;
+    let (sender, feeding, receiver, collecting) = queue_for(alloc, &cursor, text, capacity)?;
     let feeder = Feeder {
         channel: j,
         count: 0,
@@ -123,6 +143,7 @@ fn open<'a, A: Allocator + Copy>(
     };
     let channel = Channel {
         page_size: cursor.page_size,
+        waiting: cursor.waiting,
         text,
         items: Vec::new(alloc),
         over: false,
@@ -147,6 +168,13 @@ impl<'a, A: Allocator> Collector<'a, A> {
         ensures relay { IsRelay self.now }
     {
         self.channels[0].page_size()
+    }
+
+    /// Returns the most that may wait in a round of each channel, as the relay was started with it.
+    pub fn waiting(&self) -> Option<u64>
+        ensures { All (λ p. p.source.waiting ≡ result) self.now }
+    {
+        self.channels[0].waiting()
     }
 
     /// Returns the items that were taken from channel `j`: its first ones, in order and complete.

@@ -1,7 +1,7 @@
 //! The load of the items of a relay, round by round. `load_multi` calls it while its workers run,
 //! and so may callers with a relay of their own.
 
-ghost use Rattle.std.specs.Prelude.{ℕ, ◌≡◌, ◌≢◌, ◌<◌, ◌≤◌, ◌^◌, [], List, None, map, replicate, is_ok, IsTrue, All, IfOk, OnOk};
+ghost use Rattle.std.specs.Prelude.{ℕ, ◌≡◌, ◌≢◌, ◌<◌, ◌≤◌, ◌^◌, [], List, Option, map, replicate, is_ok, IsTrue, All, IfOk, OnOk};
 ghost use Rattle.std.specs.List.{AllZip};
 ghost use Rattle.mig_packet.specs.Lent.{fields};
 ghost use Rattle.mig_answer.specs.declared.verdict.Verdict.TheVariants.{Running as running};
@@ -211,8 +211,8 @@ fn load_all<'a, R: Wait, A: Allocator + Copy>(
 
 /// Loads a guest from a complete main stream and the channels of a relay. It takes the items of a
 /// channel up to the round that is judged. It begins with those taken before, and waits for the
-/// feeders. The blocks may have `limit` bytes together. If a feeder was dropped before its stop,
-/// the call may wait for ever.
+/// feeders. The blocks may have `limit` bytes together. The relay's limit on what waits in a round
+/// is the main stream's too. If a feeder was dropped before its stop, the call may wait for ever.
 ///
 /// # Errors
 ///
@@ -230,8 +230,8 @@ pub fn load_relayed<'a, R: Wait, A: Allocator + Copy>(
     limit: u64,
 ) -> Loaded<A>
     requires limit { limit ≤ 2 ^ 40 }
-    ensures answer { (page_size : ℕ) (uuid : List ℕ) (texts : List (List ℕ)) → IsRelayOf page_size uuid texts collector.old
-        → IsAnswerOrWithoutMemory (ram_settings page_size limit) uuid (ended_texts main.now texts) (answer_of result) }
+    ensures answer { (page_size : ℕ) (waiting : Option ℕ) (uuid : List ℕ) (texts : List (List ℕ)) → IsRelayOf page_size waiting uuid texts collector.old
+        → IsAnswerOrWithoutMemory (record (ram_settings page_size limit) { waiting = waiting }) uuid (ended_texts main.now texts) (answer_of result) }
     ensures received { AllZip (HasReceived result.rounds (is_ok result.verdict)) collector.old collector.new }
 {
     let page_size = collector.page_size();
@@ -245,7 +245,8 @@ pub fn load_relayed<'a, R: Wait, A: Allocator + Copy>(
 }
 
 /// Loads a guest from a complete main stream, read with `settings`, and from the channels of a
-/// relay, as `load_relayed` does. The page size must be that of the relay.
+/// relay, as `load_relayed` does. Of `settings` the frame and the limit on bytes count: the page size
+/// and what may wait in a round are the relay's.
 ///
 /// # Errors
 ///
@@ -263,18 +264,19 @@ pub fn load_relayed_in<'a, R: Wait, A: Allocator + Copy>(
     settings: LoadSettings,
 ) -> Loaded<A>
     requires limit { settings.limit ≤ 2 ^ 40 }
-    ensures answer { (uuid : List ℕ) (texts : List (List ℕ)) → IsRelayOf settings.page_size uuid texts collector.old
-        → IsAnswerOrWithoutMemory settings uuid (ended_texts main.now texts) (answer_of result) }
+    ensures answer { (page_size : ℕ) (waiting : Option ℕ) (uuid : List ℕ) (texts : List (List ℕ)) → IsRelayOf page_size waiting uuid texts collector.old
+        → IsAnswerOrWithoutMemory (record settings { page_size = page_size; waiting = waiting }) uuid (ended_texts main.now texts) (answer_of result) }
     ensures received { AllZip (HasReceived result.rounds (is_ok result.verdict)) collector.old collector.new }
 {
     let page_size = collector.page_size();
+    let waiting = collector.waiting();
     let Ok(mut reader) = StreamReader::of_text_within(
         alloc,
         settings.frame,
         Mode::Main,
         page_size,
         settings.limit,
-        settings.waiting,
+        waiting,
         main,
     ) else {
         return without_memory();

@@ -5,8 +5,7 @@ ghost use Rattle.std.specs.Prelude.{◌≡◌, ◌≤◌, ◌^◌, length, IfOk}
 ghost use Rattle.mig_mem.specs.PageSize.{IsPageSize};
 ghost use Rattle.mig_stream.specs.Reader.{IsValidUpTo};
 ghost use Rattle.mig_packet.specs.Reader as channel;
-ghost use Rattle.mig_packet.specs.Reading.{settings as channel_settings};
-ghost use Rattle.mig_single_load.specs.Settings.{main_of};
+ghost use Rattle.mig_single_load.specs.Settings.{main_of, channel_of};
 ghost use Rattle.mig_answer.specs.MultiLoad.{bytes_of};
 ghost use Rattle.mig_relay.specs.Valid.{IsOriginValidUpTo};
 
@@ -50,7 +49,7 @@ pub fn multi_valid_up_to<A: Allocator + Copy, B: Allocator>(
                 return Ok(None);
             };
             let count = channels.len();
-            let at = channel_valid_up_to(alloc, settings.page_size, uuid, count, text.as_slice())?;
+            let at = channel_valid_up_to(alloc, settings, uuid, count, text.as_slice())?;
             Ok(Some(at))
         }
         Origin::Round => Ok(None),
@@ -82,16 +81,22 @@ fn main_valid_up_to<A: Allocator + Copy>(
 // Returns up to which byte a channel is valid.
 fn channel_valid_up_to<A: Allocator + Copy>(
     alloc: A,
-    page_size: u64,
+    settings: LoadSettings,
     uuid: &Uuid,
     channels: usize,
     text: &[u8],
 ) -> Result<u64, NoMemory>
-    requires page_size { IsPageSize page_size }
+    requires page_size { IsPageSize settings.page_size }
     requires channels { (1 ≤ channels) × (channels ≤ 255) }
-    ensures { IfOk result (channel.IsValidUpTo (channel_settings page_size uuid.now channels) text.now) }
+    ensures { IfOk result (channel.IsValidUpTo (channel_of settings uuid.now channels) text.now) }
 {
-    let mut reader = ChannelReader::new(alloc, page_size, *uuid, channels);
+    let mut reader = ChannelReader::new_within(
+        alloc,
+        settings.page_size,
+        *uuid,
+        channels,
+        settings.waiting,
+    );
     let Ok(()) = reader.feed(text) else {
         return Err(NoMemory);
     };

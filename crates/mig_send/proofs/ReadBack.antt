@@ -31,6 +31,7 @@ use Rattle.mig_packet.specs.Progress.{ChannelProgress, start, first_fault, after
 use Rattle.mig_packet.specs.Reading.{Front, Reads, Settings, settings}
 use Rattle.mig_packet.specs.ChannelItems.{Hello, Page, Stop}
 use Rattle.mig_packet.proofs.Judging.{hello_free, text_free}
+use Rattle.mig_packet.proofs.Waiting.{free_within}
 use Rattle.mig_packet.proofs.Fronts.{Front-none, Front-push, Front-append, no_head}
 use Rattle.mig_packet.proofs.ReadBack.{hello_back, packet_back}
 use Rattle.mig_send.specs.Batches.{BatchOfPages, IsBatch, batch_places}
@@ -44,9 +45,9 @@ use Rattle.mig_send.proofs.Cutting.{batches_fit}
 
 -- ---- a channel after its hello
 
--- a channel that was read so far: these rounds, and these packets of the next one
+-- a channel that was read so far without a limit: these rounds, and these packets of the next one
 abbrev at : Settings → ℕ → List (List (List ℕ)) → List (List ℕ) → ChannelProgress
-at given id rounds packets = record { page_size = given.page_size; uuid = given.uuid; channels = given.channels; hello = Some id; packets = packets; rounds = rounds }
+at given id rounds packets = record { page_size = given.page_size; uuid = given.uuid; channels = given.channels; waiting = None; hello = Some id; packets = packets; rounds = rounds }
 
 -- a packet with SYNC, or without
 abbrev IsPacketWith : ℕ → Bool → List ℕ → Type 0
@@ -56,7 +57,8 @@ IsPacketWith page_size sync packet = IsPacketText page_size packet × (is_sync p
 one_packet : (given : Settings) (id : ℕ) (rounds : List (List (List ℕ))) (packets : List (List ℕ)) (packet : List ℕ) → IsPacketText given.page_size packet
     → Front (at given id rounds packets) packet (after (at given id rounds packets) packet)
 one_packet given id rounds packets packet is =
-    Front-push (at given id rounds packets) (at given id rounds packets) [] packet (Front-none (at given id rounds packets)) is.has_length (text_free given.page_size packet is)
+    Front-push (at given id rounds packets) (at given id rounds packets) [] packet (Front-none (at given id rounds packets)) is.has_length
+    (free_within given.page_size None packet (text_free given.page_size packet is) refl)
 
 -- packets without SYNC are read one after another
 packets_read : (given : Settings) (id : ℕ) (rounds : List (List (List ℕ))) (packets more : List (List ℕ)) → All (IsPacketWith given.page_size false) more
@@ -221,9 +223,9 @@ rounds_read given id before channel (round ∷ rounds) all =
 whole_read : (given : Settings) (channel : ℕ) (rounds : List DealtRound) → length given.uuid ≡ 16 → channel < given.channels
     → All (λ (round : DealtRound). (round.snapshot.image.table.page_size ≡ given.page_size)
     × IsShareRead given.page_size round.base round.snapshot.image round.batches (get_or round.shares channel no_share)) rounds
-    → Reads (start given.page_size given.uuid given.channels) (channel_text given.uuid rounds channel) (at given channel (map (round_packets channel) rounds) []) [] Reading
+    → Reads (start given.page_size given.uuid given.channels None) (channel_text given.uuid rounds channel) (at given channel (map (round_packets channel) rounds) []) [] Reading
 whole_read given channel rounds long lt all =
-    let c = start given.page_size given.uuid given.channels in
+    let c = start given.page_size given.uuid given.channels None in
     let hello = written_hello given.uuid channel in
     let is = hello_back given.uuid channel long in
     let first : Front c hello (at given channel [] []) =
@@ -254,13 +256,13 @@ numbers_below from (round ∷ rounds) are =
 
 each_read : (table : RamTable) (uuid : List ℕ) (limit channels : ℕ) (rounds : List DealtRound) (main_text : List ℕ) (texts : List (List ℕ))
     → IsSending table uuid limit channels rounds main_text texts → (channel : ℕ) → channel < channels
-    → Reads (start table.page_size uuid channels) (get_or texts channel []) (at (settings table.page_size uuid channels) channel (map (round_packets channel) rounds) []) [] Reading
+    → Reads (start table.page_size uuid channels None) (get_or texts channel []) (at (settings table.page_size uuid channels) channel (map (round_packets channel) rounds) []) [] Reading
 each_read table uuid limit channels rounds main_text texts is channel lt =
     let given = settings table.page_size uuid channels in
     let text : get_or texts channel [] ≡ channel_text uuid rounds channel =
     ap (λ (l : List (List ℕ)). get_or l channel []) is.has_texts ∙ get_or-map-range_with_len (channel_text uuid rounds) 0 channels channel channel [] lt (omega arith) in
     let below = numbers_below 0 rounds is.are_numbered in
-    subst (λ (l : List ℕ). Reads (start table.page_size uuid channels) l (at given channel (map (round_packets channel) rounds) []) [] Reading) (sym text)
+    subst (λ (l : List ℕ). Reads (start table.page_size uuid channels None) l (at given channel (map (round_packets channel) rounds) []) [] Reading) (sym text)
     (whole_read given channel rounds is.is_set.has_uuid lt (λ i d within.
     let dealt = is.are_dealt i d within in (
       ap (λ (t : RamTable). t.page_size) dealt.has_table,

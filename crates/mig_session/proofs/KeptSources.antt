@@ -14,8 +14,8 @@ use Rattle.mig_packet.specs.Reader.{IsValidUpTo}
 use Rattle.mig_packet.specs.Packet.{Fields, fields_of}
 use Rattle.mig_packet.specs.Lent.{fields}
 use Rattle.mig_packet.specs.declared.packet.Packet.{Packet}
-use Rattle.mig_packet.specs.Reading.{Settings, settings, ChannelReading, IsReading}
-use Rattle.mig_single_load.specs.Settings.{main_of}
+use Rattle.mig_packet.specs.Reading.{Settings, ChannelReading, IsReading}
+use Rattle.mig_single_load.specs.Settings.{main_of, channel_of}
 use Rattle.mig_single_load.specs.declared.settings.LoadSettings.{LoadSettings}
 use Rattle.mig_single_load.specs.declared.fault.Origin.TheVariants as origin
 use Rattle.mig_session.specs.declared.counts.Count.{Count}
@@ -107,7 +107,7 @@ pub tells_all : (k : ℕ) (s : FedSources) (main_told : Status) (statuses : List
     → TellsMainStatus s.main main_told → AllZip TellsChannelStatus s.channels statuses → AllZip TellsHello s.channels hellos → repeated ≡ repeated_hello hellos
     → told ≡ first_some (verdicts_told k (main_standing main_told) (standings statuses) repeated) → TellsAll k s told
 tells_all k s main_told statuses hellos repeated told tells_main tells_channels tells_hellos again e = λ given uuid texts readings size holds are.
-    let channel_given = settings given.page_size uuid (length texts.channels) in
+    let channel_given = channel_of given uuid (length texts.channels) in
     let m : main_told ≡ main_status k readings.main = tells_main given k texts.main readings.main size holds.main are.has_main in
     let c : standings statuses ≡ channels_at k readings =
     ap standings (statuses_are channel_given k texts.channels readings.channels s.channels statuses size holds.channels are.has_channels tells_channels)
@@ -125,14 +125,14 @@ pub main_steps : (given : LoadSettings) (uuid : List ℕ) (k : ℕ) (step : Text
 main_steps given uuid k step texts s m holds here = record { main = here; channels = holds.channels }
 
 pub channel_steps : (given : LoadSettings) (uuid : List ℕ) (k j : ℕ) (step : Text → Text) (texts : Texts) (s : FedSources) (c : FedChannel) → Holds given uuid k texts s
-    → HoldsChannel (settings given.page_size uuid (length texts.channels)) k (step (get_or texts.channels j no_text)) c
+    → HoldsChannel (channel_of given uuid (length texts.channels)) k (step (get_or texts.channels j no_text)) c
     → Holds given uuid k (at_source (source.Channel j) step texts) (record s { channels = set s.channels j c })
 channel_steps given uuid k j step texts s c holds here =
     let text : Text = step (get_or texts.channels j no_text) in
-    let channel_given = settings given.page_size uuid (length texts.channels) in
+    let channel_given = channel_of given uuid (length texts.channels) in
     record {
       main = holds.main;
-      channels = subst (λ (n : ℕ). AllZip (HoldsChannel (settings given.page_size uuid n) k) (set texts.channels j text) (set s.channels j c)) (sym (length-set texts.channels j text))
+      channels = subst (λ (n : ℕ). AllZip (HoldsChannel (channel_of given uuid n) k) (set texts.channels j text) (set s.channels j c)) (sym (length-set texts.channels j text))
           (zip_set (HoldsChannel channel_given k) texts.channels s.channels j text c holds.channels here);
     }
 
@@ -143,11 +143,11 @@ pub main_noted : (given : LoadSettings) (uuid : List ℕ) (step : Text → Text)
 main_noted given uuid step texts places n o have valid closed = record { main = valid; closed = closed; channels = have.channels }
 
 pub channel_noted : (given : LoadSettings) (uuid : List ℕ) (j : ℕ) (step : Text → Text) (texts : Texts) (places : Places) (n : ℕ) → HasPlaces given uuid texts places
-    → IsValidUpTo (settings given.page_size uuid (length (at_source (source.Channel j) step texts).channels)) (step (get_or texts.channels j no_text)).bytes n
+    → IsValidUpTo (channel_of given uuid (length (at_source (source.Channel j) step texts).channels)) (step (get_or texts.channels j no_text)).bytes n
     → HasPlaces given uuid (at_source (source.Channel j) step texts) (record places { channels = set places.channels j n })
 channel_noted given uuid j step texts places n have valid =
     let text : Text = step (get_or texts.channels j no_text) in
-    let are_valid : ℕ → Text → ℕ → Type 0 = λ many t m. IsValidUpTo (settings given.page_size uuid many) t.bytes m in
+    let are_valid : ℕ → Text → ℕ → Type 0 = λ many t m. IsValidUpTo (channel_of given uuid many) t.bytes m in
     record {
       main = have.main;
       closed = have.closed;
@@ -157,10 +157,10 @@ channel_noted given uuid j step texts places n have valid =
 
 -- the channel that was read represents the stream with the step
 pub channel_stands : (given : LoadSettings) (uuid : List ℕ) (k j : ℕ) (step : Text → Text) (texts : Texts) (s : FedSources) (c : FedChannel) → Holds given uuid k (at_source (source.Channel j) step texts) s → slice_get s.channels j ≡ Some c
-    → HoldsChannel (settings given.page_size uuid (length (at_source (source.Channel j) step texts).channels)) k (step (get_or texts.channels j no_text)) c
+    → HoldsChannel (channel_of given uuid (length (at_source (source.Channel j) step texts).channels)) k (step (get_or texts.channels j no_text)) c
 channel_stands given uuid k j step texts s c holds there =
     let text : Text = step (get_or texts.channels j no_text) in
-    zip_here (HoldsChannel (settings given.page_size uuid (length (set texts.channels j text))) k) texts.channels s.channels j text c holds.channels there
+    zip_here (HoldsChannel (channel_of given uuid (length (set texts.channels j text))) k) texts.channels s.channels j text c holds.channels there
 
 -- ---- all go on to the next round
 
@@ -180,7 +180,7 @@ pub holds_next : (given : LoadSettings) (uuid : List ℕ) (k : ℕ) (texts : Tex
     → Holds given uuid k texts old → Holds given uuid (k + 1) texts new
 holds_next given uuid k texts old new have takes_main takes holds = record {
   main = takes_main (main_of given) (k + 1) texts.main (main.stands_next (main_of given) k texts.main old.main holds.main have.main);
-  channels = channels_next (settings given.page_size uuid (length texts.channels)) k texts.channels old.channels new.channels holds.channels takes have.channels;
+  channels = channels_next (channel_of given uuid (length texts.channels)) k texts.channels old.channels new.channels holds.channels takes have.channels;
 }
 
 -- ---- the round that is judged
@@ -206,7 +206,7 @@ have_round given uuid k texts readings s size holds are due =
     let whole = (due_sources k readings due).0 in
     record {
       main = main.whole_waits given k texts.main s.main readings.main size holds.main are.has_main (All-head IsWhole (main_at k readings) (channels_at k readings) whole);
-      channels = channels_have (settings given.page_size uuid (length texts.channels)) k 0 texts.channels readings.channels s.channels size holds.channels are.has_channels
+      channels = channels_have (channel_of given uuid (length texts.channels)) k 0 texts.channels readings.channels s.channels size holds.channels are.has_channels
           (All-tail IsWhole (main_at k readings) (channels_at k readings) whole);
     }
 
@@ -226,7 +226,7 @@ packets_are given k (text ∷ texts) (r ∷ readings) (c ∷ channels) size hold
 pub packets_here : (given : LoadSettings) (uuid : List ℕ) (k : ℕ) (texts : Texts) (readings : Readings) (s : FedSources) → IsPageSize given.page_size → Holds given uuid k texts s
     → AreReadings given uuid texts readings → packets_of_all s.channels ≡ packets_at given.page_size k readings
 packets_here given uuid k texts readings s size holds are =
-    packets_are (settings given.page_size uuid (length texts.channels)) k texts.channels readings.channels s.channels size holds.channels are.has_channels
+    packets_are (channel_of given uuid (length texts.channels)) k texts.channels readings.channels s.channels size holds.channels are.has_channels
 
 sizes_are : (given : Settings) (k : ℕ) (texts : List Text) (channels : List FedChannel) → AllZip (HoldsChannel given k) texts channels → All (IsOfSize given.page_size) channels
 sizes_are given k [] [] holds = All-nil (IsOfSize given.page_size)
@@ -236,7 +236,7 @@ sizes_are given k (text ∷ texts) (c ∷ channels) holds =
     All-cons (IsOfSize given.page_size) c channels (channel.of_size given k text c holds.0) (sizes_are given k texts channels holds.1)
 
 pub sizes_here : (given : LoadSettings) (uuid : List ℕ) (k : ℕ) (texts : Texts) (s : FedSources) → Holds given uuid k texts s → All (IsOfSize given.page_size) s.channels
-sizes_here given uuid k texts s holds = sizes_are (settings given.page_size uuid (length texts.channels)) k texts.channels s.channels holds.channels
+sizes_here given uuid k texts s holds = sizes_are (channel_of given uuid (length texts.channels)) k texts.channels s.channels holds.channels
 
 -- ---- one element more, in a loop
 

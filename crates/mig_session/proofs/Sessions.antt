@@ -20,12 +20,12 @@ use Rattle.mig_packet.specs.Reader as channel
 use Rattle.mig_packet.specs.declared.state.ChannelState.TheVariants as channel_state
 use Rattle.mig_packet.specs.Progress.{ChannelProgress, start as channel_start}
 use Rattle.mig_packet.proofs.Feeding.{reads_short as channel_short}
-use Rattle.mig_packet.specs.Reading.{Settings, settings, ChannelReading, IsReading, Reads as ChannelReads}
+use Rattle.mig_packet.specs.Reading.{Settings, ChannelReading, IsReading, Reads as ChannelReads}
 use Rattle.mig_assemble.specs.Target.{LoadTarget}
 use Rattle.mig_session.specs.declared.counts.Count.{Count}
 use Rattle.mig_session.specs.declared.source.Source.{Source}
 use Rattle.mig_session.specs.declared.source.Source.TheVariants as source
-use Rattle.mig_single_load.specs.Settings.{main_of}
+use Rattle.mig_single_load.specs.Settings.{main_of, channel_of}
 use Rattle.mig_single_load.specs.declared.settings.LoadSettings.{LoadSettings}
 use Rattle.mig_single_load.specs.declared.fault.Origin.TheVariants as origin
 use Rattle.mig_answer.specs.declared.status.Status.{Status}
@@ -66,7 +66,7 @@ held_counts given uuid k texts s holds =
     ap (λ (n : ℕ). record { fed = n; ended = s.main.reader.ended }) holds.main.stands.has_fed
     ∙ ap (λ (b : Bool). record { fed = length texts.main.bytes; ended = b }) holds.main.stands.has_ended in
     ap (λ (x : Count). record { main = x; channels = map channel_count s.channels }) m
-    ∙ ap (λ (l : List Count). record { main = count_in texts.main; channels = l }) (channels_counted (settings given.page_size uuid (length texts.channels)) k texts.channels s.channels holds.channels)
+    ∙ ap (λ (l : List Count). record { main = count_in texts.main; channels = l }) (channels_counted (channel_of given uuid (length texts.channels)) k texts.channels s.channels holds.channels)
 
 -- a stream that takes a step has the count that does
 channel_stepped : (j : ℕ) (step : Text → Text) (by : Count → Count) (texts : List Text) → ((text : Text) → count_in (step text) ≡ by (count_in text))
@@ -267,7 +267,7 @@ main_open given =
 
 channel_first : (given : Settings) → channel.IsValidUpTo given [] 0
 channel_first given =
-    let begin : ChannelProgress = channel_start given.page_size given.uuid given.channels in
+    let begin : ChannelProgress = channel_start given.page_size given.uuid given.channels given.waiting in
     let reads : ChannelReads begin [] begin [] channel_state.Reading = channel_short begin [] (record { has_no_fault = refl; is_short = λ le. absurd (omega (arith, le)) }) in
     record { to = begin; rest = []; found = channel_state.Reading; reads = reads; has_length = omega (arith, ap (λ (l : List ℕ). length l) reads.has_text, length-append reads.front []) }
 
@@ -279,7 +279,7 @@ pub places_first : (given : LoadSettings) (uuid : List ℕ) (n : ℕ) (places : 
 places_first given uuid n places is = rw is record {
   main = main_first given;
   closed = main_open given;
-  channels = channels_first (settings given.page_size uuid (length (replicate n no_text))) n;
+  channels = channels_first (channel_of given uuid (length (replicate n no_text))) n;
 }
 
 pub stands_at_first : (given : LoadSettings) (uuid : List ℕ) (n : ℕ) (sources : FedSources) (counts : Counts) (places : Option Places) → IsPageSize given.page_size
@@ -442,14 +442,14 @@ pub still_told : (given : LoadSettings) (uuid : List ℕ) (k : ℕ) (from : Sour
     → AreReadings given uuid (end_step from texts) now → IsFirstStop before k → Running ≡ verdict_at k before → IsDue k now → ⊥
 still_told given uuid k from texts before now size are_before are_now stop running due =
     let whole = (due_sources k now due).0 in
-    let channel_given = settings given.page_size uuid (length texts.channels) in
+    let channel_given = channel_of given uuid (length texts.channels) in
     settled_is_told k before stop
     (All-cons IsSettled (main_at k before) (channels_at k before)
     (settled_before k (length before.main.rounds) (length now.main.rounds) (stream_end before.main.state) (stream_end now.main.state)
     (ap (λ (l : List (List PageRecord)). length l) (main_rounds given texts.main (end_step from texts).main before.main now.main size (main_bytes from texts) are_before.has_main are_now.has_main))
     (stream_ends now.main.state) (All-head IsWhole (main_at k now) (channels_at k now) whole))
     (channels_before channel_given k 0 texts.channels (end_step from texts).channels before.channels now.channels (channel_bytes from texts) are_before.has_channels
-    (subst (λ (n : ℕ). Are (settings given.page_size uuid n) (end_step from texts).channels now.channels) (as_many from texts) are_now.has_channels)
+    (subst (λ (n : ℕ). Are (channel_of given uuid n) (end_step from texts).channels now.channels) (as_many from texts) are_now.has_channels)
     (All-tail IsWhole (main_at k now) (channels_at k now) whole)))
     (sym running)
 
@@ -525,8 +525,8 @@ places_ended given uuid source.Main texts (Some places) have = record { main = h
 places_ended given uuid (source.Channel j) texts (Some places) have = record {
   main = have.main;
   closed = have.closed;
-  channels = subst (λ (n : ℕ). AllZip (λ (text : Text) (m : ℕ). channel.IsValidUpTo (settings given.page_size uuid n) text.bytes m) (set texts.channels j (over (get_or texts.channels j no_text))) places.channels)
-      (sym (length-set texts.channels j (over (get_or texts.channels j no_text)))) (places_over (settings given.page_size uuid (length texts.channels)) j texts.channels places.channels have.channels);
+  channels = subst (λ (n : ℕ). AllZip (λ (text : Text) (m : ℕ). channel.IsValidUpTo (channel_of given uuid n) text.bytes m) (set texts.channels j (over (get_or texts.channels j no_text))) places.channels)
+      (sym (length-set texts.channels j (over (get_or texts.channels j no_text)))) (places_over (channel_of given uuid (length texts.channels)) j texts.channels places.channels have.channels);
 }
 
 -- a piece was taken
@@ -683,7 +683,7 @@ source_read given uuid texts s p source.Main stands some there = (places_read gi
 source_read given uuid texts s p (source.Channel j) stands some there =
     let read : Texts = stands.read in
     let below : j < length (map count_in texts.channels) = subst (λ (c : Counts). j < length c.channels) stands.has_counts there in
-    let here = valid_at (λ (text : Text) (n : ℕ). channel.IsValidUpTo (settings given.page_size uuid (length read.channels)) text.bytes n) read.channels p.channels j
+    let here = valid_at (λ (text : Text) (n : ℕ). channel.IsValidUpTo (channel_of given uuid (length read.channels)) text.bytes n) read.channels p.channels j
     (places_read given uuid texts s p stands some).channels
     (omega (arith, below, length-map texts.channels count_in, as_many_texts read.channels texts.channels stands.goes_on.channels)) in
     subst (λ (o : Option ℕ). IsSourceValidUpTo given uuid read (source.Channel j) o) (sym here.1) here.2

@@ -9,9 +9,8 @@ use Rattle.mig_stream.specs.declared.item.Frame.TheVariants.{Machine}
 use Rattle.mig_stream.specs.Reader as stream
 use Rattle.mig_stream.specs.Text.{total_bytes}
 use Rattle.mig_packet.specs.Reader as channel
-use Rattle.mig_packet.specs.Reading.{settings}
 use Rattle.mig_send.specs.DealtRounds.{DealtRound}
-use Rattle.mig_single_load.specs.Settings.{ram_settings, main_of}
+use Rattle.mig_single_load.specs.Settings.{ram_settings, main_of, channel_of}
 use Rattle.mig_single_load.specs.declared.settings.LoadSettings.{LoadSettings}
 use Rattle.mig_session.specs.declared.counts.Count.{Count}
 use Rattle.mig_session.specs.declared.source.Source.{Source}
@@ -114,7 +113,7 @@ place_of places (source.Channel j) = slice_get places.channels j
 pub record HasPlaces (given : LoadSettings) (uuid : List ℕ) (texts : Texts) (places : Places) : Type 0 where
   pub main : stream.IsValidUpTo (main_of given) texts.main.bytes places.main
   pub closed : stream.HasClosedAt (main_of given) texts.main.bytes places.closed_at
-  pub channels : AllZip (λ (text : Text) (n : ℕ). channel.IsValidUpTo (settings given.page_size uuid (length texts.channels)) text.bytes n) texts.channels places.channels
+  pub channels : AllZip (λ (text : Text) (n : ℕ). channel.IsValidUpTo (channel_of given uuid (length texts.channels)) text.bytes n) texts.channels places.channels
 
 abbrev pub HavePlaces : LoadSettings → List ℕ → Texts → Option Places → Type 0
 HavePlaces given uuid texts None = ⊥
@@ -125,7 +124,7 @@ abbrev pub IsSourceValidUpTo : LoadSettings → List ℕ → Texts → Source �
 IsSourceValidUpTo given uuid texts from None = ⊥
 IsSourceValidUpTo given uuid texts source.Main (Some n) = stream.IsValidUpTo (main_of given) texts.main.bytes n
 IsSourceValidUpTo given uuid texts (source.Channel j) (Some n) =
-    channel.IsValidUpTo (settings given.page_size uuid (length texts.channels)) (get_or texts.channels j no_text).bytes n
+    channel.IsValidUpTo (channel_of given uuid (length texts.channels)) (get_or texts.channels j no_text).bytes n
 
 -- ---- the streams, and the session's answer on them
 

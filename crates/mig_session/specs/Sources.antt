@@ -13,7 +13,7 @@ use Rattle.mig_stream.specs.Reader as stream_reader
 use Rattle.mig_packet.specs.Packet.{Fields, fields_of}
 use Rattle.mig_packet.specs.Reading as channel
 use Rattle.mig_packet.specs.Reader as channel_reader
-use Rattle.mig_single_load.specs.Settings.{main_of}
+use Rattle.mig_single_load.specs.Settings.{main_of, channel_of}
 use Rattle.mig_single_load.specs.declared.settings.LoadSettings.{LoadSettings}
 use Rattle.mig_session.specs.declared.counts.Count.{Count}
 use Rattle.mig_answer.specs.declared.status.Status.{Status}
@@ -98,7 +98,7 @@ pub record HoldsChannel (given : channel.Settings) (k : ℕ) (text : Text) (c : 
 -- this much of each source was fed, and the first k rounds were judged
 pub record Holds (given : LoadSettings) (uuid : List ℕ) (k : ℕ) (texts : Texts) (s : FedSources) : Type 0 where
   pub main : HoldsMain (main_of given) k texts.main s.main
-  pub channels : AllZip (HoldsChannel (channel.settings given.page_size uuid (length texts.channels)) k) texts.channels s.channels
+  pub channels : AllZip (HoldsChannel (channel_of given uuid (length texts.channels)) k) texts.channels s.channels
 
 -- ---- the status of a source
 

@@ -3,15 +3,17 @@
 ghost use Rattle.std.specs.Prelude.{ℕ, true, false, ◌≡◌, ◌+◌, ◌++◌, ◌<◌, ◌≤◌, ◌^◌, IsFalse, OnOk, OnErr, All, length, map};
 ghost use Rattle.mig_packet.specs.PageSize.{IsPageSize};
 ghost use Rattle.mig_packet.specs.Lent.{fields};
-ghost use Rattle.mig_packet.specs.Reading.{Settings, settings};
+ghost use Rattle.mig_packet.specs.Reading.{Settings};
 ghost use Rattle.mig_packet.specs.Reader.{IsValidUpTo};
 ghost use Rattle.mig_answer.specs.Texts.{Text, no_text, with_piece, over};
 ghost use Rattle.mig_session.specs.Sources.{HoldsChannel, TakesChannel, TellsChannelStatus, TellsHello, channel_count, packets_of, IsOfSize};
+ghost use Rattle.mig_single_load.specs.Settings.{channel_of};
 
 use mig_answer::{Status, channel_end};
 use mig_assemble::Gathered;
 use mig_mem::NoMemory;
 use mig_packet::{ChannelReader, PacketRound};
+use mig_single_load::LoadSettings;
 use std::alloc::{Allocator, Global};
 use std::marker::Model;
 use uuid::Uuid;
@@ -34,14 +36,25 @@ impl<A: Allocator> Model for ChannelSource<A> {
 
 impl<A: Allocator + Copy> ChannelSource<A> {
     /// Creates a channel before its first byte.
-    pub(crate) fn new(alloc: A, page_size: u64, uuid: Uuid, channels: usize) -> ChannelSource<A>
-        requires page_size { IsPageSize page_size }
+    pub(crate) fn new(
+        alloc: A,
+        settings: LoadSettings,
+        uuid: Uuid,
+        channels: usize,
+    ) -> ChannelSource<A>
+        requires page_size { IsPageSize settings.page_size }
         requires channels { (0 < channels) × (channels ≤ 255) }
-        ensures holds { HoldsChannel (settings page_size uuid channels) 0 no_text result }
+        ensures holds { HoldsChannel (channel_of settings uuid channels) 0 no_text result }
         ensures count { channel_count result ≡ record { fed = 0; ended = false } }
     {
         let mut source = ChannelSource {
-            reader: ChannelReader::new(alloc, page_size, uuid, channels),
+            reader: ChannelReader::new_within(
+                alloc,
+                settings.page_size,
+                uuid,
+                channels,
+                settings.waiting,
+            ),
             round: None,
         };
         source.advance();

@@ -7,9 +7,8 @@ ghost use Rattle.mig_mem.specs.PageSize.{IsPageSize};
 ghost use Rattle.std.specs.Option.{option_copied};
 ghost use Rattle.mig_stream.specs.Reader.{HasTable};
 ghost use Rattle.mig_packet.specs.Lent.{fields};
-ghost use Rattle.mig_packet.specs.Reading.{settings};
 ghost use Rattle.mig_single_load.specs.declared.settings.LoadSettings.{LoadSettings};
-ghost use Rattle.mig_single_load.specs.Settings.{main_of};
+ghost use Rattle.mig_single_load.specs.Settings.{main_of, channel_of};
 ghost use Rattle.mig_answer.specs.Texts.{Text, Texts, no_text, no_texts};
 ghost use Rattle.mig_answer.specs.MultiLoad.{repeated_hello};
 ghost use Rattle.mig_session.specs.Sources.{FedSources, Holds, HoldsChannel, counts_of, channel_count, TellsChannelStatus, TellsHello, TellsAll, HaveRound, TakesChannel, packets_of_all, IsOfSize, main_waiting};
@@ -53,18 +52,18 @@ impl<A: Allocator> Model for Sources<A> {
 // Creates channels before their first bytes.
 fn no_channels<A: Allocator + Copy>(
     alloc: A,
-    page_size: u64,
+    settings: LoadSettings,
     uuid: &Uuid,
     channels: usize,
 ) -> Result<Vec<ChannelSource<A>, A>, NoMemory>
-    requires page_size { IsPageSize page_size }
+    requires page_size { IsPageSize settings.page_size }
     requires channels { (1 ≤ channels) × (channels ≤ 255) }
-    ensures holds { IfOk result (λ v. AllZip (HoldsChannel (settings page_size uuid.now channels) 0) (replicate channels no_text) v.items) }
+    ensures holds { IfOk result (λ v. AllZip (HoldsChannel (channel_of settings uuid.now channels) 0) (replicate channels no_text) v.items) }
     ensures counts { IfOk result (λ v. map channel_count v.items ≡ replicate channels no_count) }
 {
     let mut sources = Vec::with_capacity(alloc, channels)?;
     for _ in 0..channels {
-        sources.push_reserved(ChannelSource::new(alloc, page_size, *uuid, channels));
+        sources.push_reserved(ChannelSource::new(alloc, settings, *uuid, channels));
     }
     Ok(sources)
 }
@@ -134,7 +133,7 @@ impl<A: Allocator + Copy> Sources<A> {
         ensures holds { IfOk result (λ s. Holds settings uuid.now 0 (no_texts channels) s) }
         ensures counts { IfOk result (λ s. counts_of s ≡ record { main = no_count; channels = replicate channels no_count }) }
     {
-        let sources = no_channels(alloc, settings.page_size, uuid, channels)?;
+        let sources = no_channels(alloc, settings, uuid, channels)?;
         Ok(Sources {
             alloc,
             main: MainSource::new(alloc, settings),

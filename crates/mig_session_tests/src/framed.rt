@@ -3,7 +3,7 @@
 //! session takes.
 
 use crate::feeding::text_of;
-use crate::texts::{main_of, page_and_zeros, put_sync};
+use crate::texts::{hello_of, main_of, one, page_and_zeros, put_sync};
 use mig_answer::Verdict;
 use mig_fixtures::{TestHeap, at, has_byte, is_full};
 use mig_mem::NoMemory;
@@ -17,7 +17,7 @@ use uuid::Uuid;
 
 const FRAMES: [Frame; 2] = [Frame::Ram, Frame::Machine];
 
-const CHANNEL: Source = Source::Channel(0);
+pub(crate) const CHANNEL: Source = Source::Channel(0);
 
 fn append(rt: &impl Abort, text: &mut Vec<u8>, piece: &[u8]) {
     assert!(rt; text.extend_from_slice(piece).is_ok());
@@ -58,8 +58,8 @@ fn feed<A: Allocator + Copy>(
     session.feed(source, piece)
 }
 
-// Feeds the channel and then the main stream in pieces of `len` bytes, up to the first refusal.
-fn feed_all<A: Allocator + Copy>(
+/// Feeds the channel and then the main stream in pieces of `len` bytes, up to the first refusal.
+pub(crate) fn feed_all<A: Allocator + Copy>(
     rt: &impl Abort,
     session: &mut Session<A>,
     texts: &Sent,
@@ -73,7 +73,8 @@ fn feed_all<A: Allocator + Copy>(
     Ok(())
 }
 
-fn end<A: Allocator>(rt: &impl Abort, session: &mut Session<A>, source: Source) {
+/// Ends a source that the session has.
+pub(crate) fn end<A: Allocator>(rt: &impl Abort, session: &mut Session<A>, source: Source) {
     assert!(rt; session.has(source));
     session.end(source);
 }
@@ -191,11 +192,10 @@ fn sources_and_room(rt: HostRuntime) {
 }
 
 // Two rounds of a guest of three pages, each with a record of page 2 as zeros in the main stream
-// before its FLUSH: the round of `page_and_zeros`, and a round that has only SYNC packets. The
-// FLUSHes begin with bytes 61 and 87 of a main stream without records.
+// before its FLUSH, and with a SYNC packet on the channel. The FLUSHes begin with bytes 61 and 87 of
+// a main stream without records.
 fn texts_with_records(rt: &(impl AllocGlobal + Abort)) -> Sent {
     const RECORD: &[u8] = b"\x00\x00\x00\x00\x00\x00\x20\x02\x01a\x00";
-    let mut texts = page_and_zeros(rt);
     let flushes = main_of(rt, 3, 2);
     let mut main = Vec::new(rt.alloc());
     append(rt, &mut main, flushes.get(..61).expect(rt, "a PART's head"));
@@ -203,15 +203,14 @@ fn texts_with_records(rt: &(impl AllocGlobal + Abort)) -> Sent {
     append(rt, &mut main, flushes.get(61..87).expect(rt, "a FLUSH"));
     append(rt, &mut main, RECORD);
     append(rt, &mut main, flushes.get(87..).expect(rt, "a FLUSH"));
-    texts.main = main;
-    for channel in &mut texts.channels {
-        put_sync(rt, channel, 2);
-    }
-    texts
+    let mut channel = hello_of(rt, 0);
+    put_sync(rt, &mut channel, 0);
+    put_sync(rt, &mut channel, 1);
+    one(rt, main, channel)
 }
 
-// If one record may wait, each round has room for its own, since a FLUSH ends the round before. If
-// none may wait, the first one is a fault.
+// If one record may wait, each round has room for its own, since a FLUSH ends the round before. So
+// it is with the packet of each round. If none may wait, the main stream is judged first.
 #[test]
 fn page_records_that_may_wait(rt: HostRuntime) {
     let texts = texts_with_records(&rt);

@@ -31,4 +31,6 @@ mod telling;
 #[cfg(test)]
 mod texts;
 #[cfg(test)]
+mod waiting;
+#[cfg(test)]
 mod worked;

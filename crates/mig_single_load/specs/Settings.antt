@@ -1,9 +1,10 @@
 -- The settings that a caller passes to a load with its streams, and those of the streams' readers.
-use Rattle.std.specs.Prelude.{ℕ, None}
+use Rattle.std.specs.Prelude.{ℕ, List, None}
 use Rattle.mig_mem.specs.RamTable.{RamTable}
 use Rattle.mig_stream.specs.declared.item.Frame.TheVariants.{Ram}
 use Rattle.mig_stream.specs.declared.item.Mode.TheVariants.{Single, Main}
 use Rattle.mig_stream.specs.Reading.{Settings, settings, in_frame, with_waiting}
+use Rattle.mig_packet.specs.Reading as channel
 use Rattle.mig_single_load.specs.declared.settings.LoadSettings.{LoadSettings}
 
 -- for a stream of RAM's sections alone
@@ -21,3 +22,7 @@ single_of given = with_waiting given.waiting (in_frame given.frame (settings Sin
 -- the settings of the reader of a main stream
 abbrev pub main_of : LoadSettings → Settings
 main_of given = with_waiting given.waiting (in_frame given.frame (settings Main given.page_size given.limit))
+
+-- the settings of the reader of one of so many channels under this UUID
+abbrev pub channel_of : LoadSettings → List ℕ → ℕ → channel.Settings
+channel_of given uuid channels = channel.with_waiting given.waiting (channel.settings given.page_size uuid channels)

@@ -31,10 +31,11 @@ pub struct LoadSettings {
     pub limit: u64,
     /// The stream's frame: RAM's sections alone, or a machine's stream.
     pub frame: Frame,
-    /// The most page records of a section of a single stream, or of a round of a main stream: these
-    /// wait until it is complete. One more is the fault `StreamFault::Waiting`. `None` is any
-    /// number. Every load tests it, also one that keeps no records, so that all have one result.
-    /// The packets of channels aren't counted.
+    /// The most page records that a section of a single stream may have, or a round of a main
+    /// stream: these wait until it is complete. One more is the fault `StreamFault::Waiting`. Each
+    /// channel may have as many pages and packets together in a round. One more is the fault
+    /// `ChannelFault::Waiting`. `None` is any number. Every load tests it, also one that keeps no
+    /// records or packets, so that all have one result.
     pub waiting: Option<u64>,
 }
 
@@ -59,7 +60,8 @@ impl LoadSettings {
         LoadSettings { frame, ..self }
     }
 
-    /// Returns the settings with at most `waiting` page records in a section or a round.
+    /// Returns the settings with at most `waiting` page records in a section or a round, and as many
+    /// pages and packets in a round of a channel.
     pub fn with_waiting(self, waiting: Option<u64>) -> LoadSettings
         ensures { result ≡ record self { waiting = waiting } }
     {

@@ -284,8 +284,8 @@
 //!
 //! # LoadSettings
 //!
-//! Take it for a machine's stream, as QEMU writes it, or to bound the page records that wait
-//! (`with_waiting`). Each load has a sibling `.._in` that takes it:
+//! Take it for a machine's stream, as QEMU writes it, or to bound what waits for the end of its
+//! round (`with_waiting`). Each load has a sibling `.._in` that takes it:
 //!
 //! <!-- quoted from crates/mig_in_place_tests/src/framed.rt -->
 //! ```rust

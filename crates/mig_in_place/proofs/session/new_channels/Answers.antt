@@ -1,8 +1,8 @@
 use Rattle.std.proofs.Common.{ℕ, ◌≡◌, ◌∙◌, ◌++◌, ◌∷◌, [], List, arith, ap, map, replicate, subst}
 use Rattle.std.specs.List.{AllZip}
 use Rattle.std.proofs.lemmas.List.{map-append, replicate_more}
-use Rattle.mig_packet.specs.Reading.{settings}
 use Rattle.mig_packet.specs.Paging.{none_given}
+use Rattle.mig_single_load.specs.Settings.{channel_of}
 use Rattle.mig_session.specs.declared.counts.Count.{Count}
 use Rattle.mig_session.specs.Session.{no_count}
 use Rattle.mig_answer.specs.Texts.{Text, no_text}
@@ -12,7 +12,7 @@ use Rattle.mig_in_place.proofs.session.new_channels.Goals as goal
 
 pub loop-preserved : goal.loop-preserved
 loop-preserved g c =
-    let given = settings c.args.page_size c.args.uuid.now c.args.channels in
+    let given = channel_of c.args.settings c.args.uuid.now c.args.channels in
     let i : ℕ = c.loop.counter in
     let before : List KeptChannel = c.loop.made.items in
     let new : KeptChannel = c.in_ok-new.field-0 in
@@ -28,7 +28,7 @@ loop-preserved g c =
 
 pub returns-clause-holds : goal.returns-clause-holds
 returns-clause-holds g c = λ table.
-    let given = settings c.args.page_size c.args.uuid.now c.args.channels in
+    let given = channel_of c.args.settings c.args.uuid.now c.args.channels in
     let all : c.loop.counter ≡ c.args.channels = omega (arith, c.loop-test.false, c.loop.auto.counter-end) in
     subst (λ (n : ℕ). AllZip (λ (text : Text) (x : KeptChannel). HoldsChannel given table 0 text (none_given given) x) (replicate n no_text) c.loop.made.items) all (c.loop.invariant.holds table)
 

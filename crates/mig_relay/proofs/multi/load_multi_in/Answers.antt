@@ -19,10 +19,10 @@ returns-in_default-clause-machine g c =
 pub returns-clause-answer : goal.returns-clause-answer
 returns-clause-answer g c =
     c.load.ensures c.args.uuid.now (bytes_of c.args.channels.now) c.requires.page_size
-    (relay_starts c.args.settings.page_size c.args.uuid.now c.args.channels.now c.in-Ok.collector c.requires.channels.0 c.in-Ok.ensures.start)
+    (relay_starts c.args.settings.page_size c.args.settings.waiting c.args.uuid.now c.args.channels.now c.in-Ok.collector c.requires.channels.0 c.in-Ok.ensures.start)
 
 pub returns-clause-machine : goal.returns-clause-machine
 returns-clause-machine g c =
     machine_sending_is_loaded c.args.settings c.args.uuid.now c.args.main.now (bytes_of c.args.channels.now) (answer_of c.load.result)
     (c.load.ensures c.args.uuid.now (bytes_of c.args.channels.now) c.requires.page_size
-    (relay_starts c.args.settings.page_size c.args.uuid.now c.args.channels.now c.in-Ok.collector c.requires.channels.0 c.in-Ok.ensures.start))
+    (relay_starts c.args.settings.page_size c.args.settings.waiting c.args.uuid.now c.args.channels.now c.in-Ok.collector c.requires.channels.0 c.in-Ok.ensures.start))

@@ -1,17 +1,17 @@
 use Rattle.std.proofs.Common.{ℕ, ◌≡◌, ◌∙◌, ◌+◌, ◌++◌, ◌∷◌, [], List, arith, ap, map, replicate, subst}
 use Rattle.std.specs.List.{AllZip}
 use Rattle.std.proofs.lemmas.List.{map-append, replicate_more}
-use Rattle.mig_packet.specs.Reading.{settings}
 use Rattle.mig_session.specs.declared.counts.Count.{Count}
 use Rattle.mig_answer.specs.Texts.{no_text}
 use Rattle.mig_session.specs.Sources.{FedChannel, HoldsChannel, channel_count}
 use Rattle.mig_session.specs.Session.{no_count}
 use Rattle.mig_session.proofs.KeptSources.{zip_replicate}
 use Rattle.mig_session.proofs.sources.no_channels.Goals as goal
+use Rattle.mig_single_load.specs.Settings.{channel_of}
 
 pub loop-preserved : goal.loop-preserved
 loop-preserved g c =
-    let given = settings c.args.page_size c.args.uuid.now c.args.channels in
+    let given = channel_of c.args.settings c.args.uuid.now c.args.channels in
     let i : ℕ = c.loop.counter in
     let before : List FedChannel = c.loop.sources.items in
     record {
@@ -25,7 +25,7 @@ loop-preserved g c =
 
 pub returns-clause-holds : goal.returns-clause-holds
 returns-clause-holds g c =
-    let given = settings c.args.page_size c.args.uuid.now c.args.channels in
+    let given = channel_of c.args.settings c.args.uuid.now c.args.channels in
     let all : c.loop.counter ≡ c.args.channels = omega (arith, c.loop-test.false, c.loop.auto.counter-end) in
     subst (λ (n : ℕ). AllZip (HoldsChannel given 0) (replicate n no_text) c.loop.sources.items) all c.loop.invariant.holds
 

@@ -1,14 +1,14 @@
 use Rattle.std.proofs.Common.{◌≡◌, ◌≤◌, map, replicate, vec_len, vec_capacity}
 use Rattle.std.specs.List.{AllZip}
-use Rattle.mig_packet.specs.Reading.{settings}
 use Rattle.mig_answer.specs.Texts.{no_text}
 use Rattle.mig_session.specs.Sources.{HoldsChannel, channel_count}
 use Rattle.mig_session.specs.Session.{no_count}
 use Rattle.mig_session.proofs.sources.no_channels.Given as goal
+use Rattle.mig_single_load.specs.Settings.{channel_of}
 
 abbrev pub invariant-loop : goal.invariant-loop
 invariant-loop g l = record {
-  holds : AllZip (HoldsChannel (settings l.page_size l.uuid l.channels) 0) (replicate l.counter no_text) l.sources.items;
+  holds : AllZip (HoldsChannel (channel_of l.settings l.uuid l.channels) 0) (replicate l.counter no_text) l.sources.items;
   counts : map channel_count l.sources.items ≡ replicate l.counter no_count;
   count : vec_len l.sources ≡ l.counter;
   room : l.channels ≤ vec_capacity l.sources;

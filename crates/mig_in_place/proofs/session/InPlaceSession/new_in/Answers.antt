@@ -3,10 +3,10 @@ use Rattle.std.specs.List.{AllZip}
 use Rattle.std.proofs.lemmas.List.{length-map, length-replicate}
 use Rattle.mig_mem.specs.PageSize.{IsPageSize}
 use Rattle.mig_mem.specs.RamTable.{RamTable, IsTable}
-use Rattle.mig_packet.specs.Reading.{settings}
+use Rattle.mig_packet.specs.Reading.{Settings}
 use Rattle.mig_packet.specs.Paging.{none_given}
 use Rattle.mig_single_load.specs.declared.settings.LoadSettings.{LoadSettings}
-use Rattle.mig_single_load.specs.Settings.{main_of}
+use Rattle.mig_single_load.specs.Settings.{main_of, channel_of}
 use Rattle.mig_session.specs.declared.counts.Count.{Count}
 use Rattle.mig_answer.specs.declared.verdict.Verdict.TheVariants.{Running}
 use Rattle.mig_answer.specs.Texts.{Text, no_text}
@@ -34,7 +34,7 @@ invariant_of-result g c =
     let r1 = c.in_ok-with_capacity.ensures.capacity in
     let r2 = c.in_ok-with_capacity-2.ensures.capacity in
     record {
-      channels = first_channels (settings p c.args.uuid.now n) table n channels page (c.in_ok-new_channels.ensures.holds table);
+      channels = first_channels (channel_of load c.args.uuid.now n) table n channels page (c.in_ok-new_channels.ensures.holds table);
       round = ([], subst (λ (t : RamTable). Keeps t [] c.in_ok-new.field-0) (sym same) c.in_ok-new.ensures.keeps);
       main = λ _. first_main load table c.new.result size page c.new.ensures.holds c.new.ensures.whole;
       is_few = omega arith;
@@ -52,8 +52,9 @@ returns-clause-stands g c = λ first image same.
     let page : c.page_size-page_size.result ≡ first.table.page_size = c.page_size-page_size.ensures ∙ ap (λ (t : RamTable). t.page_size) (sym same) in
     let some = c.requires.channels in
     let s : InPlaceLoad = record { table = table; sources = record { main = c.new.result; channels = channels }; round = c.in_ok-new.field-0; rounds = 0; base = 0; verdict = Running } in
+    let read : ℕ → Settings = λ k. channel_of (record c.args.settings { page_size = k }) c.args.uuid.now n in
     stands_first c.args.settings c.args.uuid.now first n s is image (same ∙ sym c.in_ok-copy_in.ensures) some.0 refl refl refl
     (subst (λ (k : ℕ). HoldsMain (main_of (record c.args.settings { page_size = k })) 0 no_text c.new.result) page c.new.ensures.holds)
-    (subst (λ (k : ℕ). AllZip (λ (text : Text) (x : KeptChannel). HoldsChannel (settings k c.args.uuid.now n) first.table 0 text (none_given (settings k c.args.uuid.now n)) x) (replicate n no_text) channels) page
+    (subst (λ (k : ℕ). AllZip (λ (text : Text) (x : KeptChannel). HoldsChannel (read k) first.table 0 text (none_given (read k)) x) (replicate n no_text) channels) page
     (c.in_ok-new_channels.ensures.holds first.table))
     (subst (λ (t : RamTable). Keeps t [] c.in_ok-new.field-0) (sym same) c.in_ok-new.ensures.keeps)

@@ -2,8 +2,7 @@ use Rattle.std.proofs.Common.{ℕ, ◌≡◌, ◌<◌, ◌∙◌, true, false, l
 use Rattle.std.specs.Prelude.{slice_get}
 use Rattle.std.proofs.lemmas.List.{length-map}
 use Rattle.std.proofs.lemmas.Option.{slice_get_read}
-use Rattle.mig_packet.specs.Reading.{settings}
-use Rattle.mig_single_load.specs.Settings.{main_of, for_table}
+use Rattle.mig_single_load.specs.Settings.{main_of, channel_of, for_table}
 use Rattle.mig_single_load.specs.declared.settings.LoadSettings.{LoadSettings}
 use Rattle.mig_answer.specs.Texts.{no_text}
 use Rattle.mig_session.specs.declared.source.Source.{Source}
@@ -43,8 +42,8 @@ returns-in-Channel-clause-stands g c = λ memory given uuid first texts stands.
     let below : j < length i.channels.items = (let e = length-map i.channels.items channel_count in omega (arith, e, has)) in
     let is : slice_get i.channels.items j ≡ Some q = slice_get_read i.channels.items (length i.channels.items) j q refl below c.index.ensures in
     subst (λ (x : Source). IsSourceValidUpTo load uuid texts x (Some c.valid_up_to-in-Channel.result)) (sym c.in-Channel.is)
-    (c.valid_up_to-in-Channel.ensures (settings load.page_size uuid (length texts.channels)) (get_or texts.channels j no_text)
-    (given_at (settings load.page_size uuid (length texts.channels)) texts.channels i.channels.items j q is mine.channels))
+    (c.valid_up_to-in-Channel.ensures (channel_of load uuid (length texts.channels)) (get_or texts.channels j no_text)
+    (given_at (channel_of load uuid (length texts.channels)) texts.channels i.channels.items j q is mine.channels))
 
 pub returns-in-Main-clause-lacking : goal.returns-in-Main-clause-lacking
 returns-in-Main-clause-lacking g c = λ memory given uuid first texts lacks.

@@ -1,6 +1,5 @@
 use Rattle.std.proofs.Common.{ℕ, ◌≡◌, ◌∙◌, ◌+◌, Bool, List, length, ap, subst, sym, get_or, slice_get, slice_set, Some}
-use Rattle.mig_packet.specs.Reading.{settings}
-use Rattle.mig_single_load.specs.Settings.{main_of}
+use Rattle.mig_single_load.specs.Settings.{main_of, channel_of}
 use Rattle.mig_session.specs.declared.counts.Count.{Count}
 use Rattle.mig_session.specs.declared.source.Source.{Source}
 use Rattle.mig_session.specs.declared.source.Source.TheVariants as source
@@ -24,7 +23,7 @@ returns-in-Channel-clause-ok g c = on_ok c.feed-in-Channel.result c.feed-in-Chan
     let q : FedChannel = c.index_mut-channel.result.now in
     let old : FedSources = record { main = c.self.inside.main; channels = channels } in
     let before : Holds given uuid k texts old = subst (λ (s : FedSources). Holds given uuid k texts s) (sym c.self.view_is) holds in
-    let channel_given = settings given.page_size uuid (length texts.channels) in
+    let channel_given = channel_of given uuid (length texts.channels) in
     let there : slice_get channels j ≡ Some q =
     there_of channels j q (subst (λ (s : FedSources). HasSource (counts_of s) (source.Channel j)) (sym c.self.view_is) (subst (λ (x : Source). HasSource (counts_of c.args.self.now) x) c.in-Channel.is c.requires.source))
     c.index_mut-channel.ensures.value in

@@ -1,6 +1,5 @@
 use Rattle.std.proofs.Common.{ℕ, ◌≡◌, ◌∙◌, List, Option, length, ap, subst, sym, get_or, slice_get, Some, slice_set}
-use Rattle.mig_packet.specs.Reading.{settings}
-use Rattle.mig_single_load.specs.Settings.{main_of}
+use Rattle.mig_single_load.specs.Settings.{main_of, channel_of}
 use Rattle.mig_session.specs.declared.source.Source.{Source}
 use Rattle.mig_session.specs.declared.source.Source.TheVariants as source
 use Rattle.mig_answer.specs.Texts.{Texts, no_text}
@@ -30,7 +29,7 @@ returns-in-Channel g c = λ given uuid k step texts holds have.
     let there : slice_get channels j ≡ Some q =
     there_of channels j q (subst (λ (x : FedSources). HasSource (counts_of x) (source.Channel j)) (sym c.self.view_is) (subst (λ (x : Source). HasSource (counts_of c.args.self.now) x) c.in-Channel.is c.requires))
     c.index-channel.ensures in
-    let many = settings given.page_size uuid (length (at_source (source.Channel j) step texts).channels) in
+    let many = channel_of given uuid (length (at_source (source.Channel j) step texts).channels) in
     let noted = channel_noted given uuid j step texts c.args.places.now c.valid_up_to-in-Channel.result have
     (c.valid_up_to-in-Channel.ensures many k (step (get_or texts.channels j no_text)) (channel_stands given uuid k j step texts s q here there)) in
     subst (λ (p : Places). HasPlaces given uuid (at_source c.args.source step texts) p) (sym c.set_channel.ensures)

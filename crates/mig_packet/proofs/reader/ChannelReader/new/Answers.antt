@@ -1,7 +1,0 @@
-use Rattle.std.proofs.Common.{refl}
-use Rattle.mig_packet.specs.Reading.{settings}
-use Rattle.mig_packet.proofs.Standing.{stands_first}
-use Rattle.mig_packet.proofs.reader.ChannelReader.new.Goals as goal
-
-pub returns-clause-stands : goal.returns-clause-stands
-returns-clause-stands g c = stands_first (settings c.args.page_size c.args.uuid c.args.channels) _ c.new.ensures c.new-2.ensures.items refl refl refl refl
