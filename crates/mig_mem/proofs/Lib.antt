@@ -21,3 +21,4 @@ pub mod Counts
 pub mod Differing
 pub mod Walks
 pub mod BytePuts
+pub mod BlockRegions

@@ -8,6 +8,10 @@ pub record BlockPages : Type 0 where
   pub size : ℕ
   pub pages : List (List ℕ)
 
+-- no page
+abbrev pub no_pages : BlockPages
+no_pages = record { size = 0; pages = [] }
+
 abbrev pub page_at : BlockPages → ℕ → List ℕ
 page_at b i = slice_index_or b.pages i []
 

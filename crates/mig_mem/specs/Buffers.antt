@@ -1,17 +1,17 @@
 -- A memory in blocks of pages.
-use Rattle.std.specs.Prelude.{ℕ, ◌≡◌, ◌<◌, List, [], length, map, slice_index_or, All}
+use Rattle.std.specs.Prelude.{ℕ, ◌≡◌, ◌<◌, List, length, map, slice_index_or, All}
 use Rattle.std.specs.declared.vec.Vec.{Vec}
 use Rattle.mig_mem.specs.declared.place.Place.{Place}
 use Rattle.mig_mem.specs.RamTable.{RamTable, block, IsTable}
 use Rattle.mig_mem.specs.Image.{Image, image_of}
-use Rattle.mig_mem.specs.BlockPages.{BlockPages, page_at}
+use Rattle.mig_mem.specs.BlockPages.{BlockPages, no_pages, page_at}
 
 abbrev pub buffers_of : {A : Type 0} → List (Vec ℕ A) → List (List ℕ)
 buffers_of buffers = map (λ v. v.items) buffers
 
 -- the pages of a block, by its number
 abbrev pub pages_of_block : List BlockPages → ℕ → BlockPages
-pages_of_block blocks i = slice_index_or blocks i (record { size = 0; pages = [] })
+pages_of_block blocks i = slice_index_or blocks i no_pages
 
 -- the content of a place
 abbrev pub held_at : List BlockPages → Place → List ℕ

@@ -17,4 +17,5 @@ pub mod Leaves
 pub mod BlockPages
 pub mod Buffers
 pub mod Marks
+pub mod Regions
 pub mod Puts

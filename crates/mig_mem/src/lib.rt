@@ -21,6 +21,7 @@ mod parts;
 mod place;
 mod putting;
 mod refusal;
+mod regions;
 mod slots;
 mod table;
 

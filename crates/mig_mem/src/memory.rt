@@ -7,7 +7,7 @@ ghost use Rattle.mig_mem.specs.RamTable.{block as block_at};
 ghost use Rattle.mig_mem.specs.Place.{IsPlace};
 ghost use Rattle.mig_mem.specs.Image.{IsImage, content, content_at, zero_image, zero_page, with_page, with_byte};
 
-use crate::pages::Pages;
+use crate::regions::Regions;
 use crate::{NoMemory, Place, Table};
 use std::alloc::{Allocator, Global};
 use std::fmt;
@@ -34,7 +34,7 @@ use std::marker::Model;
 pub struct Memory<A: Allocator = Global> {
     table: Table<A>,
     // the pages of each block
-    blocks: Vec<Pages<A>, A>,
+    blocks: Vec<Regions<A>, A>,
 }
 
 impl<A: Allocator> Model for Memory<A> {
@@ -67,7 +67,7 @@ impl<A: Allocator + Copy> Memory<A> {
     {
         let mut blocks = Vec::with_capacity(alloc, table.len())?;
         for i in 0..table.len() {
-            blocks.push(Pages::zeroed(alloc, table.page_size(), table.pages(i))?)?;
+            blocks.push(Regions::zeroed(alloc, table.page_size(), table.pages(i))?)?;
         }
         let table = table.copy_in(alloc)?;
         Ok(Memory { table, blocks })

@@ -1,5 +1,5 @@
-//! The pages of a block. Only pages that were written have bytes of their own. `Memory` keeps one
-//! such value for each block.
+//! Pages of a block. Only pages that were written have bytes of their own. `Regions` keeps one such
+//! value for each region of a block.
 
 ghost use Rattle.std.specs.Prelude.{◌≡◌, ◌+◌, ◌*◌, ◌^◌, ◌<◌, ◌≤◌, length, replicate, slice_set, IfOk, IsTrue, vec_capacity};
 ghost use Rattle.mig_mem.specs.PageSize.{IsPageSize};
@@ -16,7 +16,7 @@ use std::marker::Model;
 // A page of zeros, of the largest page size (8 KiB).
 const ZEROS: [u8; 8192] = [0; 8192];
 
-/// The pages of a block. A page has bytes of its own from its first write on, and is zeros until
+/// Some pages of a block. A page has bytes of its own from its first write on, and is zeros until
 /// then. The room for all pages is reserved from the start, and isn't touched before it is needed.
 #[derive(Drop)]
 pub(crate) struct Pages<A: Allocator> {

@@ -1,0 +1,157 @@
+//! The pages of a block in regions, each of which has slots and bytes of its own. `Memory` keeps one
+//! such value for each block.
+
+ghost use Rattle.std.specs.Prelude.{◌≡◌, ◌+◌, ◌*◌, ◌/◌, ◌%◌, ◌^◌, ◌<◌, ◌≤◌, length, map, min, replicate, slice_set, IfOk, IsTrue};
+ghost use Rattle.std.specs.List.{range_with_len};
+ghost use Rattle.mig_mem.specs.PageSize.{IsPageSize};
+ghost use Rattle.mig_mem.specs.Image.{zero_page};
+ghost use Rattle.mig_mem.specs.BlockPages.{page_at, with_content};
+ghost use Rattle.mig_mem.specs.Regions.{zero_region};
+
+use crate::NoMemory;
+use crate::pages::Pages;
+use std::alloc::Allocator;
+use std::marker::Model;
+
+// The fewest pages of a region, but for the last one of a block. Pages of 4 KiB have 64 MiB then,
+// for which the C library asks the system, so that they aren't touched before they are written.
+const FEWEST: u64 = 16384;
+
+// The most regions of a block.
+const MOST: u64 = 64;
+
+/// The pages of a block. As with `Pages`, the room for all pages is there from the start, and isn't
+/// touched before it is needed.
+#[derive(Drop)]
+pub(crate) struct Regions<A: Allocator> {
+    size: u64,
+    count: u64,
+    // how many pages a region has; the last one may have fewer
+    per: u64,
+    regions: Vec<Pages<A>, A>,
+}
+
+impl<A: Allocator> Model for Regions<A> {
+    ghost use Rattle.mig_mem.specs.BlockPages.{BlockPages};
+    ghost use Rattle.mig_mem.specs.Regions.{in_regions, AreRegions};
+
+    ghost Value = { BlockPages };
+
+    ghost view = { λ b. in_regions b.per b.size b.count b.regions.items };
+
+    ghost invariant = { λ b. AreRegions b.per b.size b.count b.regions.items };
+}
+
+// Returns how many pages each region of a block of `count` pages has.
+fn region_len(count: u64) -> u64
+    ensures some { 0 < result }
+    ensures few { result ≤ count + 16384 }
+{
+    count.div_ceil(MOST).max(FEWEST)
+}
+
+// Creates the regions of a block of `count` pages of zeros.
+fn zero_regions<A: Allocator + Copy>(
+    alloc: A,
+    size: u64,
+    count: u64,
+    per: u64,
+) -> Result<Vec<Pages<A>, A>, NoMemory>
+    requires size { IsPageSize size }
+    requires room { count * size ≤ 2 ^ 40 }
+    requires per { 0 < per }
+    ensures { IfOk result (λ v. v.items ≡ map (zero_region per size count) (range_with_len 0 (count / per + min 1 (count % per)))) }
+{
+    let regions_needed = count.div_ceil(per);
+    let mut regions = Vec::with_capacity(alloc, regions_needed as usize)?;
+    for i in 0..regions_needed {
+        let first = i * per;
+        let pages = (count - first).min(per);
+        regions.push(Pages::zeroed(alloc, size, pages)?)?;
+    }
+    Ok(regions)
+}
+
+impl<A: Allocator + Copy> Regions<A> {
+    /// Creates pages of zeros, with room for all of them.
+    pub(crate) fn zeroed(alloc: A, size: u64, count: u64) -> Result<Regions<A>, NoMemory>
+        requires size { IsPageSize size }
+        requires room { count * size ≤ 2 ^ 40 }
+        ensures { IfOk result (λ b. b ≡ record { size = size; pages = replicate count (zero_page size) }) }
+    {
+        let per = region_len(count);
+        let regions = zero_regions(alloc, size, count, per)?;
+        Ok(Regions {
+            size,
+            count,
+            per,
+            regions,
+        })
+    }
+
+    /// Copies the pages. The copy has room for all of them.
+    pub(crate) fn try_copy(&self) -> Result<Regions<A>, NoMemory>
+        ensures { IfOk result (λ b. b ≡ self.now) }
+    {
+        let alloc = *self.regions.allocator();
+        let mut regions = Vec::with_capacity(alloc, self.regions.len())?;
+        for region in &self.regions {
+            regions.push(region.try_copy()?)?;
+        }
+        Ok(Regions {
+            size: self.size,
+            count: self.count,
+            per: self.per,
+            regions,
+        })
+    }
+}
+
+impl<A: Allocator> Regions<A> {
+    /// Returns the content of a page.
+    pub(crate) fn page(&self, i: u64) -> &[u8]
+        requires { i < length self.now.pages }
+        ensures { result.now ≡ page_at self.now i }
+    {
+        let at = (i / self.per) as usize;
+        self.regions[at].page(i % self.per)
+    }
+
+    /// Returns whether a page was never written, and so is zeros.
+    pub(crate) fn is_blank(&self, i: u64) -> bool
+        requires { i < length self.now.pages }
+        ensures { IsTrue result → page_at self.now i ≡ zero_page self.now.size }
+    {
+        let at = (i / self.per) as usize;
+        self.regions[at].is_blank(i % self.per)
+    }
+
+    /// Writes a page. It allocates nothing.
+    pub(crate) fn put(&mut self, i: u64, content: &[u8])
+        requires page { i < length self.old.pages }
+        requires size { length content.now ≡ self.old.size }
+        ensures { self.new ≡ with_content self.old i content.now }
+    {
+        let at = (i / self.per) as usize;
+        self.regions[at].put(i % self.per, content);
+    }
+
+    /// Makes a page zeros. It allocates nothing, and touches no page that was never written.
+    pub(crate) fn put_zeros(&mut self, i: u64)
+        requires { i < length self.old.pages }
+        ensures { self.new ≡ with_content self.old i (zero_page self.old.size) }
+    {
+        let at = (i / self.per) as usize;
+        self.regions[at].put_zeros(i % self.per);
+    }
+
+    /// Writes one byte of a page. It allocates nothing.
+    pub(crate) fn set(&mut self, i: u64, offset: u64, byte: u8)
+        requires page { i < length self.old.pages }
+        requires offset { offset < self.old.size }
+        ensures { self.new ≡ with_content self.old i (slice_set (page_at self.old i) offset byte) }
+    {
+        let at = (i / self.per) as usize;
+        self.regions[at].set(i % self.per, offset, byte);
+    }
+}
