@@ -21,7 +21,7 @@ use Rattle.mig_mem.specs.Parts.{part_at, ChangesPart}
 use Rattle.mig_mem.specs.declared.putting.RoundPage.{RoundPage}
 use Rattle.mig_mem.specs.Puts.{bytes_given, given, round_page, PutsAll}
 
-zero_plus : (q : ℕ) → 0 + q ≡ q
+pub zero_plus : (q : ℕ) → 0 + q ≡ q
 zero_plus q = omega arith
 
 -- no page

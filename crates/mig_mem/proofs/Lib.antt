@@ -22,3 +22,4 @@ pub mod Differing
 pub mod Walks
 pub mod BytePuts
 pub mod BlockRegions
+pub mod RegionPuts

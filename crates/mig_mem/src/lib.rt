@@ -21,6 +21,7 @@ mod parts;
 mod place;
 mod putting;
 mod refusal;
+mod region_puts;
 mod regions;
 mod slots;
 mod table;

@@ -1,17 +1,20 @@
 //! A guest's memory that owns its pages. Callers and the tool write to one, senders read it, and
 //! loaders build one.
 
-ghost use Rattle.std.specs.Prelude.{◌≡◌, ◌*◌, ◌<◌, ◌↔◌, length, IfOk, IfSome, IsSome, IsTrue};
+ghost use Rattle.std.specs.Prelude.{◌≡◌, ◌*◌, ◌<◌, ◌↔◌, length, map, All, IfOk, IfSome, IsSome, IsTrue};
 ghost use Rattle.std.specs.Option.{option_copied};
 ghost use Rattle.mig_mem.specs.RamTable.{block as block_at};
 ghost use Rattle.mig_mem.specs.Place.{IsPlace};
 ghost use Rattle.mig_mem.specs.Image.{IsImage, content, content_at, zero_image, zero_page, with_page, with_byte};
+ghost use Rattle.mig_mem.specs.Puts.{round_page, HasPageSize};
+ghost use Rattle.mig_mem.specs.Round.{with_round};
 
-use crate::regions::Regions;
-use crate::{NoMemory, Place, Table};
+use crate::regions::{Regions, put_in_blocks};
+use crate::{NoMemory, Place, RoundPage, Table};
 use std::alloc::{Allocator, Global};
 use std::fmt;
 use std::marker::Model;
+use std::thread::Threads;
 
 /// The memory of a guest: the content of each page of its table.
 ///
@@ -155,5 +158,25 @@ impl<A: Allocator> Memory<A> {
     {
         let size = self.table.page_size();
         self.blocks[block].set(offset / size, offset % size, byte);
+    }
+}
+
+impl<A: Allocator + Send> Memory<A> {
+    /// Writes the pages of a round by at most `threads` threads, the caller's thread among them.
+    /// All others have ended when the call returns. It allocates nothing.
+    ///
+    /// If a page comes more than once, the last one counts. A page whose place is outside the table
+    /// isn't written.
+    ///
+    /// The blocks are written one after another. A block of more than 16,384 pages has regions of
+    /// so many, or 64 larger ones, and each thread has some of them. No more threads are used than
+    /// the round has thousands of pages. Each thread walks all pages of the round, once for each
+    /// block.
+    pub fn put_pages<R: Threads + Sync>(&mut self, rt: &R, threads: u64, pages: &[RoundPage<'_>])
+        requires threads { 0 < threads }
+        requires sizes { All (HasPageSize self.old.table.page_size) pages.now }
+        ensures { self.new ≡ with_round self.old (map (round_page self.old.table.page_size) pages.now) }
+    {
+        put_in_blocks(rt, &mut self.blocks, threads, pages);
     }
 }

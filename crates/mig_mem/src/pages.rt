@@ -97,6 +97,13 @@ impl<A: Allocator + Copy> Pages<A> {
 }
 
 impl<A: Allocator> Pages<A> {
+    /// Returns how many pages there are.
+    pub(crate) fn len(&self) -> u64
+        ensures { result ≡ length self.now.pages }
+    {
+        self.slots.len()
+    }
+
     /// Returns the content of a page.
     pub(crate) fn page(&self, i: u64) -> &[u8]
         requires { i < length self.now.pages }

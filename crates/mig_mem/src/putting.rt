@@ -35,13 +35,21 @@ impl<'a> fmt::Debug for RoundPage<'a> {
     }
 }
 
+/// Returns how many threads are worth their start for `pages` pages: at most `threads`.
+pub(crate) fn useful_threads(pages: u64, threads: u64) -> u64
+    requires { 0 < threads }
+    ensures { 0 < result }
+{
+    (pages / FEWEST).max(1).min(threads)
+}
+
 // Returns how many pages of a block each thread writes, if the block has `pages` pages and the
 // round `round`.
 fn pages_each(pages: u64, round: u64, threads: u64) -> u64
     requires { 0 < threads }
     ensures { (0 < result) × (result ≤ 2 ^ 40) }
 {
-    let useful = (pages.min(round) / FEWEST).max(1).min(threads);
+    let useful = useful_threads(pages.min(round), threads);
     pages.div_ceil(useful).max(1).min(1 << 40)
 }
 

@@ -1,17 +1,21 @@
-//! The pages of a block in regions, each of which has slots and bytes of its own. `Memory` keeps one
-//! such value for each block.
+//! The pages of a block in regions, each of which has slots and bytes of its own. So several threads
+//! can write the pages of one block. `Memory` keeps one such value for each block.
 
-ghost use Rattle.std.specs.Prelude.{◌≡◌, ◌+◌, ◌*◌, ◌/◌, ◌%◌, ◌^◌, ◌<◌, ◌≤◌, length, map, min, replicate, slice_set, IfOk, IsTrue};
+ghost use Rattle.std.specs.Prelude.{ℕ, ◌≡◌, ◌+◌, ◌*◌, ◌/◌, ◌^◌, ◌<◌, ◌≤◌, length, map, min, ◌%◌, replicate, slice_set, All, IfOk, IsTrue};
 ghost use Rattle.std.specs.List.{range_with_len};
 ghost use Rattle.mig_mem.specs.PageSize.{IsPageSize};
 ghost use Rattle.mig_mem.specs.Image.{zero_page};
 ghost use Rattle.mig_mem.specs.BlockPages.{page_at, with_content};
+ghost use Rattle.mig_mem.specs.Buffers.{pages_of_block};
 ghost use Rattle.mig_mem.specs.Regions.{zero_region};
+ghost use Rattle.mig_mem.specs.Puts.{HasPageSize, PutsPages};
 
-use crate::NoMemory;
 use crate::pages::Pages;
+use crate::region_puts::put_regions;
+use crate::{NoMemory, RoundPage};
 use std::alloc::Allocator;
 use std::marker::Model;
+use std::thread::Threads;
 
 // The fewest pages of a region, but for the last one of a block. Pages of 4 KiB have 64 MiB then,
 // for which the C library asks the system, so that they aren't touched before they are written.
@@ -153,5 +157,49 @@ impl<A: Allocator> Regions<A> {
     {
         let at = (i / self.per) as usize;
         self.regions[at].set(i % self.per, offset, byte);
+    }
+}
+
+impl<A: Allocator + Send> Regions<A> {
+    /// Writes the pages of a round that lie in this block, whose number is `block`, by at most
+    /// `threads` threads. It allocates nothing.
+    pub(crate) fn put_pages<R: Threads + Sync>(
+        &mut self,
+        rt: &R,
+        block: usize,
+        threads: u64,
+        pages: &[RoundPage<'_>],
+    )
+        requires threads { 0 < threads }
+        requires sizes { All (HasPageSize self.old.size) pages.now }
+        ensures { PutsPages self.old.size block 0 self.old self.new pages.now }
+    {
+        put_regions(
+            rt,
+            &mut self.regions,
+            self.per,
+            self.size,
+            block,
+            threads,
+            pages,
+        );
+    }
+}
+
+/// Writes the pages of a round that lie in the blocks, one block after another, each by at most
+/// `threads` threads. It allocates nothing.
+pub(crate) fn put_in_blocks<R: Threads + Sync, A: Allocator + Send>(
+    rt: &R,
+    blocks: &mut [Regions<A>],
+    threads: u64,
+    pages: &[RoundPage<'_>],
+)
+    requires threads { 0 < threads }
+    requires sizes { All (λ block. All (HasPageSize block.size) pages.now) blocks.old }
+    ensures { (k : ℕ) → k < length blocks.old
+        → PutsPages (pages_of_block blocks.old k).size k 0 (pages_of_block blocks.old k) (pages_of_block blocks.new k) pages.now }
+{
+    for b in 0..blocks.len() {
+        blocks[b].put_pages(rt, b, threads, pages);
     }
 }
