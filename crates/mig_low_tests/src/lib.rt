@@ -26,4 +26,6 @@ mod rounds;
 #[cfg(test)]
 mod threaded;
 #[cfg(test)]
+mod threaded_memory;
+#[cfg(test)]
 mod waiting;
