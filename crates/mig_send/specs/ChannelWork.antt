@@ -1,6 +1,6 @@
 -- A worker of one channel that its caller steps: the values shared with the other workers of its
 -- round, its state, and its channel's part of the round.
-use Rattle.std.specs.Prelude.{ℕ, ◌≡◌, ◌<◌, ◌≤◌, List, [], ◌∷◌, ◌++◌, length, flat_map, All, AllPairs, Result, OnOk, OnErr, ⊤}
+use Rattle.std.specs.Prelude.{ℕ, ◌≡◌, ◌-◌, ◌<◌, ◌≤◌, List, [], ◌∷◌, ◌++◌, length, flat_map, get_or, Option, None, Some, All, AllPairs, Result, OnOk, OnErr, ⊤}
 use Rattle.mig_mem.specs.RamTable.{RamTable}
 use Rattle.mig_mem.specs.Image.{Image}
 use Rattle.mig_mem.specs.declared.fault.NoMemory.{NoMemory}
@@ -9,7 +9,7 @@ use Rattle.mig_deal.specs.Drawn.{HasDrawn}
 use Rattle.mig_send.specs.declared.channel_worker.Hand.{Hand}
 use Rattle.mig_send.specs.declared.channel_worker.Hand.TheVariants.{Drawing, Claimed, Ending, Ended, Moving}
 use Rattle.mig_send.specs.Batches.{BatchOfPages}
-use Rattle.mig_send.specs.Work.{Share, HasShare, claimed_packet}
+use Rattle.mig_send.specs.Work.{Share, HasShare, no_batch, claimed_packet}
 use Rattle.mig_send.specs.Dealing.{sync_packet, share_text}
 
 -- what the workers of a round share: the deal, and the batches of a table that its numbers claim
@@ -86,6 +86,14 @@ hand_bytes image terms (Claimed seat number) = (claimed_packet terms.deal.base i
 hand_bytes image terms (Ending spent last) = sync_packet image.table.page_size last
 hand_bytes image terms (Ended spent) = []
 hand_bytes image terms Moving = []
+
+-- the batch that the worker's number claims
+abbrev pub batch_in : RoundTerms → Hand → Option BatchOfPages
+batch_in terms (Drawing seat) = None
+batch_in terms (Claimed seat number) = Some (get_or terms.batches (number - terms.deal.base) no_batch)
+batch_in terms (Ending spent last) = None
+batch_in terms (Ended spent) = None
+batch_in terms Moving = None
 
 -- the worker's state after that packet is written
 abbrev pub after_packet : Hand → Hand

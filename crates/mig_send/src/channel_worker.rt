@@ -4,11 +4,14 @@
 //! A worker starts no thread and waits for no other. It shares the round's deal with the other
 //! workers, and nothing else that is written.
 
-ghost use Rattle.std.specs.Prelude.{◌≡◌, ◌↔◌, ◌++◌, [], List, ℕ, IsTrue, OnOk, OnErr};
+ghost use Rattle.std.specs.Prelude.{◌≡◌, ◌↔◌, ◌++◌, [], List, ℕ, IsTrue, IfSome, OnOk, OnErr};
+ghost use Rattle.std.specs.Option.{option_copied};
 ghost use Rattle.mig_mem.specs.Image.{Image};
+ghost use Rattle.mig_send.specs.Batches.{IsBatch};
 ghost use Rattle.mig_send.specs.Packing.{IsPrefix};
-ghost use Rattle.mig_send.specs.ChannelWork.{IsHand, HasNumber, HasClaimed, HasEnded, HasStepped, HasPacked, IsStep, after_packet, hand_bytes};
+ghost use Rattle.mig_send.specs.ChannelWork.{IsHand, HasNumber, HasClaimed, HasEnded, HasStepped, HasPacked, IsStep, after_packet, hand_bytes, batch_in};
 
+use crate::Batch;
 use crate::packed::{Offsets, append_packet};
 use crate::round_work::RoundWork;
 use crate::share::put_sync;
@@ -122,6 +125,30 @@ fn written(hand: Hand) -> Hand
     }
 }
 
+// Draws a number for `hand`, if it has none and one is left.
+fn claim_in<A: Allocator>(work: &RoundWork<A>, hand: &mut Hand)
+    requires { IsHand work.now.deal hand.old }
+    ensures hand { IsHand work.now.deal hand.new }
+    ensures claimed { HasClaimed work.now.deal hand.old hand.new }
+{
+    *hand = claimed(&work.deal, mem::replace(hand, Hand::Moving));
+}
+
+// Returns the batch that the number of `hand` claims.
+fn batch_of<'a, A: Allocator>(work: &'a RoundWork<A>, hand: &Hand) -> Option<&'a Batch<A>>
+    requires { IsHand work.now.deal hand.now }
+    ensures value { option_copied result ≡ batch_in work.now hand.now }
+    ensures batch { IfSome result (λ batch. IsBatch work.now.table batch.now) }
+{
+    match hand {
+        Hand::Claimed(_, number) => Some(&work.batches[(*number - work.deal.base()) as usize]),
+        Hand::Drawing(_) => None,
+        Hand::Ending(_, _) => None,
+        Hand::Ended(_) => None,
+        Hand::Moving => None,
+    }
+}
+
 // Takes one step, on the fields of a worker.
 fn step_parts<A: Allocator, M: GuestPages>(
     work: &RoundWork<A>,
@@ -170,6 +197,29 @@ impl<A: Allocator> ChannelWorker<A> {
         ensures { IsTrue result ↔ HasEnded self.now.hand }
     {
         matches!(self.hand, Hand::Ended(_))
+    }
+
+    /// Draws the number of the packet that the next step writes. If the worker has a number whose
+    /// packet isn't written yet, or has ended, nothing changes.
+    ///
+    /// A step draws its number itself. `claim` is for a caller that needs to know the pages of the
+    /// packet before it is written (`batch`), as one does who copies them while the guest runs.
+    pub fn claim(&mut self)
+        ensures claimed { HasClaimed self.old.terms.deal self.old.hand self.new.hand }
+        ensures hand { IsHand self.new.terms.deal self.new.hand }
+        ensures rest { self.new ≡ record self.old { hand = self.new.hand } }
+        ensures packed { (image : Image) (before whole : List ℕ) → HasPacked image before whole self.old → HasPacked image before whole self.new }
+    {
+        claim_in(&self.shared, &mut self.hand);
+    }
+
+    /// Returns the batch whose packet the next step writes. `None` before the worker has drawn a
+    /// number for it (`claim`), if the next packet is the SYNC packet, and after that packet.
+    pub fn batch(&self) -> Option<&Batch<A>>
+        ensures value { option_copied result ≡ batch_in self.now.terms self.now.hand }
+        ensures batch { IfSome result (λ batch. IsBatch self.now.terms.table batch.now) }
+    {
+        batch_of(&self.shared, &self.hand)
     }
 
     /// Writes one packet: that of the next batch that no worker of the round has, or, if none is
