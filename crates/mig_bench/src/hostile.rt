@@ -7,7 +7,7 @@
 
 use crate::guest::{Guest, fill};
 use crate::measure::{Measured, Ratio, best_of_five, peak, reset_peak};
-use crate::waiting;
+use crate::{commands, waiting};
 use mig_mem::{MAX_TOTAL, PAGE_SIZE_4K, Table};
 use mig_send::SingleSender;
 use mig_single_load::load_single;
@@ -39,7 +39,7 @@ const ZERO_ROUNDS: usize = 8;
 /// footer.
 pub(crate) const PART_HEAD: [u8; 5] = [0x02, 0, 0, 0, 1];
 
-const SECTION_END: [u8; 13] = [0, 0, 0, 0, 0, 0, 0, 0x10, 0x7E, 0, 0, 0, 1];
+pub(crate) const SECTION_END: [u8; 13] = [0, 0, 0, 0, 0, 0, 0, 0x10, 0x7E, 0, 0, 0, 1];
 
 /// The bytes of END and the end byte.
 pub(crate) const CLOSING_LEN: usize = 19;
@@ -80,6 +80,7 @@ pub fn run<R: Clock + Print + Files + AllocGlobal>(rt: &R, alloc: Global) -> io:
     )?;
     let meter = warmed(rt, alloc);
     report_small(rt, meter)?;
+    commands::run(rt, meter)?;
     report_large(rt, meter)?;
     waiting::run(rt, meter)
 }
@@ -233,7 +234,7 @@ fn items_read(alloc: Global, mode: Mode, text: &[u8]) -> usize {
 }
 
 // Feeds a stream in pieces. Returns whether the reader took them all.
-fn feed_pieces(reader: &mut StreamReader, text: &[u8]) -> bool {
+pub(crate) fn feed_pieces(reader: &mut StreamReader, text: &[u8]) -> bool {
     for piece in text.chunks(PIECE_LEN) {
         let has_room = reader.fed().checked_add(piece.len() as u64).is_some();
         if reader.ended() || !has_room || reader.feed(piece).is_err() {
@@ -244,7 +245,7 @@ fn feed_pieces(reader: &mut StreamReader, text: &[u8]) -> bool {
 }
 
 // Takes at most `most` rounds that were read. Returns the number of rounds and records.
-fn take_items(reader: &mut StreamReader, most: usize) -> usize {
+pub(crate) fn take_items(reader: &mut StreamReader, most: usize) -> usize {
     let mut items = 0usize;
     for _ in 0..most {
         match reader.take_round() {
@@ -493,7 +494,7 @@ fn with_part(alloc: Global, table: &Table, records: &[u8]) -> Option<Vec<u8>> {
 }
 
 // The stream of a table with these sections.
-fn with_sections(alloc: Global, table: &Table, sections: &[u8]) -> Option<Vec<u8>> {
+pub(crate) fn with_sections(alloc: Global, table: &Table, sections: &[u8]) -> Option<Vec<u8>> {
     let whole = without_rounds(alloc, table)?;
     let (opening, closing) = whole.split_at_checked(whole.len().checked_sub(CLOSING_LEN)?)?;
     joined(alloc, &[opening, sections, closing])

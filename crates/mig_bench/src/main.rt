@@ -7,6 +7,7 @@
 //! compares a figure.
 #![tactic(auto)]
 
+mod commands;
 mod guest;
 mod hostile;
 mod in_place;
