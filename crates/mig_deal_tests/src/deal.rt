@@ -77,17 +77,6 @@ fn play<A: Allocator>(
     spents
 }
 
-#[test]
-fn two_seats_and_one_batch(rt: HostRuntime) {
-    let Ok((deal, seats)) = Deal::new(rt.alloc(), 5, 1, 2) else {
-        panic!(rt; "memory")
-    };
-    assert_eq!(rt; deal.base(), 5);
-    let spents = play(&rt, &deal, seats);
-    let next = deal.close(spents);
-    assert_eq!(rt; next, 8);
-}
-
 // The seats draw in another order than they were made in.
 #[test]
 fn three_seats_and_no_batch(rt: HostRuntime) {
@@ -207,6 +196,7 @@ fn allocations_refused(rt: HostRuntime) {
             Err(NoMemory) => assert!(rt; !heap.is_waiting()),
             Ok((deal, seats)) => {
                 assert_eq!(rt; nth, 4);
+                assert_eq!(rt; deal.base(), 5);
                 let spents = play(&rt, &deal, seats);
                 let next = deal.close(spents);
                 assert_eq!(rt; next, 8);

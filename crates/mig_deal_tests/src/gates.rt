@@ -1,11 +1,11 @@
-//! The sender on two channels with gates that one worker alone doesn't pass, and on the largest
-//! number of channels. Each channel is read as a loader reads it, packet by packet.
+//! The sender on two channels with gates that one worker alone doesn't pass. Each channel is read
+//! packet by packet, as a loader reads it.
 
 use crate::multi::{Round, finish, send, uuid};
 use crate::working::Told;
 use mig_fixtures::{at, table_of};
 use mig_mem::{Dirty, Memory, is_page_size};
-use mig_packet::{ChannelReader, ChannelState, Gate, OpenGate, Packet, PacketRound, Step};
+use mig_packet::{ChannelReader, ChannelState, Gate, Packet, PacketRound, Step};
 use mig_send::{MultiSender, Sent};
 use std::alloc::AllocGlobal;
 use std::process::Abort;
@@ -301,34 +301,4 @@ fn one_worker_held(rt: HostRuntime) {
     assert!(rt; held <= 3);
     let [_, held] = send_held(&rt, &guest, 4, bytes, &Holding::new(&rt, None, Some(4)));
     assert!(rt; held <= 3);
-}
-
-// ---- the largest number of channels
-
-// A round without pages and one of three batches. The order in which the workers draw isn't tested:
-// no worker waits for another, since they run in turn if threads can't be started.
-#[test]
-fn most_channels(rt: HostRuntime) {
-    let guest = Guest {
-        page_size: 4096,
-        pages: 5,
-        limit: 2,
-    };
-    let mut sender = guest.sender(&rt, 255);
-    send(&rt, &mut sender, &guest.idle(&rt), &OpenGate);
-    assert!(rt; sender.base() == 255);
-    send(&rt, &mut sender, &guest.busy(&rt), &OpenGate);
-    assert!(rt; sender.base() == 513 && sender.rounds() == 2);
-    assert!(rt; sender.channels() == 255);
-    let sent = finish(&rt, sender);
-    assert!(rt; sent.channels.len() == 255);
-    let idle = Numbers {
-        base: 0,
-        batches: 0,
-    };
-    let busy = Numbers {
-        base: 255,
-        batches: 3,
-    };
-    assert_texts(&rt, &guest, &sent, &[idle, busy], 513);
 }

@@ -18,8 +18,10 @@ mod multi;
 mod open_end;
 #[cfg(test)]
 mod shown;
+pub mod slots;
 #[cfg(test)]
 mod stepped;
-pub mod workers;
+#[cfg(test)]
+mod workers;
 #[cfg(test)]
 mod working;

@@ -1,10 +1,10 @@
 //! The sender on several channels, each channel's worker on a thread of its own: two rounds of one
 //! guest, whose streams are also made by hand, of the same batches and their packets; what refuses
-//! a sender or a round; each allocation refused; and streams that are drained between the rounds.
+//! a round; each allocation refused; and streams that are drained between the rounds.
 
 use crate::batches::{cut_at, memory_of};
-use mig_fixtures::{TestHeap, at, places_of, set, table, table_of};
-use mig_mem::{Dirty, Memory, Table};
+use mig_fixtures::{TestHeap, at, places_of, set, table};
+use mig_mem::{Dirty, Memory};
 use mig_packet::{Gate, OpenGate, Step, hello, put_packet};
 use mig_send::{MultiSender, SendFault, Sent, pack};
 use mig_stream::StreamWriter;
@@ -210,56 +210,7 @@ fn two_channels(rt: HostRuntime) {
     assert_two_channels(&rt, &sent);
 }
 
-#[test]
-fn one_channel(rt: HostRuntime) {
-    let sent = send_both(&rt, 1, &OpenGate);
-    assert_sent(&rt, &sent);
-}
-
-// A round without dirty pages has only SYNC packets.
-#[test]
-fn no_pages(rt: HostRuntime) {
-    let memory = memory_of(&rt, &[("a", 3), ("b", 3)]);
-    let dirty = places_of(rt.alloc(), memory.table(), &[]).expect(&rt, "a set");
-    let round = Round { memory, dirty };
-    let mut sender = sender_on(&rt, 2);
-    send(&rt, &mut sender, &round, &OpenGate);
-    assert!(rt; sender.base() == 2 && sender.rounds() == 1);
-    let sent = finish(&rt, sender);
-    let mut packets = Vec::new(rt.alloc());
-    put_round(&rt, &mut packets, &round, 2);
-    let a = numbers_in(&rt, &sent, 0, &packets);
-    let b = numbers_in(&rt, &sent, 1, &packets);
-    assert!(rt; a.min(b) == 1 && a.max(b) == 2);
-}
-
 // ---- refusals
-
-fn refusal(
-    rt: &(impl AllocGlobal + Abort),
-    table: &Table,
-    channels: usize,
-    limit: usize,
-) -> Option<SendFault> {
-    MultiSender::new(rt.alloc(), table, uuid(), channels, limit).err()
-}
-
-// The number of channels is tested first.
-#[test]
-fn refused_senders(rt: HostRuntime) {
-    let pages_4k = table(rt.alloc(), &[("a", 3)]).expect(&rt, "a table");
-    for (channels, limit) in [(0usize, 1usize), (0, 0), (256, 128), (256, 129)] {
-        assert!(rt; refusal(&rt, &pages_4k, channels, limit) == Some(SendFault::Channels));
-    }
-    for (channels, limit) in [(1usize, 0usize), (255, 129)] {
-        assert!(rt; refusal(&rt, &pages_4k, channels, limit) == Some(SendFault::Limit));
-    }
-    let pages_8k = table_of(rt.alloc(), 8192, &[("a", 3)]).expect(&rt, "a table");
-    assert!(rt; refusal(&rt, &pages_8k, 1, 65) == Some(SendFault::Limit));
-    assert!(rt; refusal(&rt, &pages_4k, 255, 128).is_none());
-    assert!(rt; refusal(&rt, &pages_8k, 1, 64).is_none());
-    assert!(rt; SendFault::Channels.number() == 61 && SendFault::Limit.number() == 62);
-}
 
 // Returns the values that a refused round doesn't change, other than the streams: the next packet's
 // number, the rounds sent, and the channels.

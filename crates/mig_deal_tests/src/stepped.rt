@@ -241,19 +241,19 @@ fn try_step<A: Allocator>(rt: &impl Abort, worker: &mut ChannelWorker<A>, memory
     worker.step(memory).is_ok()
 }
 
-// A step that is refused an allocation writes nothing, and the next one writes the packet.
-#[test]
-fn refused_steps(rt: HostRuntime) {
-    let heap = TestHeap::new(rt.alloc());
-    let table = table(rt.alloc(), &[("a", 3), ("b", 3)]).expect(&rt, "a table");
-    let sender = MultiSender::new(&heap, &table, uuid(), 1, 2).expect(&rt, "a sender");
-    let first = first_round(&rt);
-    let mut round = begin(&rt, sender, &first.dirty);
-    let mut worker = worker_of(&rt, &mut round);
+// Steps a worker to its end, with an allocation of each step refused.
+fn step_to_the_end<A: Allocator>(
+    rt: &impl Abort,
+    heap: &TestHeap,
+    worker: &mut ChannelWorker<A>,
+    memory: &Memory,
+)
+    ensures { worker.new.terms ≡ worker.old.terms }
+{
     let mut refusals = 0u64;
     'steps: for nth in 1..100u64 {
         heap.refuse(nth);
-        if !try_step(&rt, &mut worker, &first.memory) {
+        if !try_step(rt, worker, memory) {
             assert!(rt; !heap.is_waiting());
             refusals = refusals.wrapping_add(1);
         }
@@ -262,8 +262,28 @@ fn refused_steps(rt: HostRuntime) {
         }
     }
     assert!(rt; refusals > 0 && worker.has_ended());
-    give_back(&rt, &mut round, worker);
-    let sent = finish(&rt, end(&rt, round));
+}
+
+// Returns a sender on one channel that sent a round in such steps.
+fn sent_after_refusals<'a>(
+    rt: &(impl AllocGlobal + Abort),
+    heap: &'a TestHeap,
+    first: &Round,
+) -> MultiSender<&'a TestHeap> {
+    let table = table(rt.alloc(), &[("a", 3), ("b", 3)]).expect(rt, "a table");
+    let sender = MultiSender::new(heap, &table, uuid(), 1, 2).expect(rt, "a sender");
+    let mut round = begin(rt, sender, &first.dirty);
+    let mut worker = worker_of(rt, &mut round);
+    step_to_the_end(rt, heap, &mut worker, &first.memory);
+    give_back(rt, &mut round, worker);
+    end(rt, round)
+}
+
+// A step that is refused an allocation writes nothing, and the next one writes the packet.
+#[test]
+fn refused_steps(rt: HostRuntime) {
+    let heap = TestHeap::new(rt.alloc());
+    let sent = finish(&rt, sent_after_refusals(&rt, &heap, &first_round(&rt)));
     let text = sent.channels.first().expect(&rt, "a text");
     let by_hand = channel_by_hand(&rt, 1, 0, &[0, 1, 2, 3, 4]);
     assert!(rt; text.as_slice() == by_hand.as_slice());

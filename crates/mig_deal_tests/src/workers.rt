@@ -3,6 +3,7 @@
 ghost use Rattle.std.specs.Prelude.{◌≡◌, ◌+◌, ◌<◌, ◌≤◌, ◌++◌, ◌∷◌, [], All, IfOk, length, vec_len, vec_capacity};
 ghost use Rattle.mig_deal_tests.specs.Slots.{IsWaiting, IsDone};
 
+use crate::slots::Slot;
 use mig_deal::{Deal, Drawn, Seat, Spent};
 use std::alloc::{AllocError, AllocFailed, Global};
 use std::mem;
@@ -50,13 +51,6 @@ impl Hall {
     {
         self.times[place as usize].fetch_add(1, Ordering::SeqCst);
     }
-}
-
-/// A seat before its worker ran, and the spent seat afterwards.
-pub enum Slot {
-    Waiting(Seat),
-    Running,
-    Done(Spent),
 }
 
 // Draws until the seat's last number.
