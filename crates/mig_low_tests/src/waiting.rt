@@ -1,6 +1,6 @@
-//! Limits on what may wait in a channel's round: which packet is at fault, after which other faults,
-//! what was read before it, and that a round after a SYNC packet has room again. Both readers of a
-//! channel report the same.
+//! Limits on what may wait in a channel's round: which packet is at fault, after which other
+//! faults, what was read before it, and that a round after a SYNC packet has room again. Both
+//! readers of a channel report the same.
 //!
 //! A round of the channel is a packet with one page of contents and one of zeros, which counts 3,
 //! and a SYNC packet without pages, which counts 1.
@@ -196,8 +196,8 @@ fn packet_alone(rt: HostRuntime) {
     }
 }
 
-// Returns the room after the packet at the beginning of bytes, in whose round 9 may wait and 5 still
-// have room.
+// Returns the room after the packet at the beginning of bytes, in whose round 9 may wait and 5
+// still have room.
 fn room_after(rt: &impl Abort, bytes: &[u8]) -> Option<u64> {
     match read_packet(4096, bytes) {
         PacketRead::Whole(packet, _) => packet.next_room(Some(9), Some(5)),
