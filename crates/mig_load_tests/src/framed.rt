@@ -1,18 +1,18 @@
-//! Loads on several channels with settings: of a main stream of RAM's sections alone and of a
-//! machine's, each also read as the other; with each allocation refused in turn.
+//! Loads on several channels with settings, of a main stream of RAM's sections alone and of a
+//! machine's, with each allocation refused in turn: of complete streams, and of a relay.
 
 ghost use Rattle.std.specs.Prelude.{◌≡◌, ◌≤◌, ◌^◌};
 
-use crate::load_refused::assert_no_memory;
 use crate::load_texts::{
     LIMIT, assert_done, assert_failed, assert_full, main_of, one, sevens_then_zeros,
 };
-use crate::relayed::relayed;
+use crate::pieces::assert_received;
+use crate::relayed::{TWO_ROUNDS, relayed};
 use mig_fixtures::TestHeap;
 use mig_packet::OpenGate;
-use mig_relay::{load_multi_in, load_relayed_in};
+use mig_relay::{Collector, load_multi_in, load_relayed_in};
 use mig_single_load::{Fault, LoadSettings, Loaded, Origin};
-use mig_stream::{Frame, StreamFault};
+use mig_stream::Frame;
 use std::alloc::{AllocGlobal, Allocator};
 use std::process::Abort;
 use std::sync::Wait;
@@ -21,7 +21,7 @@ use uuid::Uuid;
 
 const FRAMES: [Frame; 2] = [Frame::Ram, Frame::Machine];
 
-pub(crate) fn settings(frame: Frame) -> LoadSettings
+fn settings(frame: Frame) -> LoadSettings
     ensures page_size { result.page_size ≡ 4096 }
     ensures limit { result.limit ≤ 2 ^ 40 }
 {
@@ -78,32 +78,18 @@ fn load_in<R: AllocGlobal + Abort + Threads + Wait + Sync, A: Allocator + Copy +
     )
 }
 
-// A main stream with one round and a channel with two fails after the round. A machine's stream
-// read as RAM's sections fails at its first COMMAND, byte 15, before there is a memory. RAM's
-// sections alone are a machine's stream as well.
-#[test]
-fn read_in_both_frames(rt: HostRuntime) {
-    let texts = one(&rt, sevens_then_zeros(&rt));
-    for frame in FRAMES {
-        let whole = load_in(&rt, rt.alloc(), frame, &main_in(&rt, frame, 2), &texts);
-        assert_done(&rt, &whole, 2);
-        assert_full(&rt, &whole, 1, 0);
-        let short = load_in(&rt, rt.alloc(), frame, &main_in(&rt, frame, 1), &texts);
-        assert_failed(&rt, &short, 1, Origin::Channel(0), Fault::Extra);
-        assert_full(&rt, &short, 1, 7);
+// Asserts what a refused load returns: the memory is that after the rounds counted. The only page
+// is filled with 7 in round 0, and with zeros in round 1. Before the first round there may be none.
+fn assert_no_memory(rt: &impl Abort, loaded: &Loaded<&TestHeap>) {
+    let rounds = loaded.rounds;
+    assert_failed(rt, loaded, rounds, Origin::Round, Fault::NoMemory);
+    if rounds == 0 && loaded.memory.is_none() {
+        return;
     }
-    let machine = main_in(&rt, Frame::Machine, 2);
-    let refused = load_in(&rt, rt.alloc(), Frame::Ram, &machine, &texts);
-    let other_type = Fault::Stream(StreamFault::SectionType);
-    assert_failed(&rt, &refused, 0, Origin::Main, other_type);
-    assert!(rt; refused.memory.is_none());
-    let ram = main_in(&rt, Frame::Ram, 2);
-    let loaded = load_in(&rt, rt.alloc(), Frame::Machine, &ram, &texts);
-    assert_done(&rt, &loaded, 2);
-    assert_full(&rt, &loaded, 1, 0);
+    let byte = [0, 7, 0].get(rounds as usize).copied();
+    assert_full(rt, loaded, 1, byte.expect(rt, "a round of the texts"));
 }
 
-// The page is filled with 7 in round 0, and with zeros in round 1.
 fn assert_allocations<R: AllocGlobal + Abort + Threads + Wait + Sync>(rt: &R, frame: Frame) {
     let heap = TestHeap::new(rt.alloc());
     let texts = one(rt, sevens_then_zeros(rt));
@@ -117,7 +103,7 @@ fn assert_allocations<R: AllocGlobal + Abort + Threads + Wait + Sync>(rt: &R, fr
             assert_full(rt, &loaded, 1, 0);
             return;
         }
-        assert_no_memory(rt, &loaded, &[0, 7, 0]);
+        assert_no_memory(rt, &loaded);
     }
     panic!(rt; "each run had a refusal");
 }
@@ -129,27 +115,54 @@ fn each_allocation_refused(rt: HostRuntime) {
     }
 }
 
-// A later load of the relay begins with the items that the refused load took.
+// Loads a relay. Returns whether both rounds were loaded; if they weren't, an allocation was
+// refused.
+fn are_loaded<'a, R: AllocGlobal + Abort + Wait>(
+    rt: &R,
+    heap: &'a TestHeap,
+    collector: &mut Collector<'_, &'a TestHeap>,
+    main: &[u8],
+    frame: Frame,
+) -> bool {
+    let loaded = load_relayed_in(rt, heap, collector, main, settings(frame));
+    if loaded.verdict.is_err() {
+        assert_no_memory(rt, &loaded);
+        return false;
+    }
+    assert_done(rt, &loaded, 2);
+    assert_full(rt, &loaded, 1, 0);
+    true
+}
+
+// Loads a relay with allocation `nth` refused, and again if there was one: the later load begins
+// with the items that the refused load took. Returns whether there was none.
+fn is_relayed<R: AllocGlobal + Abort + Wait>(
+    rt: &R,
+    heap: &TestHeap,
+    texts: &[Vec<u8>],
+    main: &[u8],
+    frame: Frame,
+    nth: u64,
+) -> bool {
+    let mut collector = relayed(rt, heap, texts);
+    heap.refuse(nth);
+    let is_whole = are_loaded(rt, heap, &mut collector, main, frame);
+    assert!(rt; heap.is_waiting() == is_whole);
+    heap.refuse(0);
+    assert!(rt; is_whole || are_loaded(rt, heap, &mut collector, main, frame));
+    assert_received(rt, &collector, 0, &TWO_ROUNDS);
+    is_whole
+}
+
 fn assert_relayed<R: AllocGlobal + Abort + Wait>(rt: &R, frame: Frame) {
     let heap = TestHeap::new(rt.alloc());
     let texts = one(rt, sevens_then_zeros(rt));
     let main = main_in(rt, frame, 2);
     for nth in 1..1000u64 {
-        let mut collector = relayed(rt, &heap, &texts);
-        heap.refuse(nth);
-        let loaded = load_relayed_in(rt, &heap, &mut collector, &main, settings(frame));
-        let is_waiting = heap.is_waiting();
-        heap.refuse(0);
-        if is_waiting {
+        if is_relayed(rt, &heap, &texts, &main, frame, nth) {
             assert!(rt; nth > 1);
-            assert_done(rt, &loaded, 2);
-            assert_full(rt, &loaded, 1, 0);
             return;
         }
-        assert_no_memory(rt, &loaded, &[0, 7, 0]);
-        let again = load_relayed_in(rt, &heap, &mut collector, &main, settings(frame));
-        assert_done(rt, &again, 2);
-        assert_full(rt, &again, 1, 0);
     }
     panic!(rt; "each run had a refusal");
 }

@@ -1,5 +1,5 @@
-//! The load in place of one stream: pieces of any length, a cut stream, another table, and each allocation
-//! refused.
+//! The load in place of one stream: pieces of any length, a cut stream, another table, and each
+//! allocation refused.
 
 use crate::load_texts::LIMIT;
 use mig_fixtures::{TestHeap, at, places_of, set, table, zeroed};

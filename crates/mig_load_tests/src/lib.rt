@@ -7,10 +7,6 @@ mod framed;
 #[cfg(test)]
 mod in_place;
 #[cfg(test)]
-mod load_cut;
-#[cfg(test)]
-mod load_refused;
-#[cfg(test)]
 mod load_sent;
 #[cfg(test)]
 mod load_texts;

@@ -1,15 +1,13 @@
-//! Loading the streams of several channels gives the memory that loading the single stream of the
-//! same rounds gives.
+//! Loading the streams of two channels, sent by workers that wait for each other, gives the memory
+//! that loading the single stream of the same round gives.
 
-use crate::framed::settings;
 use crate::meeting::Meeting;
-use mig_fixtures::{at, places_of, set, zeroed};
+use mig_fixtures::{at, places_of, zeroed};
 use mig_mem::{Dirty, Memory, first_difference};
 use mig_packet::{Gate, OpenGate};
-use mig_relay::{load_multi, load_multi_in};
+use mig_relay::load_multi;
 use mig_send::{MultiSender, Sent, SingleSender};
 use mig_single_load::{Loaded, load_single};
-use mig_stream::Frame;
 use std::alloc::AllocGlobal;
 use std::process::Abort;
 use std::sync::Wait;
@@ -25,56 +23,8 @@ struct Round {
     dirty: Dirty,
 }
 
-// ---- rounds of two blocks
-
-const BLOCKS: [(&str, u64); 2] = [("a", 3), ("pc.ram", 5)];
-
-// Returns all eight pages, of which three aren't zeros.
-fn first_round(rt: &(impl AllocGlobal + Abort)) -> Round {
-    let mut memory = zeroed(rt.alloc(), &BLOCKS).expect(rt, "a memory");
-    assert!(rt; set(&mut memory, 0, 4096, 9));
-    assert!(rt; set(&mut memory, 1, 5, 1) && set(&mut memory, 1, 20_479, 2));
-    let places = [
-        at(0, 0),
-        at(0, 1),
-        at(0, 2),
-        at(1, 0),
-        at(1, 1),
-        at(1, 2),
-        at(1, 3),
-        at(1, 4),
-    ];
-    let dirty = places_of(rt.alloc(), memory.table(), &places).expect(rt, "a set");
-    Round { memory, dirty }
-}
-
-// Returns a round in which two pages become zeros, and two no longer are.
-fn second_round(rt: &(impl AllocGlobal + Abort)) -> Round {
-    let mut memory = zeroed(rt.alloc(), &BLOCKS).expect(rt, "a memory");
-    assert!(rt; set(&mut memory, 1, 20_479, 2));
-    assert!(rt; set(&mut memory, 0, 0, 7) && set(&mut memory, 1, 8192, 8));
-    let places = [at(0, 0), at(0, 1), at(1, 0), at(1, 2)];
-    let dirty = places_of(rt.alloc(), memory.table(), &places).expect(rt, "a set");
-    Round { memory, dirty }
-}
-
-// Returns a round without dirty pages.
-fn last_round(rt: &(impl AllocGlobal + Abort)) -> Round {
-    let Round { memory, dirty: _ } = second_round(rt);
-    let dirty = places_of(rt.alloc(), memory.table(), &[]).expect(rt, "a set");
-    Round { memory, dirty }
-}
-
-fn rounds_of_two_blocks(rt: &(impl AllocGlobal + Abort)) -> Vec<Round> {
-    let mut rounds = Vec::new(rt.alloc());
-    assert!(rt; rounds.push(first_round(rt)).is_ok());
-    assert!(rt; rounds.push(second_round(rt)).is_ok());
-    assert!(rt; rounds.push(last_round(rt)).is_ok());
-    rounds
-}
-
-// Returns one round of 129 pages, each filled with 7.
-fn round_of_sevens(rt: &(impl AllocGlobal + Abort)) -> Vec<Round> {
+// Returns a round of 129 pages, each filled with 7.
+fn round_of_sevens(rt: &(impl AllocGlobal + Abort)) -> Round {
     let mut memory = zeroed(rt.alloc(), &[("a", 129)]).expect(rt, "a memory");
     let mut dirty = places_of(rt.alloc(), memory.table(), &[]).expect(rt, "a set");
     let page = [7u8; 4096];
@@ -85,43 +35,32 @@ fn round_of_sevens(rt: &(impl AllocGlobal + Abort)) -> Vec<Round> {
         memory.put_page(place, &page);
         assert!(rt; dirty.mark(place) == Ok(true));
     }
-    let mut rounds = Vec::new(rt.alloc());
-    assert!(rt; rounds.push(Round { memory, dirty }).is_ok());
-    rounds
+    Round { memory, dirty }
 }
 
 // ---- the streams, and their loads
 
-// Returns the single stream of the rounds.
-fn single_of(rt: &(impl AllocGlobal + Abort), rounds: &[Round]) -> Vec<u8> {
-    let first = rounds.first().expect(rt, "a round");
-    let mut sender = SingleSender::new(rt.alloc(), first.memory.table()).expect(rt, "a sender");
-    for round in rounds {
-        assert!(rt; sender.round(&round.memory, &round.dirty) == Ok(()));
-    }
+// Returns the single stream of the round.
+fn single_of(rt: &(impl AllocGlobal + Abort), round: &Round) -> Vec<u8> {
+    let mut sender = SingleSender::new(rt.alloc(), round.memory.table()).expect(rt, "a sender");
+    assert!(rt; sender.round(&round.memory, &round.dirty) == Ok(()));
     let Ok(text) = sender.finish() else {
         panic!(rt; "memory")
     };
     text
 }
 
-// Returns the streams of the rounds on `channels` channels, with at most `limit` pages to a packet,
-// whose workers pass `gate`.
+// Returns the streams of the round on two channels, whose workers pass `gate`.
 fn sent_behind<R: AllocGlobal + Abort + Threads + Sync, G: Gate + Sync>(
     rt: &R,
-    rounds: &[Round],
-    channels: usize,
-    limit: usize,
+    round: &Round,
     gate: &G,
 ) -> Sent {
-    let first = rounds.first().expect(rt, "a round");
-    let table = first.memory.table();
-    let made = MultiSender::new(rt.alloc(), table, Uuid::nil(), channels, limit);
+    let table = round.memory.table();
+    let made = MultiSender::new(rt.alloc(), table, Uuid::nil(), 2, 128);
     let mut sender = made.expect(rt, "a sender");
-    for round in rounds {
-        let run = sender.round(rt, &round.memory, &round.dirty, gate);
-        assert!(rt; run == Ok(()));
-    }
+    let run = sender.round(rt, &round.memory, &round.dirty, gate);
+    assert!(rt; run == Ok(()));
     let Ok(sent) = sender.finish() else {
         panic!(rt; "memory")
     };
@@ -138,32 +77,20 @@ fn assert_loaded(rt: &impl Abort, loaded: &Loaded, rounds: u64, wanted: &Memory)
     assert!(rt; first_difference(memory, wanted).is_none());
 }
 
-// Returns the streams of the rounds on `channels` channels, whose workers pass an open gate.
-fn sent_of<R: AllocGlobal + Abort + Threads + Sync>(
-    rt: &R,
-    rounds: &[Round],
-    channels: usize,
-    limit: usize,
-) -> Sent {
-    sent_behind(rt, rounds, channels, limit, &OpenGate)
+// Asserts that a single stream is loaded to a memory. START and END count as rounds too.
+fn assert_single(rt: &(impl AllocGlobal + Abort), text: &[u8], wanted: &Memory) {
+    let loaded = load_single(rt.alloc(), 4096, text, LIMIT);
+    assert_loaded(rt, &loaded, 3, wanted);
 }
 
-// Asserts that loading the channels and loading the single stream give the guest's memory. In a
-// single stream START and END count as rounds too.
-fn assert_same<R: AllocGlobal + Abort + Threads + Wait + Sync>(
+// Asserts that streams of two channels are loaded to a memory.
+fn assert_several<R: AllocGlobal + Abort + Threads + Wait + Sync>(
     rt: &R,
-    rounds: &[Round],
     sent: &Sent,
+    wanted: &Memory,
 ) {
-    let count = rounds.len() as u64;
-    let last = rounds.last().expect(rt, "a round");
-    let single = load_single(rt.alloc(), 4096, &single_of(rt, rounds), LIMIT);
-    assert_loaded(rt, &single, count.wrapping_add(2), &last.memory);
-    let Some(wanted) = &single.memory else {
-        panic!(rt; "a memory")
-    };
     let texts = sent.channels.as_slice();
-    assert!(rt; 1 <= texts.len() && texts.len() <= 255);
+    assert!(rt; texts.len() == 2);
     let loaded = load_multi(
         rt,
         rt.alloc(),
@@ -174,99 +101,24 @@ fn assert_same<R: AllocGlobal + Abort + Threads + Wait + Sync>(
         LIMIT,
         &OpenGate,
     );
-    assert_loaded(rt, &loaded, count, wanted);
-}
-
-#[test]
-fn three_rounds_on_few_and_many_channels(rt: HostRuntime) {
-    let rounds = rounds_of_two_blocks(&rt);
-    for channels in [1usize, 2, 3, 255] {
-        for limit in [1usize, 2, 128] {
-            let sent = sent_of(&rt, &rounds, channels, limit);
-            assert!(rt; sent.channels.len() == channels);
-            assert_same(&rt, &rounds, &sent);
-        }
-    }
+    assert_loaded(rt, &loaded, 1, wanted);
 }
 
 // Two batches on two channels: the single stream has 529,511 bytes, the channels have 533,888
-// together.
+// together. Neither worker continues with its first number before the other has drawn one.
 #[test]
-fn sevens_on_two_channels(rt: HostRuntime) {
-    let rounds = round_of_sevens(&rt);
-    assert!(rt; single_of(&rt, &rounds).len() == 529_511);
-    let sent = sent_of(&rt, &rounds, 2, 128);
+fn sevens_by_two_workers_at_once(rt: HostRuntime) {
+    let round = round_of_sevens(&rt);
+    let gate = Meeting::new();
+    let sent = sent_behind(&rt, &round, &gate);
+    gate.assert_met(&rt);
     assert!(rt; sent.main.len() == 101);
+    assert_several(&rt, &sent, &round.memory);
     let [first, second] = sent.channels.as_slice() else {
         panic!(rt; "two texts")
     };
     assert!(rt; first.len().wrapping_add(second.len()) == 533_888);
-    assert_same(&rt, &rounds, &sent);
-}
-
-// Neither worker continues with its first number before the other has drawn one.
-#[test]
-fn sevens_by_two_workers_at_once(rt: HostRuntime) {
-    let rounds = round_of_sevens(&rt);
-    let gate = Meeting::new();
-    let sent = sent_behind(&rt, &rounds, 2, 128, &gate);
-    gate.assert_met(&rt);
-    assert_same(&rt, &rounds, &sent);
-}
-
-// ---- in a machine's stream
-
-// Returns the streams of the rounds on `channels` channels, with the main stream of a machine
-// `q35`, in which a device's section follows RAM's sections.
-fn machine_sent<R: AllocGlobal + Abort + Threads + Sync>(
-    rt: &R,
-    rounds: &[Round],
-    channels: usize,
-) -> Sent {
-    let first = rounds.first().expect(rt, "a round");
-    let table = first.memory.table();
-    let made = MultiSender::with_configuration(rt.alloc(), table, Uuid::nil(), channels, 2, b"q35");
-    let (mut main, mut sender) = made.expect(rt, "a sender");
-    for round in rounds {
-        let run = sender.round(rt, &round.memory, &round.dirty, &OpenGate);
-        assert!(rt; run == Ok(()));
-    }
-    let Ok(
-        Sent {
-            main: rest,
-            channels,
-        },
-    ) = sender.finish_open()
-    else {
-        panic!(rt; "memory")
-    };
-    assert!(rt; main.extend_from_slice(&rest).is_ok());
-    assert!(rt;
-        main.extend_from_slice(b"\x04\x00\x00\x00\x02\x05timer")
-            .is_ok()
-    );
-    Sent { main, channels }
-}
-
-#[test]
-fn machine_streams_on_few_and_many_channels(rt: HostRuntime) {
-    let rounds = rounds_of_two_blocks(&rt);
-    let last = rounds.last().expect(&rt, "a round");
-    for channels in [1usize, 3, 255] {
-        let sent = machine_sent(&rt, &rounds, channels);
-        let texts = sent.channels.as_slice();
-        assert!(rt; 1 <= texts.len() && texts.len() <= 255);
-        let settings = settings(Frame::Machine);
-        let uuid = Uuid::nil();
-        let loaded = load_multi_in(
-            &rt,
-            rt.alloc(),
-            settings,
-            &uuid,
-            &sent.main,
-            texts,
-            &OpenGate,
-        );
-        assert_loaded(&rt, &loaded, 3, &last.memory);
-    }
+    let single = single_of(&rt, &round);
+    assert!(rt; single.len() == 529_511);
+    assert_single(&rt, &single, &round.memory);
 }

@@ -3,7 +3,7 @@
 
 use crate::texts::{hello_of, put_pages, put_sync, put_text};
 use mig_fixtures::{at, has_byte, is_full, put_page_and_zeros, table};
-use mig_packet::{Gate, OpenGate};
+use mig_packet::Gate;
 use mig_relay::load_multi;
 use mig_single_load::{Fault, LoadFault, Loaded, Origin};
 use mig_stream::StreamWriter;
@@ -31,12 +31,6 @@ pub(crate) fn main_of(rt: &(impl AllocGlobal + Abort), pages: u64, rounds: u64) 
         panic!(rt; "memory")
     };
     text
-}
-
-/// Returns the first `len` bytes of a stream.
-pub(crate) fn cut<'a>(rt: &impl Abort, text: &'a [u8], len: usize) -> &'a [u8] {
-    assert!(rt; len <= text.len());
-    &text[..len]
 }
 
 // ---- channels
@@ -120,15 +114,6 @@ pub(crate) fn load_behind<R: AllocGlobal + Abort + Threads + Wait + Sync, G: Gat
         LIMIT,
         gate,
     )
-}
-
-/// Loads streams.
-pub(crate) fn load<R: AllocGlobal + Abort + Threads + Wait + Sync>(
-    rt: &R,
-    main: &[u8],
-    channels: &[Vec<u8>],
-) -> Loaded {
-    load_behind(rt, main, channels, &OpenGate)
 }
 
 /// Asserts that all streams were read to their ends, with `rounds` rounds.

@@ -5,7 +5,7 @@ use crate::pieces::{Seen, assert_over, assert_received, feed, take};
 use crate::texts::{hello_of, put_sync, put_text};
 use mig_fixtures::put_page_and_zeros;
 use mig_packet::{ChannelFault, Gate, OpenGate, Step};
-use mig_relay::{ChannelEnd, FeederStep, Item, Relay};
+use mig_relay::{ChannelEnd, Relay};
 use std::alloc::AllocGlobal;
 use std::process::Abort;
 use std::sync::atomic::{AtomicU64, Ordering};
@@ -44,53 +44,6 @@ fn pieces_of_a_channel_and_of_an_empty_text(rt: HostRuntime) {
     assert_received(&rt, &collector, 1, &[cut]);
     assert!(rt; collector.len() == 2);
     collector.drain(&rt, 2);
-}
-
-// The queue has room for one item: each item is taken before the next is pushed.
-#[test]
-fn pieces_through_a_queue_of_one(rt: HostRuntime) {
-    let mut texts = Vec::new(rt.alloc());
-    put_text(&rt, &mut texts, channel(&rt));
-    assert!(rt; texts.len() == 1);
-    let made = Relay::start(rt.alloc(), 4096, &Uuid::nil(), texts.as_slice(), 1);
-    let (feeders, mut collector) = made.expect(&rt, "a relay");
-    for feeder in feeders {
-        let mut step = feeder.step(&rt, &OpenGate);
-        for _ in rt.forever() {
-            take(&rt, &mut collector, 0, 1);
-            match step {
-                FeederStep::More(next) => step = next.step(&rt, &OpenGate),
-                FeederStep::Ended(_) => break,
-            }
-        }
-    }
-    let clean = Seen::Stop(ChannelEnd::Clean);
-    let wanted = [Seen::Hello(0), Seen::Page(0), Seen::Sync(1), clean];
-    assert_received(&rt, &collector, 0, &wanted);
-    assert_over(&rt, &mut collector, 0);
-}
-
-// A packet has the pages of its stream.
-#[test]
-fn pages_of_a_piece(rt: HostRuntime) {
-    let mut texts = Vec::new(rt.alloc());
-    put_text(&rt, &mut texts, channel(&rt));
-    assert!(rt; texts.len() == 1);
-    let made = Relay::start(rt.alloc(), 4096, &Uuid::nil(), texts.as_slice(), 1024);
-    let (feeders, mut collector) = made.expect(&rt, "a relay");
-    for feeder in feeders {
-        feed(&rt, feeder, &OpenGate);
-    }
-    take(&rt, &mut collector, 0, 2);
-    assert!(rt; collector.len() == 1);
-    let Some(Item::Page(packet)) = collector.received(0).get(1) else {
-        panic!(rt; "a packet")
-    };
-    assert!(rt; packet.id() == b"a".as_slice());
-    assert!(rt; packet.normal_len() == 1 && packet.zero_len() == 1);
-    assert!(rt; packet.offset(0) == 4096 && packet.offset(1) == 0);
-    assert!(rt; packet.page(0).iter().position(|byte| *byte != 0) == Some(0));
-    collector.drain(&rt, 0);
 }
 
 // ---- the steps of a feeder

@@ -93,29 +93,6 @@ fn take_again<R: Wait + Abort>(
     assert_received(rt, collector, channel, wanted);
 }
 
-// After a refused start a later start has the streams, and makes the feeders and the collector.
-#[test]
-fn start_with_each_allocation_refused(rt: HostRuntime) {
-    let texts = two_texts(&rt);
-    let heap = TestHeap::new(rt.alloc());
-    for nth in 1..1000u64 {
-        heap.refuse(nth);
-        let run = start(&rt, &heap, &texts);
-        let is_waiting = heap.is_waiting();
-        heap.refuse(0);
-        let Some(started) = run else {
-            assert!(rt; !is_waiting);
-            continue;
-        };
-        assert!(rt; is_waiting && nth > 1);
-        let mut collector = feed_all(&rt, &heap, started);
-        take_again(&rt, &mut collector, 0, &NINE);
-        take_again(&rt, &mut collector, 1, &NONE);
-        return;
-    }
-    panic!(rt; "each run had a refusal");
-}
-
 // Takes all items of both channels with allocation `nth` refused, and returns whether there was
 // such an allocation. After a channel's stop neither a take nor the drain allocates.
 fn take_all_refused<R: Wait + Abort>(

@@ -8,11 +8,30 @@ use crate::texts::syncs;
 use mig_packet::{Gate, OpenGate, Step};
 use mig_relay::{Collector, Feeder, FeederStep, Relay, load_relayed};
 use mig_single_load::{Fault, Origin};
+use std::alloc::AllocGlobal;
 use std::process::Abort;
 use std::sync::Wait;
 use std::sync::atomic::{AtomicU64, Ordering};
 use std::thread::{self, Threads, yield_now};
 use uuid::Uuid;
+
+// Pushes a hello and a packet.
+fn step_twice<'a, R: Abort + Wait>(rt: &R, feeder: Feeder<'a>) -> Feeder<'a> {
+    let FeederStep::More(feeder) = feeder.step(rt, &OpenGate) else {
+        panic!(rt; "a hello alone")
+    };
+    let FeederStep::More(feeder) = feeder.step(rt, &OpenGate) else {
+        panic!(rt; "a hello and a packet")
+    };
+    feeder
+}
+
+// Loads a relay beside a main stream without a round.
+fn assert_extra<R: AllocGlobal + Abort + Wait>(rt: &R, collector: &mut Collector<'_>) {
+    let loaded = load_relayed(rt, rt.alloc(), collector, &main_of(rt, 1, 0), LIMIT);
+    assert_failed(rt, &loaded, 0, Origin::Channel(0), Fault::Extra);
+    assert_full(rt, &loaded, 1, 0);
+}
 
 // The main stream has no round, so the first SYNC packet decides the load: it doesn't wait for
 // items that are pushed later.
@@ -22,16 +41,8 @@ fn load_takes_no_more_than_it_needs(rt: HostRuntime) {
     assert!(rt; texts.len() == 1);
     let made = Relay::start(rt.alloc(), 4096, &Uuid::nil(), texts.as_slice(), 64);
     let (mut feeders, mut collector) = made.expect(&rt, "a relay");
-    let feeder = feeders.pop().expect(&rt, "a feeder");
-    let FeederStep::More(feeder) = feeder.step(&rt, &OpenGate) else {
-        panic!(rt; "a hello alone")
-    };
-    let FeederStep::More(feeder) = feeder.step(&rt, &OpenGate) else {
-        panic!(rt; "a hello and a packet")
-    };
-    let loaded = load_relayed(&rt, rt.alloc(), &mut collector, &main_of(&rt, 1, 0), LIMIT);
-    assert_failed(&rt, &loaded, 0, Origin::Channel(0), Fault::Extra);
-    assert_full(&rt, &loaded, 1, 0);
+    let feeder = step_twice(&rt, feeders.pop().expect(&rt, "a feeder"));
+    assert_extra(&rt, &mut collector);
     feed(&rt, feeder, &OpenGate);
     assert!(rt; collector.len() == 1);
     collector.drain(&rt, 1);

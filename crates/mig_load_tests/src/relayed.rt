@@ -1,14 +1,11 @@
 //! Loads from a relay of one channel, on one thread: of a relay from which nothing, some items or
-//! all were taken before, of one that has more rounds than the main stream, and with each
-//! allocation refused in turn.
+//! all were taken before, and of one that has more rounds than the main stream.
 
-use crate::load_refused::assert_no_memory;
 use crate::load_texts::{
     LIMIT, assert_done, assert_failed, assert_full, assert_page_and_zeros, main_of, one,
     page_and_zeros, sevens_then_zeros,
 };
 use crate::pieces::{Seen, assert_over, assert_received, feed, take};
-use mig_fixtures::TestHeap;
 use mig_packet::OpenGate;
 use mig_relay::{ChannelEnd, Collector, Relay, load_relayed};
 use mig_single_load::{Fault, Origin};
@@ -25,8 +22,8 @@ const ONE_ROUND: [Seen; 4] = [
     Seen::Stop(ChannelEnd::Clean),
 ];
 
-// The items of `sevens_then_zeros`.
-const TWO_ROUNDS: [Seen; 6] = [
+/// The items of `sevens_then_zeros`.
+pub(crate) const TWO_ROUNDS: [Seen; 6] = [
     Seen::Hello(0),
     Seen::Page(0),
     Seen::Sync(1),
@@ -81,31 +78,4 @@ fn round_that_the_main_stream_lacks(rt: HostRuntime) {
     take(&rt, &mut collector, 0, TWO_ROUNDS.len() - taken);
     assert_received(&rt, &collector, 0, &TWO_ROUNDS);
     assert_over(&rt, &mut collector, 0);
-}
-
-// A later load of the relay begins with the items that the refused load took.
-#[test]
-fn each_allocation_refused(rt: HostRuntime) {
-    let texts = one(&rt, sevens_then_zeros(&rt));
-    let main = main_of(&rt, 1, 2);
-    let heap = TestHeap::new(rt.alloc());
-    for nth in 1..1000u64 {
-        let mut collector = relayed(&rt, &heap, &texts);
-        heap.refuse(nth);
-        let loaded = load_relayed(&rt, &heap, &mut collector, &main, LIMIT);
-        let is_waiting = heap.is_waiting();
-        heap.refuse(0);
-        if is_waiting {
-            assert!(rt; nth > 1);
-            assert_done(&rt, &loaded, 2);
-            assert_full(&rt, &loaded, 1, 0);
-            return;
-        }
-        assert_no_memory(&rt, &loaded, &[0, 7, 0]);
-        let again = load_relayed(&rt, &heap, &mut collector, &main, LIMIT);
-        assert_done(&rt, &again, 2);
-        assert_full(&rt, &again, 1, 0);
-        assert_received(&rt, &collector, 0, &TWO_ROUNDS);
-    }
-    panic!(rt; "each run had a refusal");
 }

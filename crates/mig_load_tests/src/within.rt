@@ -1,4 +1,4 @@
-//! A relay with a limit on what may wait in a round: the items that it brings, and the load of them.
+//! A relay with a limit on what may wait in a round: the items that it brings, and their load.
 
 use crate::load_texts::{LIMIT, assert_done, assert_failed, main_of, one, page_and_zeros};
 use crate::pieces::{Seen, assert_over, assert_received, feed};
