@@ -121,11 +121,6 @@ pub(crate) fn append<A: Allocator>(rt: &impl Abort, text: &mut Vec<u8, A>, piece
     assert!(rt; text.extend_from_slice(piece).is_ok());
 }
 
-/// Returns the stream of those blocks without a PART.
-pub(crate) fn empty_text(rt: &(impl AllocGlobal + Abort)) -> Vec<u8> {
-    text_of(rt, &image_with(rt, 0, 0), &[])
-}
-
 /// Returns the stream of a writer.
 pub(crate) fn finished<A: Allocator>(
     rt: &(impl AllocGlobal + Abort),

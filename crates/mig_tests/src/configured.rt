@@ -1,11 +1,10 @@
 //! The writer of a machine's stream: its bytes for a worked guest, with names of several lengths
-//! and each of its allocations refused, and a load of these bytes.
+//! and each of its allocations refused.
 
 use crate::building::{append, finished, part};
-use mig_fixtures::{TestHeap, at, has_byte, places_of, set, zeroed};
-use mig_mem::{MAX_TOTAL, Memory, NoMemory, PAGE_SIZE_4K};
-use mig_single_load::{LoadSettings, load_single_in};
-use mig_stream::{Frame, StreamWriter};
+use mig_fixtures::{TestHeap, at, places_of, set, zeroed};
+use mig_mem::{Memory, NoMemory};
+use mig_stream::StreamWriter;
 use std::alloc::{AllocGlobal, Allocator};
 use std::process::Abort;
 use std::test::Fail;
@@ -97,23 +96,4 @@ fn writer_with_configuration(rt: HostRuntime) -> Result<(), Fail> {
     assert_configured(&rt, b"", b"\x00\x00\x00\x00")?;
     assert_configured(&rt, b"pc-i440fx-10.0", b"\x00\x00\x00\x0e")?;
     assert_configured(&rt, &[b'x'; 1024], b"\x00\x00\x04\x00")
-}
-
-// Left open and followed by a device's section, it is loaded as a machine's stream.
-#[test]
-fn configured_and_loaded(rt: HostRuntime) {
-    let image = guest(&rt);
-    let heap = TestHeap::new(rt.alloc());
-    let (first, mut writer) = begun(&rt, &heap, &image, b"pc").expect(&rt, "a writer");
-    let dirty = places_of(rt.alloc(), image.table(), &[at(0, 0)]).expect(&rt, "a set");
-    assert!(rt; part(&rt, &mut writer, &image, &dirty) == Ok(()));
-    let mut text = Vec::from_slice(rt.alloc(), &first).expect(&rt, "bytes");
-    let open = writer.finish_open().ok().expect(&rt, "a text");
-    append(&rt, &mut text, &open);
-    append(&rt, &mut text, b"\x04\x00\x00\x00\x02\x05timer");
-    let settings = LoadSettings::new(PAGE_SIZE_4K, MAX_TOTAL).with_frame(Frame::Machine);
-    let loaded = load_single_in(rt.alloc(), settings, &text);
-    assert!(rt; (loaded.rounds, loaded.verdict) == (3, Ok(())));
-    let memory = loaded.memory.as_ref().expect(&rt, "a memory");
-    assert!(rt; has_byte(memory, at(0, 0), 0, 7));
 }

@@ -4,7 +4,7 @@
 ghost use Rattle.std.specs.Prelude.{◌≡◌, ◌≤◌, ◌^◌};
 ghost use Rattle.mig_mem.specs.PageSize.{IsPageSize};
 
-use crate::building::{BLOCKS, Run, append, run_of, two_rounds, two_rounds_in};
+use crate::building::{BLOCKS, Run, append, run_of, two_rounds_in};
 use crate::refused::assert_two_rounds;
 use mig_fixtures::{TestHeap, at, has_byte, is_full, with_each_allocation_refused, zeroed};
 use mig_mem::{MAX_TOTAL, Memory, PAGE_SIZE_4K, PAGE_SIZE_8K};
@@ -17,9 +17,6 @@ use std::alloc::{AllocGlobal, Allocator};
 use std::process::Abort;
 use std::test::Fail;
 
-// The result of a load, other than its memory.
-type Answer = (u64, Result<(), LoadFault>);
-
 /// Both frames.
 pub(crate) const FRAMES: [Frame; 2] = [Frame::Ram, Frame::Machine];
 
@@ -31,8 +28,8 @@ pub(crate) fn settings(frame: Frame) -> LoadSettings
     LoadSettings::new(PAGE_SIZE_4K, MAX_TOTAL).with_frame(frame)
 }
 
-/// Returns where the stream of two rounds is closed: its sections have 8, 63, 4149, 27 and 18 bytes,
-/// and the end byte follows; before START of a machine are 131 bytes, and before END 5.
+/// Returns where the stream of two rounds is closed: its sections have 8, 63, 4149, 27 and 18
+/// bytes, and the end byte follows; before START of a machine are 131 bytes, and before END 5.
 pub(crate) fn closed_at(frame: Frame) -> u64 {
     match frame {
         Frame::Ram => 8 + 63 + 4149 + 27 + 18 + 1,
@@ -91,44 +88,6 @@ fn loads(rt: HostRuntime) -> Result<(), Fail> {
     assert_loaded(&rt, Frame::Machine, &followed(&rt, Frame::Machine))
 }
 
-// Loads a stream with settings, and returns the result without the memory, and whether there is a
-// memory.
-fn answer_of(rt: &impl AllocGlobal, settings: LoadSettings, text: &[u8]) -> (Answer, bool)
-    requires page_size { IsPageSize settings.page_size }
-    requires limit { settings.limit ≤ 2 ^ 40 }
-{
-    let loaded = load_single_in(rt.alloc(), settings, text);
-    ((loaded.rounds, loaded.verdict), loaded.memory.is_some())
-}
-
-// A machine's stream isn't a stream of RAM's sections: a subsection follows the configuration. A
-// stream of RAM's sections is a machine's stream. The limit and the page size count in both frames:
-// `a` has 2 pages of 4096 bytes, `pc.ram` 65; read with pages of 8192, the last bit of their sum is
-// a flag.
-#[test]
-fn other_settings(rt: HostRuntime) {
-    let ram = two_rounds(&rt);
-    let machine = followed(&rt, Frame::Machine);
-    let other_type = (0, Err(fault_of(0, StreamFault::SectionType)));
-    assert!(rt; answer_of(&rt, settings(Frame::Ram), &machine) == (other_type, false));
-    assert!(rt; answer_of(&rt, settings(Frame::Machine), &ram) == ((4, Ok(())), true));
-    let total = (0, Err(fault_of(0, StreamFault::Total)));
-    for (frame, text) in [
-        (Frame::Ram, ram.as_slice()),
-        (Frame::Machine, machine.as_slice()),
-    ] {
-        let fits = LoadSettings::new(PAGE_SIZE_4K, 67 * 4096).with_frame(frame);
-        assert!(rt; answer_of(&rt, fits, text) == ((4, Ok(())), true));
-        let small = LoadSettings::new(PAGE_SIZE_4K, 67 * 4096 - 1).with_frame(frame);
-        assert!(rt; answer_of(&rt, small, text) == (total, false));
-    }
-    let large = LoadSettings::new(PAGE_SIZE_8K, MAX_TOTAL);
-    let flags = (0, Err(fault_of(0, StreamFault::Flags(0x1004))));
-    assert!(rt; answer_of(&rt, large, &ram) == (flags, false));
-    let bits = (0, Err(fault_of(0, StreamFault::PageBits)));
-    assert!(rt; answer_of(&rt, large.with_frame(Frame::Machine), &machine) == (bits, false));
-}
-
 // Returns the byte at which a stream is closed, with allocation `nth` refused.
 fn run_of_closed_at(rt: &(impl AllocGlobal + Abort), frame: Frame, text: &[u8], nth: u64) -> Run {
     let heap = TestHeap::new(rt.alloc());
@@ -157,26 +116,6 @@ fn where_it_is_closed(rt: HostRuntime) {
         }
         assert!(rt; runs.0 > 1 && runs.1 == 1);
     }
-}
-
-// A stream that is cut or has a fault isn't closed. A machine's stream has no end byte; RAM's has
-// one.
-#[test]
-fn closed_nowhere(rt: HostRuntime) {
-    for frame in FRAMES {
-        let text = followed(&rt, frame);
-        let len = closed_at(frame) as usize;
-        let cut = text.get(..len.saturating_sub(1)).expect(&rt, "a front");
-        assert!(rt; single_closed_at(rt.alloc(), settings(frame), cut) == Ok(None));
-        let whole = text.get(..len).expect(&rt, "a stream");
-        let found = single_closed_at(rt.alloc(), settings(frame), whole);
-        assert!(rt; found == Ok(Some(len as u64)));
-    }
-    let machine = followed(&rt, Frame::Machine);
-    assert!(rt; single_closed_at(rt.alloc(), settings(Frame::Ram), &machine) == Ok(None));
-    let ram = two_rounds(&rt);
-    let found = single_closed_at(rt.alloc(), settings(Frame::Machine), &ram);
-    assert!(rt; found == Ok(Some(4265)));
 }
 
 // Returns whether `told` is right after `fed` bytes of a stream that is closed at `closed_at`: this
@@ -236,8 +175,8 @@ fn fed_in_pieces(rt: HostRuntime) {
     }
 }
 
-// A load in place, which needs memory for a copy of the table. `new_in` takes the page size from the
-// table: that of the settings doesn't count.
+// A load in place, which needs memory for a copy of the table. `new_in` takes the page size from
+// the table: that of the settings doesn't count.
 #[test]
 fn state_in_place(rt: HostRuntime) {
     for frame in FRAMES {

@@ -75,19 +75,39 @@ fn bytes_of(rt: &(impl AllocGlobal + Abort), page_size: u64, block: u64, pages: 
     block_of(rt.alloc(), page_size, block, pages).expect(rt, "bytes")
 }
 
+// Returns the bytes of a guest of three blocks.
+fn guest_of(rt: &(impl AllocGlobal + Abort), page_size: u64) -> [Vec<u8>; 3] {
+    three(
+        bytes_of(rt, page_size, 0, 3),
+        bytes_of(rt, page_size, 1, 70),
+        bytes_of(rt, page_size, 2, 1),
+    )
+}
+
+// Sends all pages of that guest onto three blocks, in parts of 16 pages.
+fn migrate_onto(
+    rt: &(impl AllocGlobal + Abort),
+    page_size: u64,
+    guest: &[&[u8]],
+    one: &mut [u8],
+    two: &mut [u8],
+    last: &mut [u8],
+) -> Option<Answer> {
+    let table = table_of(rt.alloc(), page_size, &BLOCKS).expect(rt, "a table");
+    let mut onto = three(&mut *one, &mut *two, &mut *last);
+    migrate_all(rt.alloc(), &table, guest, &mut onto, 16)
+}
+
 // A guest of three blocks is loaded as it was sent: of 74 pages, in parts of 16, so that there are
 // START, five parts and END.
 fn assert_migrated(rt: &(impl AllocGlobal + Abort), page_size: u64) {
-    let table = table_of(rt.alloc(), page_size, &BLOCKS).expect(rt, "a table");
-    let first = bytes_of(rt, page_size, 0, 3);
-    let second = bytes_of(rt, page_size, 1, 70);
-    let third = bytes_of(rt, page_size, 2, 1);
+    let guest = guest_of(rt, page_size);
+    let [first, second, third] = &guest;
+    let guest = three(first.as_slice(), second.as_slice(), third.as_slice());
     let mut one = others(rt, page_size, 3);
     let mut two = others(rt, page_size, 70);
     let mut last = others(rt, page_size, 1);
-    let guest = three(first.as_slice(), second.as_slice(), third.as_slice());
-    let mut onto = three(one.as_mut_slice(), two.as_mut_slice(), last.as_mut_slice());
-    let answer = migrate_all(rt.alloc(), &table, &guest, &mut onto, 16);
+    let answer = migrate_onto(rt, page_size, &guest, &mut one, &mut two, &mut last);
     assert!(rt; answer == Some((7, Ok(()))));
     assert!(rt; one.as_slice() == first.as_slice());
     assert!(rt; two.as_slice() == second.as_slice());

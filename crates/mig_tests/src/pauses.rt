@@ -20,10 +20,12 @@ fn table_len(frame: Frame) -> usize {
     8 + before + 17 + 8 + (1 + 1 + 8) + (1 + 6 + 8)
 }
 
-// The expected records of a reader with pauses: the sections of the stream, and the bytes after
-// them. It has returned the sections before one of them, and the first records of that one.
+// The expected records of a reader with pauses: the table and the sections of the stream, and the
+// bytes after them. It has returned the sections before one of them, and the first records of that
+// one.
 #[derive(Drop)]
 struct Wanted<'a> {
+    table: &'a Table,
     sections: Vec<StreamRound<'a>>,
     behind: &'static [u8],
     section: usize,
@@ -34,11 +36,15 @@ struct Wanted<'a> {
 fn wanted_of<'a>(
     rt: &(impl AllocGlobal + Abort),
     frame: Frame,
+    table: &'a Table,
     text: &'a [u8],
     behind: &'static [u8],
 ) -> Wanted<'a> {
-    let mode = Mode::Single;
-    let reader = StreamReader::of_text_in(rt.alloc(), frame, mode, PAGE_SIZE_4K, MAX_TOTAL, text);
+    let (alloc, mode) = (rt.alloc(), Mode::Single);
+    let reader = match frame {
+        Frame::Ram => StreamReader::of_text(alloc, mode, PAGE_SIZE_4K, MAX_TOTAL, text),
+        _ => StreamReader::of_text_in(alloc, frame, mode, PAGE_SIZE_4K, MAX_TOTAL, text),
+    };
     let mut reader = reader.expect(rt, "a reader");
     let mut sections = Vec::new(rt.alloc());
     for _ in 0..4 {
@@ -48,6 +54,7 @@ fn wanted_of<'a>(
         }
     }
     Wanted {
+        table,
         sections,
         behind,
         section: 0,
@@ -138,7 +145,6 @@ fn assert_paused(
     wanted: &mut Wanted,
 ) {
     let heap = TestHeap::new(rt.alloc());
-    let table = table(rt.alloc(), &BLOCKS).expect(rt, "a table");
     let closed_at = text.len().saturating_sub(wanted.behind.len());
     let (front, rest) = text.split_at_checked(first).expect(rt, "two pieces");
     let mut reader = first_reader(&heap, frame, front);
@@ -152,7 +158,7 @@ fn assert_paused(
         }
         assert!(rt; reader.behind().is_none());
         let pause = pause_of(rt, reader).expect(rt, "a pause");
-        assert_table(rt, &pause, fed >= table_len(frame), &table);
+        assert_table(rt, &pause, fed >= table_len(frame), wanted.table);
         reader = pause.resume(piece);
         assert!(rt; reader.given().len() == 0);
         read_all(rt, &heap, &mut reader, wanted);
@@ -164,8 +170,9 @@ fn assert_paused(
 
 // With a pause at any byte, and at every byte.
 fn assert_paused_anywhere(rt: &(impl AllocGlobal + Abort), frame: Frame) {
+    let table = table(rt.alloc(), &BLOCKS).expect(rt, "a table");
     let (text, behind) = two_rounds_in(rt, frame);
-    let mut wanted = wanted_of(rt, frame, &text, behind);
+    let mut wanted = wanted_of(rt, frame, &table, &text, behind);
     for first in 0..=text.len() {
         assert_paused(rt, frame, &text, first, text.len(), &mut wanted);
     }

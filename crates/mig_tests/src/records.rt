@@ -4,8 +4,7 @@
 
 use crate::building::{finished, part, two_rounds, two_rounds_in};
 use mig_fixtures::{TestHeap, at, places_of, set, zeroed};
-use mig_mem::{MAX_TOTAL, Memory, NoMemory, PAGE_SIZE_4K, Place, first_difference};
-use mig_single_load::load_single;
+use mig_mem::{MAX_TOTAL, Memory, NoMemory, PAGE_SIZE_4K, Place};
 use mig_stream::{Frame, Given, Mode, RecordReader, StreamReader, StreamRound, StreamWriter};
 use std::alloc::{AllocGlobal, Allocator};
 use std::process::Abort;
@@ -190,15 +189,4 @@ fn large(rt: &(impl AllocGlobal + Abort)) -> Memory {
 fn many_zero_pages_given(rt: HostRuntime) {
     let text = text_of_all(&rt, &large(&rt));
     assert!(rt; assert_given(&rt, Frame::Ram, &text, 3) > 2);
-}
-
-#[test]
-fn many_zero_pages_loaded(rt: HostRuntime) {
-    let image = large(&rt);
-    let text = text_of_all(&rt, &image);
-    let loaded = load_single(rt.alloc(), PAGE_SIZE_4K, &text, MAX_TOTAL);
-    assert!(rt; loaded.verdict == Ok(()) && loaded.rounds == 3);
-    let memory = loaded.memory.expect(&rt, "a memory");
-    assert!(rt; memory.table().same(image.table()));
-    assert!(rt; first_difference(&memory, &image) == None);
 }

@@ -4,11 +4,11 @@
 
 ghost use Rattle.std.specs.Prelude.{◌≡◌, All};
 
-use crate::building::{BLOCKS, Run, dirty_of, empty_text, image_with, run_of, text_of, two_rounds};
+use crate::building::{Run, dirty_of, image_with, run_of, text_of, two_rounds};
 use crate::rounds::{both_packets, next_packet, put_round, records, text_of_packets};
 use mig_assemble::{Gathered, RoundFault, Target};
 use mig_fixtures::{TestHeap, at, has_byte, is_full, table, with_each_allocation_refused};
-use mig_mem::{MAX_TOTAL, Memory, NoMemory, PAGE_SIZE_4K, Place, Table};
+use mig_mem::{MAX_TOTAL, Memory, NoMemory, PAGE_SIZE_4K, Place};
 use mig_packet::Packet;
 use mig_send::SingleSender;
 use mig_single_load::{Fault, LoadFault, Loaded, Origin, load_single};
@@ -27,24 +27,6 @@ pub(crate) fn assert_text<A: Allocator>(
         Ok(text) => assert!(rt; text.as_slice() == wanted),
         Err(_) => panic!(rt; "no text"),
     }
-}
-
-// Asserts that a sender of a table, made after refused allocations, has an empty stream.
-fn assert_new_sender(
-    rt: &(impl AllocGlobal + Abort),
-    heap: &TestHeap,
-    table: &Table<&TestHeap>,
-) -> Result<(), Fail> {
-    with_each_allocation_refused!(rt, heap, SingleSender::new(heap, table), sender => {
-        assert_text(rt, sender, &empty_text(rt));
-    });
-}
-
-#[test]
-fn sender_new(rt: HostRuntime) -> Result<(), Fail> {
-    let heap = TestHeap::new(rt.alloc());
-    let table = table(&heap, &BLOCKS).expect(&rt, "a table");
-    assert_new_sender(&rt, &heap, &table)
 }
 
 // Asserts the stream of a sender of one round, sent after refused allocations.
@@ -119,37 +101,6 @@ fn sender_finish(rt: HostRuntime) {
     panic!(rt; "no text was full");
 }
 
-// Asserts that a target has no round, and zeros of this table.
-fn assert_no_round<A: Allocator, B: Allocator>(
-    rt: &impl Abort,
-    target: &Target<A>,
-    table: &Table<B>,
-) {
-    assert!(rt; target.rounds() == 0);
-    assert!(rt; target.base() == 0);
-    assert!(rt; target.memory().table().same(table));
-    assert!(rt; is_full(target.memory(), at(1, 64), 0));
-}
-
-// Asserts that a target of a table, made after refused allocations, has no round.
-fn assert_new_target<A: Allocator + Copy, B: Allocator>(
-    rt: &impl Abort,
-    heap: &TestHeap,
-    alloc: A,
-    table: &Table<B>,
-) -> Result<(), Fail> {
-    with_each_allocation_refused!(rt, heap, Target::new(alloc, table), target => {
-        assert_no_round(rt, &target, table);
-    });
-}
-
-#[test]
-fn target_new(rt: HostRuntime) -> Result<(), Fail> {
-    let heap = TestHeap::new(rt.alloc());
-    let table = table(&heap, &BLOCKS).expect(&rt, "a table");
-    assert_new_target(&rt, &heap, &heap, &table)
-}
-
 // Returns a load's result, or its fault if that is `NoMemory`, found in applying rounds, with no
 // memory and no round.
 fn load_or_fault<'a>(heap: &'a TestHeap, text: &[u8]) -> Result<Loaded<&'a TestHeap>, Fault> {
@@ -184,23 +135,6 @@ fn assert_both_rounds<A: Allocator>(rt: &impl Abort, loaded: &Loaded<A>) {
     let memory = loaded.memory.as_ref().expect(rt, "a memory");
     assert!(rt; has_byte(memory, at(0, 1), 0, 7));
     assert!(rt; is_full(memory, at(1, 64), 0));
-}
-
-// Loads that stream after refused allocations.
-fn assert_loaded(
-    rt: &(impl AllocGlobal + Abort),
-    heap: &TestHeap,
-    text: &[u8],
-) -> Result<(), Fail> {
-    with_each_allocation_refused!(rt, heap, load_or_fault(heap, text), loaded => {
-        assert_two_rounds(rt, &loaded);
-    });
-}
-
-#[test]
-fn loads(rt: HostRuntime) -> Result<(), Fail> {
-    let heap = TestHeap::new(rt.alloc());
-    assert_loaded(&rt, &heap, &two_rounds(&rt))
 }
 
 // Loads that stream, cut short, with allocation `nth` refused.

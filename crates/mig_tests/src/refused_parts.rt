@@ -2,7 +2,7 @@
 //! the loader in place, which fails for good; and the target over bytes that the caller keeps. But
 //! for the loader all is as it was after a refusal, and the end is as if there had been none.
 
-use crate::building::{BLOCKS, finished, image_with, text_of, two_rounds};
+use crate::building::{BLOCKS, append, finished, image_with, text_of, two_rounds};
 use mig_assemble::Target;
 use mig_fixtures::{TestHeap, at, table, zeroed};
 use mig_mem::{GuestTarget, LentMemoryMut, MAX_TOTAL, Memory, PAGE_SIZE_4K, Place};
@@ -62,19 +62,47 @@ fn joined_text<A: Allocator>(
     text
 }
 
+// Sends a round of two pages, with each allocation refused on the way, after a cancelled round of
+// one of them.
+fn send_after_refusals<A: Allocator>(
+    rt: &impl Abort,
+    heap: &TestHeap,
+    image: &Memory,
+    sender: SingleSender<A>,
+) -> SingleSender<A> {
+    let mut round = begin_round(rt, heap, sender);
+    let mut refused = put_in_round(rt, heap, &mut round, image, at(0, 1));
+    let mut round = round.cancel().begin_round().ok().expect(rt, "a round");
+    for place in [at(0, 1), at(1, 64)] {
+        refused = refused.saturating_add(put_in_round(rt, heap, &mut round, image, place));
+    }
+    assert!(rt; refused > 1);
+    round.end_round().ok().expect(rt, "a sender")
+}
+
 #[test]
 fn open_round(rt: HostRuntime) {
     let heap = TestHeap::new(rt.alloc());
     let image = image_with(&rt, 1, 262_144);
     let mut sender = SingleSender::new(&heap, image.table()).expect(&rt, "a sender");
     let drained = sender.drain();
-    let mut round = begin_round(&rt, &heap, sender);
-    let mut refused = put_in_round(&rt, &heap, &mut round, &image, at(0, 1));
-    refused = refused.saturating_add(put_in_round(&rt, &heap, &mut round, &image, at(1, 64)));
-    assert!(rt; refused > 1);
-    let sender = round.end_round().ok().expect(&rt, "a sender");
+    let sender = send_after_refusals(&rt, &heap, &image, sender);
     let wanted = text_of(&rt, &image, &[&[at(0, 1), at(1, 64)]]);
     assert!(rt; joined_text(&rt, &drained, sender).as_slice() == wanted.as_slice());
+}
+
+// Returns the places of the first `count` pages of the second block.
+fn first_places(rt: &(impl AllocGlobal + Abort), count: u64) -> Vec<Place> {
+    let mut places = Vec::new(rt.alloc());
+    for page in 0..count {
+        assert!(rt; places.push(at(1, page)).is_ok());
+    }
+    places
+}
+
+// Returns the stream of a round of these pages.
+fn text_of_first(rt: &(impl AllocGlobal + Abort), image: &Memory, count: u64) -> Vec<u8> {
+    text_of(rt, image, &[&first_places(rt, count)])
 }
 
 // Ends a round of the first `count` pages of a block. If an allocation is refused there it is ended
@@ -87,10 +115,8 @@ fn ends_after_refusal(
 ) -> bool {
     let sender = SingleSender::new(heap, image.table()).expect(rt, "a sender");
     let mut round = sender.begin_round().ok().expect(rt, "a round");
-    let mut places = Vec::new(rt.alloc());
     for page in 0..count {
         put_in_round(rt, heap, &mut round, image, at(1, page));
-        assert!(rt; places.push(at(1, page)).is_ok());
     }
     heap.refuse(1);
     let run = round.end_round();
@@ -99,7 +125,7 @@ fn ends_after_refusal(
         return false;
     };
     let sender = round.end_round().ok().expect(rt, "a sender");
-    let wanted = text_of(rt, image, &[&places]);
+    let wanted = text_of_first(rt, image, count);
     assert!(rt; joined_text(rt, &[], sender).as_slice() == wanted.as_slice());
     true
 }
@@ -141,6 +167,35 @@ fn put_in_part<A: Allocator>(
     panic!(rt; "each run had a refusal");
 }
 
+// Begins a part of a writer whose stream has no room, after a refused allocation.
+fn begin_part<A: Allocator>(
+    rt: &impl Abort,
+    heap: &TestHeap,
+    writer: StreamWriter<A>,
+) -> OpenPart<A> {
+    heap.refuse(1);
+    let Err(writer) = writer.begin_part() else {
+        panic!(rt; "no refusal");
+    };
+    assert!(rt; !heap.is_waiting());
+    writer.begin_part().ok().expect(rt, "a part")
+}
+
+// Ends a part, and again if an allocation is refused. Returns whether one was.
+fn end_part<A: Allocator>(
+    rt: &impl Abort,
+    heap: &TestHeap,
+    part: OpenPart<A>,
+) -> (StreamWriter<A>, bool) {
+    heap.refuse(1);
+    let run = part.end_part();
+    heap.refuse(0);
+    match run {
+        Ok(writer) => (writer, false),
+        Err(part) => (part.end_part().ok().expect(rt, "a writer"), true),
+    }
+}
+
 // Begins and ends a part of the first `count` pages of a block, with an allocation refused if there
 // is one. Returns whether there was one at the part's end.
 fn part_after_refusals(
@@ -151,27 +206,13 @@ fn part_after_refusals(
 ) -> bool {
     let mut writer = StreamWriter::new(heap, image.table()).expect(rt, "a writer");
     let mut text = Vec::from_slice(rt.alloc(), &writer.drain()).expect(rt, "bytes");
-    heap.refuse(1);
-    let Err(writer) = writer.begin_part() else {
-        panic!(rt; "no refusal");
-    };
-    assert!(rt; !heap.is_waiting());
-    let mut part = writer.begin_part().ok().expect(rt, "a part");
-    let mut places = Vec::new(rt.alloc());
+    let mut part = begin_part(rt, heap, writer);
     for page in 0..count {
         put_in_part(rt, heap, &mut part, image, at(1, page));
-        assert!(rt; places.push(at(1, page)).is_ok());
     }
-    heap.refuse(1);
-    let run = part.end_part();
-    heap.refuse(0);
-    let is_refused = run.is_err();
-    let writer = match run {
-        Ok(writer) => writer,
-        Err(part) => part.end_part().ok().expect(rt, "a writer"),
-    };
-    assert!(rt; text.extend_from_slice(&finished(rt, writer)).is_ok());
-    assert!(rt; text.as_slice() == text_of(rt, image, &[&places]).as_slice());
+    let (writer, is_refused) = end_part(rt, heap, part);
+    append(rt, &mut text, &finished(rt, writer));
+    assert!(rt; text.as_slice() == text_of_first(rt, image, count).as_slice());
     is_refused
 }
 

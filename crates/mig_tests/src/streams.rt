@@ -3,12 +3,11 @@
 //! with memory succeeds.
 
 use crate::building::{
-    BLOCKS, Run, append, dirty_of, empty_text, feed, finished, image_with, part, run_of, text_of,
-    two_rounds_in,
+    BLOCKS, Run, append, dirty_of, feed, finished, image_with, part, run_of, text_of, two_rounds_in,
 };
 use mig_fixtures::{TestHeap, at, table, with_each_allocation_refused};
-use mig_mem::{MAX_TOTAL, Memory, NoMemory, PAGE_SIZE_4K, Place, Table};
-use mig_stream::{Frame, Mode, StreamReader, StreamRound, StreamState, StreamWriter};
+use mig_mem::{MAX_TOTAL, Memory, PAGE_SIZE_4K, Place};
+use mig_stream::{Frame, Mode, StreamReader, StreamState, StreamWriter};
 use std::alloc::{AllocGlobal, Allocator};
 use std::process::Abort;
 use std::test::Fail;
@@ -20,25 +19,6 @@ fn assert_text<A: Allocator>(
     wanted: &[u8],
 ) {
     assert!(rt; finished(rt, writer).as_slice() == wanted);
-}
-
-// Asserts that a writer of a table, made after refused allocations, has an empty stream.
-fn assert_new_writer(
-    rt: &(impl AllocGlobal + Abort),
-    heap: &TestHeap,
-    table: &Table<&TestHeap>,
-) -> Result<(), Fail> {
-    with_each_allocation_refused!(rt, heap, StreamWriter::new(heap, table), writer => {
-        assert!(rt; writer.table().same(table));
-        assert_text(rt, writer, &empty_text(rt));
-    });
-}
-
-#[test]
-fn writer_new(rt: HostRuntime) -> Result<(), Fail> {
-    let heap = TestHeap::new(rt.alloc());
-    let table = table(&heap, &BLOCKS).expect(&rt, "a table");
-    assert_new_writer(&rt, &heap, &table)
 }
 
 // Asserts the stream of a writer of one PART, written after refused allocations.
@@ -191,19 +171,6 @@ fn writer_finish_open(rt: HostRuntime) {
     panic!(rt; "no text was full");
 }
 
-// A stream with pages, left open.
-#[test]
-fn writer_finish_open_with_pages(rt: HostRuntime) {
-    let image = image_with(&rt, 0, 4096);
-    let places: &[Place] = &[at(0, 0), at(0, 1), at(1, 64)];
-    let mut writer = StreamWriter::new(rt.alloc(), image.table()).expect(&rt, "a writer");
-    assert!(rt; part(&rt, &mut writer, &image, &dirty_of(&rt, places)) == Ok(()));
-    match writer.finish_open() {
-        Ok(open) => assert_open(&rt, Mode::Single, &open, &text_of(&rt, &image, &[places])),
-        Err(_) => panic!(rt; "no text"),
-    }
-}
-
 // Returns whether the next round has these pages: each a place and the first byte of its content,
 // None if it is a zero record.
 fn has_round<A: Allocator + Copy>(
@@ -322,111 +289,4 @@ fn reader_feed(rt: HostRuntime) {
     assert_read_in_pieces(&rt, Frame::Ram, 40);
     assert_read_in_pieces(&rt, Frame::Machine, 80);
     assert_read_in_pieces(&rt, Frame::Machine, 171);
-}
-
-// Returns whether two rounds have the same page records, byte for byte.
-fn is_same_round<A: Allocator, B: Allocator>(one: &StreamRound<A>, other: &StreamRound<B>) -> bool {
-    if one.len() != other.len() {
-        return false;
-    }
-    for i in 0..one.len() {
-        if one.place(i) != other.place(i) || one.content(i) != other.content(i) {
-            return false;
-        }
-    }
-    true
-}
-
-// Returns whether two readers have a next round, and the same.
-fn have_same_round<A: Allocator + Copy, B: Allocator + Copy>(
-    one: &mut StreamReader<A>,
-    other: &mut StreamReader<B>,
-) -> bool {
-    let Ok(Some(round)) = one.take_round() else {
-        return false;
-    };
-    let Ok(Some(wanted)) = other.take_round() else {
-        return false;
-    };
-    is_same_round(&round, &wanted)
-}
-
-// Asserts that a reader has the same as a reader that was fed the stream of two rounds.
-fn assert_as_fed<A: Allocator + Copy>(
-    rt: &(impl AllocGlobal + Abort),
-    frame: Frame,
-    mut reader: StreamReader<A>,
-    text: &[u8],
-) {
-    let mut fed = StreamReader::new_in(rt.alloc(), frame, Mode::Single, PAGE_SIZE_4K, MAX_TOTAL);
-    assert!(rt; feed(rt, &mut fed, text) == Ok(()));
-    assert!(rt; reader.fed() == fed.fed());
-    assert!(rt; reader.state() == fed.state());
-    assert!(rt; reader.closed_at() == fed.closed_at());
-    for _ in 0..4 {
-        assert!(rt; have_same_round(&mut reader, &mut fed));
-    }
-    assert!(rt; has_no_round(&mut reader));
-    assert!(rt; has_no_round(&mut fed));
-}
-
-// Returns a reader made of a stream.
-fn reader_of<'a>(
-    heap: &'a TestHeap,
-    frame: Frame,
-    text: &'a [u8],
-) -> Result<StreamReader<'a, &'a TestHeap>, NoMemory> {
-    match frame {
-        Frame::Ram => StreamReader::of_text(heap, Mode::Single, PAGE_SIZE_4K, MAX_TOTAL, text),
-        Frame::Machine => {
-            StreamReader::of_text_in(heap, frame, Mode::Single, PAGE_SIZE_4K, MAX_TOTAL, text)
-        }
-    }
-}
-
-// Makes a reader of the stream with allocation `nth` refused. If there is a reader, it has the same
-// rounds.
-fn run_of_text(
-    rt: &(impl AllocGlobal + Abort),
-    heap: &TestHeap,
-    frame: Frame,
-    text: &[u8],
-    nth: u64,
-) -> Run {
-    heap.refuse(nth);
-    let answer = reader_of(heap, frame, text);
-    let run = run_of(rt, answer.is_ok(), heap.is_waiting());
-    heap.refuse(0);
-    match answer {
-        Ok(reader) => assert_as_fed(rt, frame, reader, text),
-        Err(fault) => assert_eq!(rt; fault.number(), 60),
-    }
-    run
-}
-
-// Makes readers of the stream of two rounds, with each allocation refused. One refusal still
-// returns a reader: that of a smaller block for the list of three records.
-fn assert_read_of_text(rt: &(impl AllocGlobal + Abort), frame: Frame) {
-    let heap = TestHeap::new(rt.alloc());
-    let (text, _behind) = two_rounds_in(rt, frame);
-    let mut survived = 0u64;
-    for nth in 1..1000u64 {
-        match run_of_text(rt, &heap, frame, &text, nth) {
-            Run::Refused => {}
-            Run::Survived => survived = survived.saturating_add(1),
-            Run::Whole => {
-                assert!(rt; nth > 2);
-                assert_eq!(rt; survived, 1);
-                return;
-            }
-        }
-    }
-    panic!(rt; "each run had a refusal");
-}
-
-// With memory the stream is read as if it had been fed.
-#[test]
-fn reader_of_text(rt: HostRuntime) {
-    assert_read_of_text(&rt, Frame::Ram);
-    assert_read_of_text(&rt, Frame::Machine);
 }

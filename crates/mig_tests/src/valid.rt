@@ -8,7 +8,7 @@ use crate::pauses::{pause_of, skip_all};
 use mig_fixtures::TestHeap;
 use mig_mem::{MAX_TOTAL, PAGE_SIZE_4K};
 use mig_stream::{Frame, Mode, Pause, RecordReader, StreamFault, StreamReader, StreamState};
-use std::alloc::{AllocGlobal, Allocator};
+use std::alloc::{AllocGlobal, Allocator, Global};
 use std::process::Abort;
 
 // The items of the stream of two rounds from START on: each line is a section, except for END and
@@ -99,9 +99,32 @@ fn byte_by_byte(rt: HostRuntime) {
     assert_byte_by_byte(&rt, Frame::Machine, 4265 + 131 + 5);
 }
 
-// Cut after `len` bytes, a stream that isn't closed is `Truncated` at the byte where its last item
-// begins. The number is the same in a pause, and in the reader after it.
-fn assert_cut(
+// Asserts that a stream that is cut isn't closed, and is `Truncated` where its last item begins.
+fn assert_cut(rt: &(impl AllocGlobal + Abort), frame: Frame, front: &[u8], valid: u64) {
+    let mut reader = new_reader(rt.alloc(), frame);
+    assert!(rt; feed(rt, &mut reader, front) == Ok(()));
+    reader.end();
+    let cut = StreamState::Bad(StreamFault::Truncated);
+    assert!(rt; reader.state() == cut && reader.valid_up_to() == valid);
+}
+
+// Returns a pause after a stream's first bytes, of which `valid` are complete items.
+fn paused(
+    rt: &(impl AllocGlobal + Abort),
+    frame: Frame,
+    front: &[u8],
+    valid: u64,
+) -> Pause<Global> {
+    let mut records = RecordReader::new_in(rt.alloc(), frame, PAGE_SIZE_4K, MAX_TOTAL, front);
+    assert!(rt; records.valid_up_to() == 0);
+    skip_all(rt, &mut records);
+    assert!(rt; records.valid_up_to() == valid);
+    pause_of(rt, records).expect(rt, "a pause")
+}
+
+// Asserts up to where a stream that is cut after `len` bytes is valid. The number is the same in a
+// pause, and in the reader after it.
+fn assert_paused(
     rt: &(impl AllocGlobal + Abort),
     frame: Frame,
     text: &[u8],
@@ -110,16 +133,8 @@ fn assert_cut(
 ) {
     let (front, rest) = text.split_at_checked(len).expect(rt, "two pieces");
     let valid = whole(items, len);
-    let mut reader = new_reader(rt.alloc(), frame);
-    assert!(rt; feed(rt, &mut reader, front) == Ok(()));
-    reader.end();
-    let cut = StreamState::Bad(StreamFault::Truncated);
-    assert!(rt; reader.state() == cut && reader.valid_up_to() == valid);
-    let mut records = RecordReader::new_in(rt.alloc(), frame, PAGE_SIZE_4K, MAX_TOTAL, front);
-    assert!(rt; records.valid_up_to() == 0);
-    skip_all(rt, &mut records);
-    assert!(rt; records.valid_up_to() == valid);
-    let pause = pause_of(rt, records).expect(rt, "a pause");
+    assert_cut(rt, frame, front, valid);
+    let pause = paused(rt, frame, front, valid);
     assert!(rt; pause.valid_up_to() == valid);
     let mut records = pause.resume(rest);
     assert!(rt; records.valid_up_to() == valid);
@@ -133,7 +148,7 @@ fn assert_cut_anywhere(rt: &(impl AllocGlobal + Abort), frame: Frame, closed_at:
     let items = items_of(rt, frame);
     for len in 0..closed_at {
         if !(240..4180).contains(&len) || len % 500 == 0 {
-            assert_cut(rt, frame, &text, &items, len);
+            assert_paused(rt, frame, &text, &items, len);
         }
     }
 }
@@ -195,7 +210,12 @@ fn assert_spoiled(rt: &(impl AllocGlobal + Abort), frame: Frame, spoiled: Spoile
         assert!(rt; reader.valid_up_to() <= valid);
     }
     assert!(rt; reader.state() == bad && reader.closed_at().is_none());
-    let mut records = RecordReader::new_in(rt.alloc(), frame, PAGE_SIZE_4K, MAX_TOTAL, &text);
+    assert_record_by_record(rt, frame, &text, valid);
+}
+
+// Asserts where a stream is valid up to that is read record by record.
+fn assert_record_by_record(rt: &(impl AllocGlobal + Abort), frame: Frame, text: &[u8], valid: u64) {
+    let mut records = RecordReader::new_in(rt.alloc(), frame, PAGE_SIZE_4K, MAX_TOTAL, text);
     skip_all(rt, &mut records);
     assert!(rt; records.valid_up_to() == valid);
 }
@@ -250,15 +270,4 @@ fn refused_pieces(rt: HostRuntime) {
         }
         assert!(rt; refused > 3);
     }
-}
-
-// A pause before the first byte has none.
-#[test]
-fn first_pause(rt: HostRuntime) {
-    for frame in [Frame::Ram, Frame::Machine] {
-        let pause = Pause::new_in(rt.alloc(), frame, PAGE_SIZE_4K, MAX_TOTAL);
-        assert!(rt; pause.valid_up_to() == 0);
-    }
-    let pause = Pause::new(rt.alloc(), PAGE_SIZE_4K, MAX_TOTAL);
-    assert!(rt; pause.valid_up_to() == 0);
 }

@@ -7,7 +7,7 @@ use mig_mem::{MAX_TOTAL, PAGE_SIZE_4K, Place};
 use mig_stream::{
     Frame, Given, Mode, Pause, RecordReader, StreamReader, StreamRound, StreamState, Wanted,
 };
-use std::alloc::{AllocGlobal, Allocator};
+use std::alloc::{AllocGlobal, Allocator, Global};
 use std::process::Abort;
 
 // Places of pages with bytes, in order, and these bytes one after another.
@@ -103,11 +103,21 @@ fn take_content<A: Allocator + Copy>(
     true
 }
 
+// Returns the pause before the first byte of a stream, which has no complete item.
+fn first_pause(rt: &(impl AllocGlobal + Abort), frame: Frame) -> Pause<Global> {
+    let pause = match frame {
+        Frame::Ram => Pause::new(rt.alloc(), PAGE_SIZE_4K, MAX_TOTAL),
+        Frame::Machine => Pause::new_in(rt.alloc(), frame, PAGE_SIZE_4K, MAX_TOTAL),
+    };
+    assert!(rt; pause.valid_up_to() == 0);
+    pause
+}
+
 // Reads a stream by the lengths that it wants, and returns its pages, and the number of bytes read
 // up to its close.
 fn read_wanted(rt: &(impl AllocGlobal + Abort), frame: Frame, stream: &[u8]) -> (Pages, usize) {
     let mut pages = Pages::new(rt);
-    let mut pause = Pause::new_in(rt.alloc(), frame, PAGE_SIZE_4K, MAX_TOTAL);
+    let mut pause = first_pause(rt, frame);
     let mut rest = stream;
     for _ in 0..10_000u64 {
         let parts = rest.split_at_checked(len_wanted(rt, &pause));
