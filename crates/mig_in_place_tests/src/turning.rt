@@ -292,17 +292,37 @@ fn assert_runs_out<A: Allocator + Copy>(
     assert!(rt; main.turn(load, memory, Source::Main) == Ok(Turn::Waits));
 }
 
+// Returns a load of one channel into a memory.
+fn load_into<A: Allocator + Copy>(rt: &impl Abort, alloc: A, memory: &Memory) -> InPlaceSession<A> {
+    let load = InPlaceSession::new(alloc, memory.table(), &Uuid::nil(), 1, LIMIT);
+    load.expect(rt, "a load")
+}
+
 #[test]
 fn allocation_refused(rt: HostRuntime) {
     let texts = page_and_zeros(&rt);
     let mut memory = zeroed(rt.alloc(), &[("a", 2)]).expect(&rt, "a memory");
     let heap = TestHeap::new(rt.alloc());
-    let load = InPlaceSession::new(&heap, memory.table(), &Uuid::nil(), 1, LIMIT);
-    let mut load = load.expect(&rt, "a load");
+    let mut load = load_into(&rt, &heap, &memory);
     let mut sources = readers(&rt, &texts, 50, 0);
     let main = sources.get_mut(0).expect(&rt, "a reader");
     heap.refuse(1);
     assert_runs_out(&rt, &mut load, &mut memory, main);
+}
+
+// Pumps streams into a load whose next allocation is refused, and once more.
+fn assert_pumped_out<A: Allocator + Copy>(
+    rt: &(impl AllocGlobal + Abort),
+    load: &mut InPlaceSession<A>,
+    memory: &mut Memory,
+    texts: &Sent,
+) {
+    let mut sources = readers(rt, texts, 50, 0);
+    let mut order = RoundRobin::new();
+    let pumped = pump_by_turns(&mut sources, &mut order, load, memory, 100);
+    assert!(rt; pumped == Err(TurnFault::NoMemory));
+    let pumped = pump_by_turns(&mut sources, &mut order, load, memory, 100);
+    assert!(rt; pumped == Ok(failed(0, Origin::Round, Fault::NoMemory)));
 }
 
 #[test]
@@ -310,15 +330,9 @@ fn allocation_refused_as_it_is_pumped(rt: HostRuntime) {
     let texts = page_and_zeros(&rt);
     let mut memory = zeroed(rt.alloc(), &[("a", 2)]).expect(&rt, "a memory");
     let heap = TestHeap::new(rt.alloc());
-    let load = InPlaceSession::new(&heap, memory.table(), &Uuid::nil(), 1, LIMIT);
-    let mut load = load.expect(&rt, "a load");
-    let mut sources = readers(&rt, &texts, 50, 0);
-    let mut order = RoundRobin::new();
+    let mut load = load_into(&rt, &heap, &memory);
     heap.refuse(1);
-    let pumped = pump_by_turns(&mut sources, &mut order, &mut load, &mut memory, 100);
-    assert!(rt; pumped == Err(TurnFault::NoMemory));
-    let pumped = pump_by_turns(&mut sources, &mut order, &mut load, &mut memory, 100);
-    assert!(rt; pumped == Ok(failed(0, Origin::Round, Fault::NoMemory)));
+    assert_pumped_out(&rt, &mut load, &mut memory, &texts);
 }
 
 #[test]
