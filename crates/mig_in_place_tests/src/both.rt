@@ -131,6 +131,17 @@ fn end_session(rt: &impl Abort, session: &mut Session, source: Source) {
     session.end(source);
 }
 
+// Asserts that the session and the load in place return the same places: where the main stream is
+// closed, and up to where each source is valid.
+fn assert_same_places(rt: &impl Abort, both: &Both) {
+    assert!(rt; both.in_place.closed_at() == both.session.closed_at());
+    for number in 0..both.in_place.channels().saturating_add(1) {
+        let source = source_at(number);
+        assert!(rt; both.in_place.has(source) && both.session.has(source));
+        assert!(rt; both.in_place.valid_up_to(source) == both.session.valid_up_to(source));
+    }
+}
+
 // Asserts that the session and the load in place answer alike, unless the stream has another table.
 fn assert_alike(rt: &impl Abort, both: &Both) {
     if both.in_place.verdict() == failed(0, Origin::Main, Fault::OtherTable) {
@@ -138,6 +149,7 @@ fn assert_alike(rt: &impl Abort, both: &Both) {
     }
     assert!(rt; both.in_place.rounds() == both.session.rounds());
     assert!(rt; both.in_place.verdict() == both.session.verdict());
+    assert_same_places(rt, both);
     if both.in_place.verdict() == Verdict::Done {
         let wanted = both.session.memory().expect(rt, "a memory");
         assert!(rt; both.memory.table().same(wanted.table()));
@@ -281,6 +293,14 @@ pub(crate) fn assert_pages(
     for most in [1000u64, 5000, 100_000, 1_000_000] {
         assert_full(rt, &table, texts, most, full);
     }
+}
+
+/// Asserts that the session has one page, filled with this byte, after it was fed in this way.
+pub(crate) fn assert_session_full(rt: &(impl AllocGlobal + Abort), texts: &Sent, byte: u8) {
+    let table = table(rt.alloc(), &[("a", 1)]).expect(rt, "a table");
+    let both = loaded(rt, &table, texts, 5000, &mut Pcg32::new(4, 5000));
+    let memory = both.session.memory().expect(rt, "a memory");
+    assert!(rt; is_full(memory, at(0, 0), byte));
 }
 
 /// Returns a session and a load in place at their start, of `channels` channels, into a block `a`

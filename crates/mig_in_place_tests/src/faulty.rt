@@ -1,7 +1,7 @@
 //! Streams with a fault: the verdict is that of a session, and places that the failed round doesn't
 //! name are as the rounds before left them.
 
-use crate::both::{assert_comes_to, assert_pages, failed, loaded};
+use crate::both::{assert_comes_to, assert_pages, assert_session_full, failed, loaded};
 use crate::texts::{
     bytes_of, cut, hello_of, main_of, one, page_and_zeros, put_page, put_sync, sevens_on_two,
     sevens_then_zeros, spoiled, syncs_on_two, with_byte, with_channel,
@@ -163,19 +163,21 @@ fn hello_of_an_earlier_id(rt: HostRuntime) {
 
 // ---- rounds
 
-// Loads a main stream of `rounds` rounds with a channel of two.
-fn assert_rounds(rt: &(impl AllocGlobal + Abort), rounds: u64, fault: Fault) {
+// Loads a main stream of `rounds` rounds with a channel of two. The session's page is filled with
+// `byte` after its complete rounds.
+fn assert_rounds(rt: &(impl AllocGlobal + Abort), rounds: u64, fault: Fault, byte: u8) {
     let mut texts = sevens_then_zeros(rt);
     texts.main = main_of(rt, 1, rounds);
     let verdict = failed(rounds.min(2), Origin::Channel(0), fault);
     assert_comes_to(rt, 1, &texts, rounds.min(2), verdict);
+    assert_session_full(rt, &texts, byte);
 }
 
 #[test]
 fn main_stream_of_fewer_and_of_more_rounds(rt: HostRuntime) {
-    assert_rounds(&rt, 0, Fault::Extra);
-    assert_rounds(&rt, 1, Fault::Extra);
-    assert_rounds(&rt, 3, Fault::Short);
+    assert_rounds(&rt, 0, Fault::Extra, 0);
+    assert_rounds(&rt, 1, Fault::Extra, 7);
+    assert_rounds(&rt, 3, Fault::Short, 0);
 }
 
 // ---- records beside packets

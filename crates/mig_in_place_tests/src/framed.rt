@@ -1,6 +1,6 @@
 //! A main stream of RAM's sections alone and that of a machine, loaded in place.
 
-use crate::both::{LIMIT, end, failed, feed, text_of};
+use crate::both::{LIMIT, end, failed, fed, feed, text_of};
 use crate::texts::page_and_zeros;
 use mig_answer::Verdict;
 use mig_fixtures::{at, has_byte, is_full, zeroed};
@@ -72,6 +72,20 @@ fn machines_main_stream(rt: HostRuntime) {
     let loaded = load_in(&rt, Frame::Machine, &texts, &mut memory);
     assert!(rt; loaded == (1, Verdict::Done));
     assert!(rt; is_full(&memory, at(0, 0), 0) && has_byte(&memory, at(0, 1), 0, 9));
+}
+
+// It is closed after 117 bytes, by END's footer. The 11 bytes of the device's section after it are
+// taken too. Read as RAM's sections it is valid up to its first COMMAND, byte 15.
+#[test]
+fn where_a_machines_main_stream_is_closed(rt: HostRuntime) {
+    let mut texts = page_and_zeros(&rt);
+    texts.main = machine_of(&rt, &texts.main);
+    let mut memory = zeroed(rt.alloc(), &[("a", 2)]).expect(&rt, "a memory");
+    let load = fed_in(&rt, Frame::Machine, &texts, &mut memory);
+    assert!(rt; fed(&rt, &load, Source::Main) == 128);
+    assert!(rt; load.closed_at() == Some(117) && load.valid_up_to(Source::Main) == Some(117));
+    let load = fed_in(&rt, Frame::Ram, &texts, &mut memory);
+    assert!(rt; load.closed_at().is_none() && load.valid_up_to(Source::Main) == Some(15));
 }
 
 // The main stream ends after the verdict, which stays.

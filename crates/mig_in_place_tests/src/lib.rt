@@ -14,6 +14,8 @@ mod framed;
 #[cfg(test)]
 mod held;
 #[cfg(test)]
+mod places;
+#[cfg(test)]
 mod refused;
 #[cfg(test)]
 mod texts;
