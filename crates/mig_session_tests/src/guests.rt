@@ -265,6 +265,50 @@ fn bytes_of(texts: &Sent) -> u64 {
     bytes
 }
 
+// Returns the streams of a guest's rounds, on `channels` channels.
+fn sent<R: AllocGlobal + Abort + Threads + Sync>(
+    rt: &R,
+    kind: Kind,
+    page_size: u64,
+    channels: usize,
+    rounds: u64,
+    random: &mut Pcg32,
+) -> Sendings {
+    let blocks = [("pc.ram", kind.pages[0]), ("b", kind.pages[1])];
+    let table = table_of(rt.alloc(), page_size, &blocks).expect(rt, "a table");
+    let sendings = send(rt, kind, &table, channels, rounds, random);
+    assert!(rt; bytes_of(&sendings.several) >= rounds.wrapping_mul(kind.bytes));
+    sendings
+}
+
+// Asserts that a guest's single stream is loaded to its memory.
+fn assert_single(rt: &(impl AllocGlobal + Abort), page_size: u64, sendings: &Sendings) {
+    assert!(rt; is_page_size(page_size));
+    let single = load_single(rt.alloc(), page_size, &sendings.single, LIMIT);
+    let memory = single.memory.as_ref().expect(rt, "a memory");
+    assert!(rt; is_same(memory, &sendings.memory));
+}
+
+// Asserts that loading a guest's streams of several channels in pieces gives what loading the
+// complete streams gave, and its memory.
+fn assert_in_pieces(
+    rt: &(impl AllocGlobal + Abort),
+    kind: Kind,
+    page_size: u64,
+    sendings: &Sendings,
+    loaded: &Loaded,
+    random: &mut Pcg32,
+) {
+    let channels = sendings.several.channels.len();
+    let made = CheckedSession::new(rt, rt.alloc(), page_size, channels);
+    let mut session = made.expect(rt, "a session");
+    feed_randomly(rt, kind, &mut session, &sendings.several, random);
+    assert_as_loaded(rt, &session, loaded);
+    assert!(rt; session.verdict() == Verdict::Done);
+    let memory = session.memory().expect(rt, "a memory");
+    assert!(rt; is_same(memory, &sendings.memory));
+}
+
 // Asserts that a guest's rounds are loaded alike in pieces, as complete streams of several
 // channels, and as a single stream.
 fn assert_loaded_alike<R: AllocGlobal + Abort + Threads + Wait + Sync>(
@@ -275,24 +319,12 @@ fn assert_loaded_alike<R: AllocGlobal + Abort + Threads + Wait + Sync>(
     rounds: u64,
     random: &mut Pcg32,
 ) {
-    let blocks = [("pc.ram", kind.pages[0]), ("b", kind.pages[1])];
-    let table = table_of(rt.alloc(), page_size, &blocks).expect(rt, "a table");
-    let sendings = send(rt, kind, &table, channels, rounds, random);
-    assert!(rt; bytes_of(&sendings.several) >= rounds.wrapping_mul(kind.bytes));
+    let sendings = sent(rt, kind, page_size, channels, rounds, random);
+    assert_single(rt, page_size, &sendings);
     let loaded = load(rt, page_size, &Uuid::nil(), &sendings.several);
     assert!(rt; loaded.rounds == rounds && loaded.verdict == Ok(()));
-    assert!(rt; is_page_size(page_size));
-    let single = load_single(rt.alloc(), page_size, &sendings.single, LIMIT);
-    let wanted = single.memory.as_ref().expect(rt, "a memory");
-    assert!(rt; is_same(wanted, &sendings.memory));
     for _ in 0..4u8 {
-        let made = CheckedSession::new(rt, rt.alloc(), page_size, channels);
-        let mut session = made.expect(rt, "a session");
-        feed_randomly(rt, kind, &mut session, &sendings.several, random);
-        assert_as_loaded(rt, &session, &loaded);
-        assert!(rt; session.verdict() == Verdict::Done);
-        let memory = session.memory().expect(rt, "a memory");
-        assert!(rt; is_same(memory, wanted));
+        assert_in_pieces(rt, kind, page_size, &sendings, &loaded, random);
     }
 }
 

@@ -1,15 +1,13 @@
-//! Tests of a load on several channels that is fed in pieces: worked streams byte by byte, streams
-//! with a fault, guests from a seeded generator in random pieces, each allocation refused, and the
-//! bytes that are held meanwhile. Also tests of guests from the same generator whose complete
-//! streams are loaded.
+//! Tests of a load on several channels that is fed in pieces: worked streams byte by byte, guests
+//! from a seeded generator in random pieces, each allocation refused, and the bytes that are held
+//! meanwhile. Also tests of guests from the same generator whose complete streams are loaded.
+//! Streams with a fault are in `mig_in_place_tests`, whose tests feed a session too.
 #![tactic(auto)]
 
 #[cfg(test)]
 mod checked;
 #[cfg(test)]
 mod drawn;
-#[cfg(test)]
-mod faulty;
 #[cfg(test)]
 mod feeding;
 #[cfg(test)]

@@ -123,6 +123,43 @@ fn each_read_failing(rt: HostRuntime) {
     }
 }
 
+// Pumps a source by at most `turns` reads, of `len` bytes and one more with each read, into a
+// session that was fed all of the other source. All bytes of the source are fed.
+fn pumped(
+    rt: &(impl AllocGlobal + Abort),
+    texts: &Sent,
+    number: usize,
+    len: usize,
+    turns: u64,
+) -> (CheckedSession, Result<u64, PumpFault>) {
+    let source = source_at(number);
+    let text = text_of(rt, texts, source);
+    let mut session = start(
+        rt,
+        rt.alloc(),
+        texts,
+        source_at(1usize.wrapping_sub(number)),
+    );
+    let mut reader = reader_of(rt, text, len);
+    reader.more = 1;
+    let pumped = session.pump(rt, rt.alloc(), reader, source, turns);
+    assert!(rt; session.fed(rt, source) == text.len() as u64);
+    (session, pumped)
+}
+
+// Asserts that `turns` reads don't find the end of a source.
+fn assert_not_ended(
+    rt: &(impl AllocGlobal + Abort),
+    texts: &Sent,
+    number: usize,
+    len: usize,
+    turns: u64,
+) {
+    let (session, run) = pumped(rt, texts, number, len, turns);
+    assert!(rt; run == Err(PumpFault::TooManyTurns));
+    assert!(rt; !session.ended(rt, source_at(number)));
+}
+
 // Asserts that a source is pumped to its end by exactly `turns` reads, of `len` bytes and one more
 // with each read, and that the load is done.
 fn assert_whole(
@@ -132,23 +169,12 @@ fn assert_whole(
     len: usize,
     turns: u64,
 ) {
+    assert_not_ended(rt, texts, number, len, turns.wrapping_sub(1));
     let source = source_at(number);
-    let text = text_of(rt, texts, source);
-    let other = source_at(1usize.wrapping_sub(number));
-    for allowed in [turns.wrapping_sub(1), turns] {
-        let mut session = start(rt, rt.alloc(), texts, other);
-        let mut reader = reader_of(rt, text, len);
-        reader.more = 1;
-        let pumped = session.pump(rt, rt.alloc(), reader, source, allowed);
-        assert!(rt; session.fed(rt, source) == text.len() as u64);
-        if allowed < turns {
-            assert!(rt; pumped == Err(PumpFault::TooManyTurns) && !session.ended(rt, source));
-            continue;
-        }
-        assert!(rt; pumped == Ok(text.len() as u64) && session.ended(rt, source));
-        assert_tells(rt, &session, 1, Verdict::Done);
-        assert_page_and_zeros(rt, &session);
-    }
+    let (session, run) = pumped(rt, texts, number, len, turns);
+    assert!(rt; run == Ok(session.fed(rt, source)) && session.ended(rt, source));
+    assert_tells(rt, &session, 1, Verdict::Done);
+    assert_page_and_zeros(rt, &session);
 }
 
 // Reads of 1, 2, 3 and more bytes, and one read of all bytes, each with the read that finds the

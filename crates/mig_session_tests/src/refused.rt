@@ -17,30 +17,6 @@ use std::process::Abort;
 // The bytes that fill the only page after each number of rounds.
 const BYTES: [u8; 3] = [0, 7, 0];
 
-// Returns whether a session could be made. It has no bytes yet.
-fn is_made<A: Allocator + Copy>(rt: &impl Abort, alloc: A) -> bool {
-    let Ok(session) = CheckedSession::new(rt, alloc, 4096, 3) else {
-        return false;
-    };
-    assert_tells(rt, &session, 0, Verdict::Running);
-    true
-}
-
-#[test]
-fn new_with_each_allocation_refused(rt: HostRuntime) {
-    let heap = TestHeap::new(rt.alloc());
-    for nth in 1..1000u64 {
-        heap.refuse(nth);
-        let is_made = is_made(&rt, &heap);
-        assert!(rt; is_made == heap.is_waiting());
-        if is_made {
-            assert!(rt; nth > 1);
-            return;
-        }
-    }
-    panic!(rt; "each run had a refusal");
-}
-
 // Asserts the result of a session after a refused allocation: the memory is that after the rounds
 // counted. Before the first round there may be no memory.
 fn assert_no_memory<A: Allocator>(rt: &impl Abort, session: &CheckedSession<A>) {

@@ -124,15 +124,6 @@ pub(crate) fn sevens_on_two(rt: &(impl AllocGlobal + Abort)) -> Sent {
     two(rt, main_of(rt, 129, 1), first, second)
 }
 
-/// Returns one round without pages on two channels.
-pub(crate) fn syncs_on_two(rt: &(impl AllocGlobal + Abort)) -> Sent {
-    let mut first = hello_of(rt, 0);
-    put_sync(rt, &mut first, 0);
-    let mut second = hello_of(rt, 1);
-    put_sync(rt, &mut second, 1);
-    two(rt, main_of(rt, 1, 1), first, second)
-}
-
 /// Changes one byte of a stream.
 pub(crate) fn set_byte(rt: &impl Abort, text: &mut [u8], at: usize, byte: u8) {
     *text.get_mut(at).expect(rt, "a byte") = byte;
