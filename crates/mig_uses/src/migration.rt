@@ -171,6 +171,7 @@ mod tests {
     use mig_fixtures::{at, places_of, set, zeroed};
     use std::alloc::AllocGlobal;
     use std::process::Abort;
+    use zimgasol::Place;
 
     // No bytes of any stream yet.
     fn nothing(rt: &(impl AllocGlobal + Abort), channels: usize) -> Sent {
@@ -190,39 +191,61 @@ mod tests {
         load_arrived(rt, rt.alloc(), &Uuid::nil(), arrived, 1 << 20).expect(rt, "a memory")
     }
 
-    // A round without pages, three pages in the next, and one of them again in the last. With at
-    // most two pages in a packet, these have two packets of pages and one. A channel has its hello
-    // of 64 bytes, and a SYNC packet of 1,344 bytes for each round. A packet of pages has 1,344
-    // bytes too, and then its pages. The main stream has 61 bytes before its rounds, 26 for each
-    // FLUSH, and 19 at its end.
+    // Returns a guest of three pages, each with another first byte.
+    fn guest(rt: &(impl AllocGlobal + Abort)) -> Memory {
+        let mut memory = zeroed(rt.alloc(), &[("pc.ram", 3)]).expect(rt, "a memory");
+        for (page, byte) in [(0u64, 1u8), (1, 2), (2, 3)] {
+            assert!(rt; set(&mut memory, 0, page.wrapping_mul(4096), byte));
+        }
+        memory
+    }
+
+    // Sends some pages as a round.
+    fn send<R: AllocGlobal + Abort + Threads + Sync>(
+        rt: &R,
+        sender: &mut MultiSender,
+        memory: &Memory,
+        places: &[Place],
+        arrived: &mut Sent,
+    ) {
+        let dirty = places_of(rt.alloc(), memory.table(), places).expect(rt, "a set");
+        assert!(rt; arrived.channels.len() == sender.channels());
+        let sent = send_round(rt, rt.alloc(), sender, memory, &dirty, arrived);
+        assert!(rt; sent == Ok(()));
+    }
+
+    // Sends a round without pages, three pages in the next, and one of them again in the last. With
+    // at most two pages in a packet, these have two packets of pages and one. A channel has its
+    // hello of 64 bytes, and a SYNC packet of 1,344 bytes for each round. A packet of pages has
+    // 1,344 bytes too, and then its pages. The main stream has 61 bytes before its rounds, 26 for
+    // each FLUSH, and 19 at its end.
+    fn send_all<R: AllocGlobal + Abort + Threads + Sync>(
+        rt: &R,
+        memory: &mut Memory,
+        arrived: &mut Sent,
+    ) {
+        let made = MultiSender::new(rt.alloc(), memory.table(), Uuid::nil(), 2, 2);
+        let mut sender = made.expect(rt, "a sender");
+        assert!(rt; arrived.channels.len() == sender.channels());
+        let begun = begin(rt, rt.alloc(), &mut sender, memory, arrived);
+        assert!(rt; begun == Ok(()) && arrived.main.len() == 61 + 26 && sender.base() == 2);
+        assert!(rt; arrived.channels.iter().all(|text| text.len() == 64 + 1344));
+        let places = [at(0, 0), at(0, 1), at(0, 2)];
+        send(rt, &mut sender, memory, &places, arrived);
+        assert!(rt; arrived.main.len() == 61 + 26 + 26);
+        assert!(rt; set(memory, 0, 1, 4));
+        send(rt, &mut sender, memory, &places[..1], arrived);
+        assert!(rt; sender.base() == 9 && sender.rounds() == 3);
+        assert!(rt; arrived.channels.len() == sender.channels());
+        assert!(rt; finish(sender, arrived) == Ok(()));
+        assert!(rt; arrived.main.len() == 61 + 26 + 26 + 26 + 19);
+    }
+
     #[test]
     fn three_rounds_on_two_channels(rt: HostRuntime) {
-        let mut memory = zeroed(rt.alloc(), &[("pc.ram", 3)]).expect(&rt, "a memory");
-        assert!(rt;
-            set(&mut memory, 0, 0, 1)
-                && set(&mut memory, 0, 4096, 2)
-                && set(&mut memory, 0, 8192, 3)
-        );
-        let places = [at(0, 0), at(0, 1), at(0, 2)];
-        let first = places_of(rt.alloc(), memory.table(), &places).expect(&rt, "a set");
-        let made = MultiSender::new(rt.alloc(), memory.table(), Uuid::nil(), 2, 2);
-        let mut sender = made.expect(&rt, "a sender");
+        let mut memory = guest(&rt);
         let mut arrived = nothing(&rt, 2);
-        assert!(rt; arrived.channels.len() == sender.channels());
-        let begun = begin(&rt, rt.alloc(), &mut sender, &memory, &mut arrived);
-        assert!(rt; begun == Ok(()) && arrived.main.len() == 61 + 26 && sender.base() == 2);
-        assert!(rt; arrived.channels.len() == sender.channels());
-        assert!(rt; arrived.channels.iter().all(|text| text.len() == 64 + 1344));
-        let sent = send_round(&rt, rt.alloc(), &mut sender, &memory, &first, &mut arrived);
-        assert!(rt; sent == Ok(()) && arrived.main.len() == 61 + 26 + 26);
-        assert!(rt; set(&mut memory, 0, 1, 4));
-        let second = places_of(rt.alloc(), memory.table(), &[at(0, 0)]).expect(&rt, "a set");
-        assert!(rt; arrived.channels.len() == sender.channels());
-        let sent = send_round(&rt, rt.alloc(), &mut sender, &memory, &second, &mut arrived);
-        assert!(rt; sent == Ok(()) && sender.base() == 9 && sender.rounds() == 3);
-        assert!(rt; arrived.channels.len() == sender.channels());
-        assert!(rt; finish(sender, &mut arrived) == Ok(()));
-        assert!(rt; arrived.main.len() == 61 + 26 + 26 + 26 + 19);
+        send_all(&rt, &mut memory, &mut arrived);
         let there = load_both(&rt, &arrived);
         let page = there.page(at(0, 0)).expect(&rt, "a page");
         assert!(rt; page.starts_with(&[1, 4, 0]));

@@ -58,20 +58,27 @@ pub fn load_from<A: Allocator + Copy, M: Read + Drop, C: Read + Drop>(
 mod tests {
     use super::*;
     use mig_fixtures::{at, is_full, places_of, zeroed};
-    use zimgasol::{MultiSender, OpenGate, PAGE_SIZE_4K, Verdict};
+    use std::alloc::AllocGlobal;
+    use std::process::Abort;
+    use std::thread::Threads;
+    use zimgasol::{MultiSender, OpenGate, PAGE_SIZE_4K, Sent, Verdict};
 
-    // A round of two pages of zeros on one channel. The main stream has 61 bytes before its round,
-    // a FLUSH of 26 and an end of 19. The channel has a hello of 64 bytes and two packets of 1,344.
+    // Sends a round of two pages of zeros on one channel. The main stream has 61 bytes before its
+    // round, a FLUSH of 26 and an end of 19. The channel has a hello of 64 bytes and two packets of
+    // 1,344.
+    fn sent<R: AllocGlobal + Abort + Threads + Sync>(rt: &R) -> Sent {
+        let memory = zeroed(rt.alloc(), &[("pc.ram", 2)]).expect(rt, "a memory");
+        let places = [at(0, 0), at(0, 1)];
+        let dirty = places_of(rt.alloc(), memory.table(), &places).expect(rt, "a set");
+        let made = MultiSender::new(rt.alloc(), memory.table(), Uuid::nil(), 1, 128);
+        let mut sender = made.expect(rt, "a sender");
+        assert!(rt; sender.round(rt, &memory, &dirty, &OpenGate) == Ok(()));
+        sender.finish().ok().expect(rt, "texts")
+    }
+
     #[test]
     fn from_slices(rt: HostRuntime) {
-        let memory = zeroed(rt.alloc(), &[("pc.ram", 2)]).expect(&rt, "a memory");
-        let dirty = places_of(rt.alloc(), memory.table(), &[at(0, 0), at(0, 1)]).expect(
-            &rt, "a set",
-        );
-        let made = MultiSender::new(rt.alloc(), memory.table(), Uuid::nil(), 1, 128);
-        let mut sender = made.expect(&rt, "a sender");
-        assert!(rt; sender.round(&rt, &memory, &dirty, &OpenGate) == Ok(()));
-        let sent = sender.finish().ok().expect(&rt, "texts");
+        let sent = sent(&rt);
         let channel = sent.channels.first().expect(&rt, "a channel").as_slice();
         let main = sent.main.as_slice();
         let made = load_from(
