@@ -47,9 +47,9 @@ fn order_of_sending(rt: HostRuntime) {
     assert_order(&rt, Plan::good(b"block 1 a\ntouch 0 0"), &refused);
 }
 
+// Faulty streams are read to their ends, and the memory's file isn't opened.
 #[test]
-fn order_of_reading(rt: HostRuntime) {
-    // faulty streams are read to their ends, and the memory's file isn't opened
+fn order_of_reading_faulty_streams(rt: HostRuntime) {
     let faulty: [(&str, &[u8], u64); 4] = [
         ("load m i", b"fault 11 round 0 in main\n", 0x19),
         (
@@ -65,17 +65,35 @@ fn order_of_reading(rt: HostRuntime) {
         ("compare s i", b"fault 85\n", 0x5d_4c),
     ];
     assert_order(&rt, Plan::good(SCENARIO), &faulty);
-    let folder = Folder::new(&rt, "order");
-    folder.put(&rt, "s", SCENARIO);
-    assert_script(&rt, &folder, "send @s @o", (0, b"sent 4199 0\n"));
-    let line = "send @s @m --channels 1";
-    assert_script(&rt, &folder, line, (0, b"sent 101 6848\n"));
-    let single = folder.bytes(&rt, "o");
-    let main = folder.bytes(&rt, "m");
-    let channel = folder.bytes(&rt, "m.0");
-    folder.remove(&rt);
+}
+
+// Returns the file `name` that the tool writes when it sends the scenario, in a folder of that name.
+fn sent<H: AllocGlobal + Files + Threads + Wait + Sync + Abort>(
+    rt: &H,
+    name: &str,
+    line: &str,
+    text: &[u8],
+) -> Vec<u8> {
+    let folder = Folder::new(rt, name);
+    folder.put(rt, "s", SCENARIO);
+    assert_script(rt, &folder, line, (0, text));
+    let bytes = folder.bytes(rt, name);
+    folder.remove(rt);
+    bytes
+}
+
+#[test]
+fn order_of_reading(rt: HostRuntime) {
+    let single = sent(&rt, "o", "send @s @o", b"sent 4199 0\n");
     let lines: [(&str, &[u8], u64); 1] = [("load m i", b"loaded sections 3\n", 0x19_48c)];
     assert_order(&rt, Plan::good(&single), &lines);
+}
+
+#[test]
+fn order_of_reading_a_channel(rt: HostRuntime) {
+    let line = "send @s @m --channels 1";
+    let main = sent(&rt, "m", line, b"sent 101 6848\n");
+    let channel = sent(&rt, "m.0", line, b"sent 101 6848\n");
     let mut plan = Plan::good(&main);
     plan.channel = &channel;
     let lines: [(&str, &[u8], u64); 2] = [
