@@ -158,10 +158,15 @@ def report(results):
 
 
 def main(words):
+    if words[:1] in (["--help"], ["-h"]):
+        print(__doc__.strip())
+        return 0
     by_zimgasol = words[:1] == ["--zimgasol"]
     if by_zimgasol and len(words) != 3 or not by_zimgasol and len(words) not in (1, 2):
         sys.exit(__doc__)
     folder = Path(words[-1] if by_zimgasol else words[0])
+    if not folder.is_dir():
+        sys.exit(f"there is no folder {folder}")
     found = sorted(it for it in folder.iterdir() if it.suffix in (".stream", ".main", ".save"))
     if not found:
         sys.exit(f"{folder} has no capture")

@@ -14,6 +14,7 @@ M failed'.
 """
 import os
 import re
+import shutil
 import subprocess
 import sys
 import time
@@ -103,6 +104,11 @@ def timed(run, name):
 
 
 def main(names):
+    if names[:1] in (["--help"], ["-h"]):
+        print(__doc__.strip())
+        return 0
+    if not shutil.which("rt"):
+        sys.exit("there is no rt on the PATH: the Rattle kit has it in its folder bin")
     known = uses()
     unknown = [it for it in names if it not in known]
     if unknown:
@@ -125,7 +131,8 @@ def main(names):
                 future.cancel()
     nothing = [it for it in names if it not in {name for _, name in runs}]
     if nothing:
-        print(f"with no test and no program: {', '.join(nothing)}")
+        print(f"with no test and no program: {', '.join(nothing)}"
+              " (docs/ARCHITECTURE.md lists the crates with their tests)")
     print(f"{passed} passed, {failed} failed")
     return 1 if failed or not passed else 0
 

@@ -10,7 +10,11 @@
 #
 # The .pc file's URL is ZIMGASOL_URL, or else the installed page.
 cd "$(dirname "$0")/.."
-prefix=${1:?install.sh PREFIX}
+prefix=${1-}
+if [ -z "$prefix" ]; then
+    echo "tools/install.sh PREFIX, or make install PREFIX=DIR" >&2
+    exit 2
+fi
 case $prefix in /*) ;; *) prefix=$PWD/$prefix ;; esac
 library=out/libzimgasol.a
 program=crates/zimgasol_cli/out/zimgasol_cli

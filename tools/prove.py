@@ -12,6 +12,7 @@ over all sources, also of functions that CRATE doesn't reach. For these it print
 error[unsupported-theorem] at each of the exports of mig_c, though no proof fails. A line is printed
 for each crate that was proved, and each minute.
 """
+import shutil
 import subprocess
 import sys
 import time
@@ -69,6 +70,8 @@ def main(name, how_long):
 if __name__ == "__main__":
     if len(sys.argv) != 3:
         sys.exit(__doc__)
+    if not shutil.which("rt"):
+        sys.exit("there is no rt on the PATH: the Rattle kit has it in its folder bin")
     try:
         sys.exit(main(*sys.argv[1:]))
     except KeyboardInterrupt:

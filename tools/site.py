@@ -4,6 +4,8 @@
 A link to another document leads to its page, and one to another file of the repository to a copy. A
 document that is only named, for example `docs/FORMATS.md`, becomes a link, too. It fails if a link
 of the site leads to no page, no file or no heading.
+
+    tools/site.py
 """
 import os
 import re
@@ -85,8 +87,10 @@ def navigation(page, titles):
 
 def build(page, titles):
     run = ["pandoc", "--from=gfm", "--to=html5", "--no-highlight", TOP / f"{page}.md"]
-    body = subprocess.run(run, check=True, capture_output=True, text=True).stdout
-    body = linked(body, page, titles)
+    ran = subprocess.run(run, capture_output=True, text=True)
+    if ran.returncode:
+        sys.exit(f"pandoc ended with status {ran.returncode} on {page}.md:\n{ran.stderr}")
+    body = linked(ran.stdout, page, titles)
     body = re.sub(r"<table.*?</table>", r'<div class="wide">\g<0></div>', body, flags=re.DOTALL)
     body = re.sub(r'<img src="([^"]*)"[^>]*>', r'<a class="drawing" href="\1">\g<0></a>', body)
     style = os.path.relpath("site.css", os.path.dirname(page))
@@ -111,8 +115,10 @@ def broken(built):
 
 
 def main():
+    if len(sys.argv) > 1:
+        sys.exit(__doc__)
     if not shutil.which("pandoc"):
-        sys.exit("pandoc isn't there: apt-get install -y pandoc")
+        sys.exit("there is no pandoc on the PATH: apt-get update && apt-get install -y pandoc")
     files = [*TOP.glob("*.md"), *TOP.glob("docs/*.md"), *TOP.glob("docs/contracts/*.md")]
     texts = {str(it.relative_to(TOP))[:-3]: it.read_text() for it in sorted(files)}
     heading = re.compile(r"^# (.*)$", re.MULTILINE)

@@ -31,8 +31,10 @@ def times(folder, words):
 
 
 def main():
-    if len(sys.argv) < 2 or not (TOP / "crates" / sys.argv[1] / "src").is_dir():
+    if len(sys.argv) < 2 or sys.argv[1].startswith("-"):
         sys.exit(__doc__.split("\n\n")[1].strip())
+    if not (TOP / "crates" / sys.argv[1] / "src").is_dir():
+        sys.exit(f"there is no crate {sys.argv[1]}")
     folder = TOP / "crates" / sys.argv[1]
     kept, aside = folder / "out/incremental", folder / "out/incremental.aside"
     if kept.is_dir():

@@ -247,9 +247,11 @@ def on_disk(command):
 
 
 def main(words):
-    program = Path(words[0]).resolve() if words else BUILT
-    if len(words) > 1 or not os.access(program, os.X_OK):
+    if len(words) > 1 or words[:1] in (["--help"], ["-h"]):
         sys.exit(__doc__)
+    program = Path(words[0]).resolve() if words else BUILT
+    if not os.access(program, os.X_OK):
+        sys.exit(f"there is no program {program}: make program")
     with tempfile.TemporaryDirectory(prefix="try-zimgasol-") as folder:
         tries = Tries(program, Path(folder))
         tries.row("extract", "zimgasol extract guest.sav memory", WHOLE, 0)
