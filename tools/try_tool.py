@@ -10,6 +10,7 @@ arguments, pipes, and outputs and inputs that are closed or fail.
 """
 import os
 import shlex
+import shutil
 import signal
 import subprocess
 import sys
@@ -179,9 +180,13 @@ def run_more(folder, path):
 
 
 def main(words):
+    if words[:1] in (["--help"], ["-h"]):
+        sys.exit(__doc__)
     program = words or [str(BUILT)]
     if not words and not BUILT.is_file():
         sys.exit("the tool isn't built: make build")
+    if not shutil.which(program[0]):
+        sys.exit(f"there is no program {program[0]}: make build")
     if Path(program[0]).is_file():
         program[0] = str(Path(program[0]).resolve())
     with tempfile.TemporaryDirectory() as made:
