@@ -28,7 +28,7 @@ HasSentRounds table drained rounds (Round part) = (part.before.table ≡ table) 
 HasSentRounds table drained rounds (Over text) = drained ++ text.items ≡ single table rounds
 HasSentRounds table drained rounds (LeftOpen text) = drained ++ text.items ≡ machine_written None table (map RoundPart rounds)
 
--- The sender has sent these rounds of a table, and these bytes of their stream were handed out. The
+-- The sender has sent these rounds of a table, and these bytes of their stream were copied out. The
 -- stream has the name of a machine, or none.
 abbrev pub Sends : RamTable → Option (List ℕ) → List ℕ → List (List Page) → Sender → Type 0
 Sends table name given rounds s = (plain : List ℕ) × IsNamed name (given ++ waiting s) plain × HasSentRounds table plain rounds s.state

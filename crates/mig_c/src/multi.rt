@@ -362,7 +362,7 @@ fn cancel_round(alloc: Global, object: &mut Object) -> u32
     }
 }
 
-/// Gives up the streams in the middle of a round, whose packets may have been handed out already.
+/// Gives up the streams in the middle of a round, whose packets may have been copied out already.
 /// Workers that are out stay.
 #[unsafe(no_mangle)]
 pub extern "C" fn zimgasol_multi_cancel_round(alloc: Global, multi: &mut MultiHandle) -> u32

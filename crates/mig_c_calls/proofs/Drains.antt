@@ -1,4 +1,4 @@
--- What a sender on several channels hands out of its main stream, and of channels that are ended.
+-- What a sender on several channels copies out of its main stream, and of channels that are ended.
 use Rattle.std.proofs.Common.{ℕ, ◌≡◌, ◌≢◌, ◌+◌, ◌<◌, ◌≤◌, ◌∙◌, List, [], ◌++◌, length, replicate, take, drop, get_or, Option, None, refl, sym, ap, subst, arith}
 use Rattle.std.proofs.lemmas.List.{append-nil, append_assoc, drop-drop, take-append-drop, nil_from_length, length-append, length-take-le}
 use Rattle.mig_mem.specs.RamTable.{RamTable}
@@ -36,13 +36,13 @@ hands_out count out old new fits front same given none = record {
 
 -- ---- the main stream
 
--- what is handed out of the main stream's bytes that were taken out
+-- what is copied out of the main stream's bytes that were taken out
 and_front : (given front : List ℕ) (old new : Multi) → front ++ waiting_in new.main ≡ waiting_in old.main
     → given ++ waiting_in old.main ≡ (given ++ front) ++ waiting_in new.main
 and_front given front old new has_front =
     ap (λ (l : List ℕ). given ++ l) (sym has_front) ∙ sym (append_assoc given front (waiting_in new.main))
 
--- where no byte waits, none is handed out
+-- where no byte waits, none is copied out
 none_of_none : (count : ℕ) (out left : List ℕ) → count ≤ length out → take count out ++ left ≡ [] → (count ≡ 0) × (left ≡ [])
 none_of_none count out left fits none =
     let lens : length (take count out) + length left ≡ 0 = sym (length-append (take count out) left) ∙ ap (λ (l : List ℕ). length l) none in

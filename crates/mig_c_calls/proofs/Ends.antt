@@ -66,7 +66,7 @@ left_done setting drained rounds e channel sends none lt =
     ∙ ap (λ (l : List (List ℕ)). get_or l channel []) has_texts
     ∙ get_or-map-range_with_len (channel_text setting.uuid rounds) 0 setting.channels channel channel [] lt (omega arith)
 
--- with other bytes handed out, and the others left, the streams are the same
+-- with other bytes copied out, and the others left, the streams are the same
 pub same_streams : (setting : MultiSetting) (drained after : Drained) (rounds : List DealtRound) (e e' : EndedStreams) → length e'.given.items ≡ length e.given.items
     → e'.left_open ≡ e.left_open
     → after.main ++ e'.sent.main.items ≡ drained.main ++ e.sent.main.items

@@ -1,4 +1,4 @@
--- A sender on several channels, as C holds it: its rounds, their workers, and what is handed out.
+-- A sender on several channels, as C holds it: its rounds, their workers, and what is copied out.
 use Rattle.std.proofs.Common.{ℕ, ◌≡◌, ◌≢◌, ◌+◌, ◌<◌, ◌≤◌, ◌∙◌, ◌==◌, List, [], ◌∷◌, ◌++◌, length, replicate, take, get_or, Bool, true, false, if◌then◌else◌, refl, sym, ap, subst, arith, inl, inr}
 use Rattle.std.specs.Prelude.{Result, Err, IsOk, is_ok, IsTrue, ◌||◌}
 use Rattle.std.proofs.lemmas.Bool.{cases_lt, cond-true, cond-false, eq-eqb, ne_eqb}

@@ -1,4 +1,4 @@
--- A sender of C on several channels: what it has sent, what was handed out of its streams, and the
+-- A sender of C on several channels: what it has sent, what was copied out of its streams, and the
 -- workers of its rounds, each with a handle of its own.
 use Rattle.std.specs.Prelude.{◌≡◌, ◌≢◌, ◌⊎◌, ◌+◌, ◌≤◌, ◌<◌, ◌++◌, ℕ, Bool, true, false, List, [], ◌∷◌, drop, take, map, length, replicate, get_or, All, Option, None, Some, Result, IsOk, ◌↔◌, ⊤}
 use Rattle.std.specs.List.{fold, range_with_len}
@@ -102,7 +102,7 @@ InRoundTo setting image dirty drained rounds (Over e) = ⊥
 abbrev pub with_plain : Drained → List ℕ → Drained
 with_plain given plain = record given { main = plain }
 
--- It has sent these rounds, and these bytes of its streams were handed out. Those that wait of the
+-- It has sent these rounds, and these bytes of its streams were copied out. Those that wait of the
 -- main stream follow them, and without the machine's name they are what was drained.
 abbrev pub Sends : MultiSetting → Drained → List DealtRound → Multi → Type 0
 Sends setting given rounds m = (plain : List ℕ) × IsNamed setting.name (given.main ++ waiting_in m.main) plain
@@ -140,7 +140,7 @@ ended_main false None table rounds = main table rounds
 ended_main false (Some name) table rounds = machine_closed (Some name) table (replicate rounds FlushPart)
 ended_main true name table rounds = machine_written name table (replicate rounds FlushPart)
 
--- The streams are over, and nothing of them is left to hand out.
+-- The streams are over, and nothing of them is left to copy out.
 abbrev pub HasNothingLeft : MultiState → Type 0
 HasNothingLeft (Idle s) = ⊥
 HasNothingLeft (Round r) = ⊥
@@ -365,7 +365,7 @@ pub record EndsRound (status : ℕ) (old new : MultiState) : Type 0 where
   pub wrong : status ≡ out_of_turn → OfRound (λ r. length r.spents ≡ length r.sender.channels) old → ⊥
   pub in_turn : status ≢ out_of_turn → OfRound (λ r. length r.spents ≡ length r.sender.channels) old
 
--- What `cancel_round` does: the sender gives its streams up. What was handed out of the main stream
+-- What `cancel_round` does: the sender gives its streams up. What was copied out of the main stream
 -- goes no further than the rounds that were ended, so it lacks the stream's END.
 pub record CancelsRound (status : ℕ) (old new : Multi) : Type 0 where
   pub is_named : IsOneOf (done ∷ out_of_turn ∷ []) status
@@ -391,9 +391,9 @@ pub record Finishes (left_open : Bool) (status : ℕ) (old new : MultiState) : T
   pub wrong : status ≡ out_of_turn → IsIdle old → ⊥
   pub in_turn : status ≢ out_of_turn → IsIdle old
 
--- What `drain` does: it hands out the next bytes of the main stream. Where it has none between two
--- rounds, all that was written so far was handed out; of streams that are ended, all of it. A round
--- that is open stays as it is. Of streams that were given up it hands out nothing.
+-- What `drain` does: it copies out the next bytes of the main stream. Where it has none between two
+-- rounds, all that was written so far was copied out; of streams that are ended, all of it. A round
+-- that is open stays as it is. Of streams that were given up it copies out nothing.
 pub record DrainsMain (count : ℕ) (out : List ℕ) (old new : Multi) : Type 0 where
   pub fits : count ≤ length out
   pub hands : (setting : MultiSetting) (given : Drained) (rounds : List DealtRound) → Sends setting given rounds old
@@ -423,7 +423,7 @@ pub record RefillsMain (old new : Multi) : Type 0 where
   pub all : IsOver old.state → waiting_in new.main ≡ [] → (setting : MultiSetting) (given : Drained) (rounds : List DealtRound)
       → Sends setting given rounds old → given.main ≡ ended_main (is_left_open old.state) setting.name setting.table (length rounds)
 
--- What `drain_channel` does: of streams that are ended it hands out what is left of a channel, and of
+-- What `drain_channel` does: of streams that are ended it copies out what is left of a channel, and of
 -- streams that were given up nothing.
 pub record DrainsChannel (channel count : ℕ) (out : List ℕ) (old new : MultiState) : Type 0 where
   pub fits : count ≤ length out

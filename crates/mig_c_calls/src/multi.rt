@@ -430,9 +430,9 @@ impl Multi {
         status
     }
 
-    /// Gives up the streams in the middle of a round. What of the round was handed out can't be
+    /// Gives up the streams in the middle of a round. What of the round was copied out can't be
     /// taken back from those who have it, so no other round can follow: the streams are over, and
-    /// nothing of them is handed out any more. Workers that are out stay. Returns the status:
+    /// nothing of them is copied out any more. Workers that are out stay. Returns the status:
     /// `DONE` or `OUT_OF_TURN`.
     pub fn cancel_round(&mut self, alloc: Global) -> u32
         ensures { CancelsRound result self.old self.new }
