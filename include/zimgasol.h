@@ -309,6 +309,14 @@ typedef struct zimgasol_place {
     uint64_t page;
 } zimgasol_place;
 
+/* The pages of one packet: the block that all of them are of, how many there are, and their numbers
+ * in it, ascending. The numbers after the first `count` say nothing. */
+typedef struct zimgasol_batch {
+    size_t block;
+    size_t count;
+    uint64_t pages[128];
+} zimgasol_batch;
+
 /* A block's bytes, lent for reading: its pages one after another. */
 typedef struct zimgasol_lent {
     const uint8_t *bytes;
@@ -772,9 +780,12 @@ ZIMGASOL_API void zimgasol_sender_free(zimgasol_sender *sender);
  *
  * All steps of a round are passed the same blocks, of the same bytes: nobody writes to them from
  * the first step to the last. So it is for a guest that is stopped, for a snapshot, or for pages
- * that are write-protected meanwhile. A worker is given back to the sender that made it, and to no
- * other one. Nothing checks that: another sender may take it, and its streams are wrong
- * then. A load finds packets that are missing or come twice, but not another guest's pages. */
+ * that are write-protected meanwhile. Of a guest that runs on the pages of a packet are copied, by
+ * zimgasol_worker_next and zimgasol_worker_pack in place of a step.
+ *
+ * A worker is given back to the sender that made it, and to no other one. Nothing checks that:
+ * another sender may take it, and its streams are wrong then. A load finds packets that are missing
+ * or come twice, but not another guest's pages. */
 
 /* Makes a sender of a table, of which it keeps a copy, on 1 to 255 channels under a UUID of 16
  * bytes, with at most `limit` pages to a packet (128 pages of 4096 bytes, 64 of 8192). Returns
@@ -851,6 +862,27 @@ ZIMGASOL_API void zimgasol_multi_free(zimgasol_multi *multi);
  * BAD_LENGTH, where the blocks aren't the table's. */
 ZIMGASOL_API zimgasol_status zimgasol_worker_step(zimgasol_worker *worker,
     const zimgasol_lent *blocks, size_t count);
+
+/* The two calls below are zimgasol_worker_step in two halves, for a guest that runs on: the caller
+ * copies the pages of one packet to a buffer of its own, between the two. Of a page that is written
+ * meanwhile the copy may be torn, as above: the mark goes before the copy begins, so that the page
+ * is sent again. A worker may take some packets by _step and others so. */
+
+/* Reports in *batch which pages the next packet of the worker has. The packet isn't written yet:
+ * until zimgasol_worker_pack, or a _step, has written it, each call reports the same pages. Where
+ * no batch is left it writes the channel's SYNC packet. Returns RUNNING, with a batch; DONE, where
+ * the worker has ended, and once more changes nothing; or NO_MEMORY, where nothing was written, and
+ * the next call writes the SYNC packet. With DONE and NO_MEMORY *batch stays as it is. */
+ZIMGASOL_API zimgasol_status zimgasol_worker_next(zimgasol_worker *worker,
+    zimgasol_batch *batch);
+
+/* Writes the packet of the batch that zimgasol_worker_next reported into the worker's channel.
+ * `pages` has the contents of its pages, one after another, in the batch's order. Returns RUNNING;
+ * NO_MEMORY, where nothing was written and the next call writes the packet; OUT_OF_TURN, where no
+ * batch was reported, or its packet is written; or BAD_LENGTH, where `len` isn't that of as many
+ * pages. */
+ZIMGASOL_API zimgasol_status zimgasol_worker_pack(zimgasol_worker *worker, const uint8_t *pages,
+    size_t len);
 
 /* Copies the next bytes of the worker's channel to `out`, at most `len`, and returns how many: 0
  * where none waits. */

@@ -23,6 +23,7 @@ STRUCTS = {
     "MultiHandle": "zimgasol_multi",
     "WorkerHandle": "zimgasol_worker",
     "NamedPlace": "zimgasol_place",
+    "NamedBatch": "zimgasol_batch",
     "NamedBlock": "zimgasol_block",
     "FoundFault": "zimgasol_fault",
     "AskedSettings": "zimgasol_settings",

@@ -5,10 +5,11 @@
  *   channels [-m MIB] [-c CHANNELS] [-b PAGES]
  *
  * The guest has two blocks, `pc.ram` of MIB (16) and `vga.vram` of 1 MiB, and CHANNELS (4) channels
- * carry packets of at most PAGES (128) pages. Each round sends a copy that was taken of the pages
- * written since the round before, and the last one is taken with the writer stopped. At the end both
- * memories are compared: it prints `0 pages differ`, with status 0; 1 where pages differ, and 3 where
- * it can't go on.
+ * carry packets of at most PAGES (128) pages. Each round sends the pages written since the round
+ * before: each worker copies the pages of one packet at a time, while the guest runs. The last
+ * round is packed from the guest's own memory, with the writer stopped. At the end both memories
+ * are compared: it prints `0 pages differ`, with status 0; 1 where pages differ, and 3 where it
+ * can't go on.
  */
 #define _GNU_SOURCE
 #include "zimgasol.h"
@@ -23,11 +24,11 @@
 
 enum { PAGE = 4096, BLOCKS = 2, WORDS = PAGE / 8, PIECE = 1 << 16, MOST = 16, ROUNDS = 4 };
 
-/* A block: the guest's words, a copy of them for the round that is sent, the blocks that are loaded,
- * and a mark for each page that was written since it was copied. */
+/* A block: the guest's words, the blocks that are loaded, and a mark for each page that was written
+ * since it was copied. */
 static struct ram {
     _Atomic uint64_t *guest;
-    uint8_t *copy, *loaded;
+    uint8_t *loaded;
     _Atomic uint8_t *dirty;
     uint64_t pages;
 } rams[BLOCKS];
@@ -72,36 +73,59 @@ static void *write_guest(void *arg) {
     return arg;
 }
 
-/* Copies the pages that were written since the last call, and lists them. A page that is written
- * while it is copied is marked after the write, so it comes again. */
-static size_t copy_dirty(zimgasol_place *dirty) {
+/* Lists the pages that were written since they were copied. */
+static size_t list_dirty(zimgasol_place *dirty) {
     size_t count = 0;
     for (size_t b = 0; b < BLOCKS; b++)
-        for (uint64_t p = 0; p < rams[b].pages; p++) {
-            if (!atomic_exchange(&rams[b].dirty[p], 0)) continue;
-            uint64_t *to = (uint64_t *)(void *)(rams[b].copy + p * PAGE);
-            for (size_t w = 0; w < WORDS; w++)
-                to[w] = atomic_load_explicit(&rams[b].guest[p * WORDS + w], memory_order_relaxed);
-            dirty[count++] = (zimgasol_place){b, p};
-        }
+        for (uint64_t p = 0; p < rams[b].pages; p++)
+            if (atomic_load(&rams[b].dirty[p])) dirty[count++] = (zimgasol_place){b, p};
     return count;
+}
+
+/* Copies the pages of a packet. A page's mark goes before its copy begins: where it is written from
+ * then on it is marked again, and so comes in the next round, too. */
+static void copy_pages(const zimgasol_batch *batch, uint64_t *copy) {
+    struct ram *r = &rams[batch->block];
+    for (size_t i = 0; i < batch->count; i++) {
+        uint64_t first = batch->pages[i] * WORDS;
+        atomic_exchange(&r->dirty[batch->pages[i]], 0);
+        for (size_t w = 0; w < WORDS; w++)
+            copy[i * WORDS + w] = atomic_load_explicit(&r->guest[first + w], memory_order_relaxed);
+    }
+}
+
+/* Packs the next packet of a guest that runs on, from a copy of its pages. */
+static zimgasol_status pack_copied(zimgasol_worker *worker, uint64_t *copy) {
+    zimgasol_batch batch;
+    zimgasol_status status = zimgasol_worker_next(worker, &batch);
+    if (status != ZIMGASOL_RUNNING) return status;
+    copy_pages(&batch, copy);
+    return zimgasol_worker_pack(worker, (uint8_t *)copy, batch.count * PAGE);
+}
+
+/* Packs the next packet of a guest that is stopped, from its own memory. */
+static zimgasol_status pack_stopped(zimgasol_worker *worker) {
+    zimgasol_lent lent[BLOCKS];
+    for (size_t b = 0; b < BLOCKS; b++)
+        lent[b] = (zimgasol_lent){(uint8_t *)rams[b].guest, rams[b].pages * PAGE};
+    return zimgasol_worker_step(worker, lent, BLOCKS);
 }
 
 /* One channel's part of a round, on a thread of its own. */
 static void *work(void *arg) {
     zimgasol_worker *worker = arg;
-    zimgasol_lent lent[BLOCKS];
     uint8_t *out = taken(malloc(PIECE), "malloc");
+    uint64_t *copy = taken(malloc(limit * PAGE), "malloc");
     int to = sockets[1 + zimgasol_worker_channel(worker)][0];
+    bool stopped = !atomic_load(&is_running);
     zimgasol_status status;
     size_t len;
-    for (size_t b = 0; b < BLOCKS; b++)
-        lent[b] = (zimgasol_lent){rams[b].copy, rams[b].pages * PAGE};
     do {
-        status = zimgasol_worker_step(worker, lent, BLOCKS);
-        if (status != ZIMGASOL_RUNNING) check(status, "worker_step");
+        status = stopped ? pack_stopped(worker) : pack_copied(worker, copy);
+        if (status != ZIMGASOL_RUNNING) check(status, "worker");
         while ((len = zimgasol_worker_drain(worker, out, PIECE)) > 0) send_all(to, out, len);
     } while (status == ZIMGASOL_RUNNING);
+    free(copy);
     free(out);
     return NULL;
 }
@@ -192,7 +216,6 @@ int main(int count, char **words) {
         struct ram *r = &rams[b];
         r->pages = blocks[b].pages;
         r->guest = taken(calloc(r->pages, PAGE), "calloc");
-        r->copy = taken(calloc(r->pages, PAGE), "calloc");
         r->loaded = taken(calloc(r->pages, PAGE), "calloc");
         r->dirty = taken(calloc(r->pages, 1), "calloc");
         for (uint64_t p = 0; p < r->pages; p++) atomic_store(&r->dirty[p], 1);
@@ -207,10 +230,10 @@ int main(int count, char **words) {
     if (pthread_create(&loader, NULL, load, &other) != 0) taken(NULL, "thread");
     if (pthread_create(&writer, NULL, write_guest, NULL) != 0) taken(NULL, "thread");
     drain_main(&multi);
-    for (int round = 0; round < ROUNDS; round++) send_round(&multi, dirty, copy_dirty(dirty));
+    for (int round = 0; round < ROUNDS; round++) send_round(&multi, dirty, list_dirty(dirty));
     atomic_store(&is_running, false);
     pthread_join(writer, NULL);
-    send_round(&multi, dirty, copy_dirty(dirty));
+    send_round(&multi, dirty, list_dirty(dirty));
     check(zimgasol_multi_finish(&multi), "finish");
     drain_main(&multi);
     for (size_t s = 0; s <= channels; s++) close(sockets[s][0]);
@@ -219,7 +242,6 @@ int main(int count, char **words) {
         for (uint64_t p = 0; p < rams[b].pages; p++)
             differ += memcmp((uint8_t *)rams[b].guest + p * PAGE, rams[b].loaded + p * PAGE, PAGE) != 0;
         free((void *)rams[b].guest);
-        free(rams[b].copy);
         free(rams[b].loaded);
         free((void *)rams[b].dirty);
     }

@@ -5,9 +5,11 @@ ghost use Rattle.std.specs.Prelude.{◌≡◌, ◌≢◌, IsSome, None, Some};
 ghost use Rattle.mig_mem.specs.Lent.{lent_bytes};
 ghost use Rattle.mig_c.specs.Kinds.{worker_in, Turns, Tells};
 ghost use Rattle.mig_c_calls.specs.Multi.{Steps, DrainsWorker};
+ghost use Rattle.mig_c_calls.specs.Copied.{NamesBatch, PacksCopied};
 
 use crate::handle::{Handle, WorkerHandle};
 use crate::object::Object;
+use mig_c_calls::NamedBatch;
 use std::alloc::Global;
 
 fn step(object: &mut Object, blocks: &[&[u8]]) -> u32
@@ -32,6 +34,60 @@ pub extern "C" fn zimgasol_worker_step(
 {
     let mut object = worker.handle.take().into_box(alloc);
     let status = step(&mut object, blocks);
+    worker.handle = Handle::of(object);
+    status
+}
+
+fn next(object: &mut Object, batch: &mut NamedBatch) -> u32
+    requires { IsSome (worker_in (Some object.old)) }
+    ensures { Turns (NamesBatch result batch.old batch.new) (worker_in (Some object.old)) (worker_in (Some object.new)) }
+{
+    match object {
+        Object::Worker(worker) => worker.next(batch),
+        _ => unreachable!(),
+    }
+}
+
+/// Reports the batch of the worker's next packet. If no batch is left, writes the SYNC packet into
+/// the worker's channel.
+#[unsafe(no_mangle)]
+pub extern "C" fn zimgasol_worker_next(
+    alloc: Global,
+    worker: &mut WorkerHandle,
+    batch: &mut NamedBatch,
+) -> u32
+    requires worker { IsSome (worker_in worker.old.handle.value) }
+    ensures names { Turns (NamesBatch result batch.old batch.new) (worker_in worker.old.handle.value) (worker_in worker.new.handle.value) }
+{
+    let mut object = worker.handle.take().into_box(alloc);
+    let status = next(&mut object, batch);
+    worker.handle = Handle::of(object);
+    status
+}
+
+fn pack(alloc: Global, object: &mut Object, bytes: &[u8]) -> u32
+    requires { IsSome (worker_in (Some object.old)) }
+    ensures { Turns (PacksCopied bytes.now result) (worker_in (Some object.old)) (worker_in (Some object.new)) }
+{
+    match object {
+        Object::Worker(worker) => worker.pack(alloc, bytes),
+        _ => unreachable!(),
+    }
+}
+
+/// Writes the packet of the batch that `zimgasol_worker_next` reported into the worker's channel,
+/// from the contents of its pages.
+#[unsafe(no_mangle)]
+pub extern "C" fn zimgasol_worker_pack(
+    alloc: Global,
+    worker: &mut WorkerHandle,
+    pages: &[u8],
+) -> u32
+    requires worker { IsSome (worker_in worker.old.handle.value) }
+    ensures packs { Turns (PacksCopied pages.now result) (worker_in worker.old.handle.value) (worker_in worker.new.handle.value) }
+{
+    let mut object = worker.handle.take().into_box(alloc);
+    let status = pack(alloc, &mut object, pages);
     worker.handle = Handle::of(object);
     status
 }

@@ -4,3 +4,4 @@ pub mod Drains
 pub mod Calls
 pub mod Ends
 pub mod Places
+pub mod Copies

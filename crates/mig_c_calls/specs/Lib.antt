@@ -3,3 +3,4 @@
 pub mod Status
 pub mod Named
 pub mod Multi
+pub mod Copied

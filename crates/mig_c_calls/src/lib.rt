@@ -5,11 +5,14 @@
 //! into buffers of C (`waiting`).
 #![tactic(auto)]
 
+mod copied;
 mod multi;
 mod sending;
 pub mod status;
 mod waiting;
 mod worker;
 
-pub use sending::{DealtRound, EndedStreams, HeldWorker, Multi, MultiState, NamedPlace};
+pub use sending::{
+    DealtRound, EndedStreams, HeldWorker, Multi, MultiState, NamedBatch, NamedPlace,
+};
 pub use waiting::{Waiting, behind, copy_front};

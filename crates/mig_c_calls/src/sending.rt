@@ -19,6 +19,18 @@ pub struct NamedPlace {
     pub page: u64,
 }
 
+/// The pages of one packet, as C reads them.
+#[repr(C)]
+#[derive(Clone, Copy)]
+pub struct NamedBatch {
+    /// The number of the block that all of them are of.
+    pub block: usize,
+    /// How many pages there are.
+    pub count: usize,
+    /// Their numbers in the block, ascending. The elements after the first `count` name no page.
+    pub pages: [u64; 128],
+}
+
 /// A round whose workers are given out.
 #[derive(Drop)]
 pub struct DealtRound {

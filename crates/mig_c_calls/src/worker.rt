@@ -1,14 +1,19 @@
 //! The calls of a worker of a round on several channels. Each worker runs on a thread of the
 //! caller's.
 
-ghost use Rattle.std.specs.Prelude.{◌≡◌, IsTrue, ◌↔◌};
+ghost use Rattle.std.specs.Prelude.{◌≡◌, ◌*◌, ◌≤◌, ◌++◌, IsTrue, IsFalse, IfOk, IfErr, None, List, ℕ, length, ◌↔◌};
+ghost use Rattle.mig_mem.specs.PageSize.{IsPageSize};
+ghost use Rattle.mig_mem.specs.Image.{Image};
 ghost use Rattle.mig_mem.specs.Lent.{lent_bytes, lent_image, FitTable};
+ghost use Rattle.mig_send.specs.ChannelWork.{IsHand, HasClaimed, HasPacked, batch_in};
 ghost use Rattle.mig_c_calls.specs.Multi.{StepsOn, Steps, DrainsWorker, RefillsWorker};
+ghost use Rattle.mig_c_calls.specs.Copied.{HasBatch, OfClaim, ListsPages, NamesBatch, PacksCopied, PacksOn, RefusesPages, EndsChannel};
 
-use crate::sending::HeldWorker;
-use crate::status::{BAD_LENGTH, DONE, NO_MEMORY, RUNNING};
+use crate::copied::{CopiedPages, page_of_zeros};
+use crate::sending::{HeldWorker, NamedBatch};
+use crate::status::{BAD_LENGTH, DONE, NO_MEMORY, OUT_OF_TURN, RUNNING};
 use mig_mem::{LentMemory, NoMemory};
-use mig_send::ChannelWorker;
+use mig_send::{Batch, ChannelWorker};
 use std::alloc::Global;
 
 // Writes one packet from a memory.
@@ -33,7 +38,126 @@ fn refill(held: &mut HeldWorker)
     }
 }
 
+// Writes a batch to `named`.
+fn name_batch(batch: &Batch<Global>, named: &mut NamedBatch)
+    requires { length batch.now.pages ≤ 128 }
+    ensures { ListsPages named.new batch.now }
+{
+    let count = batch.pages.len();
+    named.block = batch.block;
+    named.count = count;
+    named.pages[..count].copy_from_slice(&batch.pages);
+}
+
+// Writes the batch of the worker's number to `named`, if it claims one. Returns whether it does.
+fn name_claimed(worker: &ChannelWorker<Global>, named: &mut NamedBatch) -> bool
+    ensures named { IsTrue result → OfClaim (λ batch number. ListsPages named.new batch) worker.now.terms worker.now.hand }
+    ensures none { IsFalse result → (batch_in worker.now.terms worker.now.hand ≡ None) × (named.new ≡ named.old) }
+{
+    // the page size bounds the pages of a batch
+    worker.table().keeps_limits();
+    match worker.batch() {
+        Some(batch) => {
+            name_batch(batch, named);
+            true
+        }
+        None => false,
+    }
+}
+
+// Writes the SYNC packet of a worker that has drawn its last number, from any memory of its table.
+fn end_channel(worker: &mut ChannelWorker<Global>, memory: &CopiedPages<'_>) -> u32
+    requires table { memory.now.table ≡ worker.old.terms.table }
+    requires none { batch_in worker.old.terms worker.old.hand ≡ None }
+    requires hand { IsHand worker.old.terms.deal worker.old.hand }
+    requires claimed { HasClaimed worker.old.terms.deal worker.old.hand worker.old.hand }
+    ensures ends { EndsChannel result worker.old worker.new }
+    ensures packed { (image : Image) (before drained : List ℕ) → image.table ≡ worker.old.terms.table → HasPacked image before (drained ++ worker.old.text) worker.old
+        → HasPacked image before (drained ++ worker.new.text) worker.new }
+{
+    match worker.step(memory) {
+        Ok(()) => DONE,
+        Err(NoMemory) => NO_MEMORY,
+    }
+}
+
+// Writes the packet of the worker's number from the pages of a memory.
+fn pack_on(worker: &mut ChannelWorker<Global>, memory: &CopiedPages<'_>) -> u32
+    requires table { memory.now.table ≡ worker.old.terms.table }
+    ensures { PacksOn memory.now result worker.old worker.new }
+{
+    match worker.step(memory) {
+        Ok(_) => RUNNING,
+        Err(NoMemory) => NO_MEMORY,
+    }
+}
+
+// Returns whether a buffer is as long as `count` pages.
+fn is_of_pages(bytes: &[u8], size: u64, count: usize) -> bool
+    requires { IsPageSize size }
+    ensures { IsTrue result ↔ (length bytes.now ≡ count * size) }
+{
+    let len = bytes.len() as u64;
+    len % size == 0 && len / size == count as u64
+}
+
+// Copies the numbers of the pages of the claimed batch, if the buffer is as long as these pages, or
+// returns why not.
+fn claimed_pages(
+    alloc: Global,
+    worker: &ChannelWorker<Global>,
+    bytes: &[u8],
+) -> Result<Vec<u64>, u32>
+    ensures ok { IfOk result (λ pages. OfClaim (λ batch number. HasBatch worker.now.terms.table pages.items bytes.now batch) worker.now.terms worker.now.hand) }
+    ensures err { IfErr result (λ status. RefusesPages bytes.now status worker.now) }
+{
+    let Some(batch) = worker.batch() else {
+        return Err(OUT_OF_TURN);
+    };
+    let table = worker.table();
+    table.keeps_limits();
+    if !is_of_pages(bytes, table.page_size(), batch.pages.len()) {
+        return Err(BAD_LENGTH);
+    }
+    match Vec::from_slice(alloc, &batch.pages) {
+        Ok(pages) => Ok(pages),
+        Err(_) => Err(NO_MEMORY),
+    }
+}
+
 impl HeldWorker {
+    /// Draws the number of the worker's next packet, and writes the batch that it claims to
+    /// `named`. If no batch is left, writes the SYNC packet into the channel, and `named` stays as
+    /// it is. Returns the status: `RUNNING` with a batch, `DONE` once the worker has ended, or
+    /// `NO_MEMORY`. Until the batch is packed, each call names the same one.
+    pub fn next(&mut self, named: &mut NamedBatch) -> u32
+        ensures { NamesBatch result named.old named.new self.old self.new }
+    {
+        self.worker.claim();
+        if name_claimed(&self.worker, named) {
+            return RUNNING;
+        }
+        self.table.keeps_limits();
+        let zeros = page_of_zeros(self.table.page_size());
+        let memory = CopiedPages::new(&self.table, &[0], zeros);
+        end_channel(&mut self.worker, &memory)
+    }
+
+    /// Writes the packet of the batch that `next` named, whose pages are in `bytes` one after
+    /// another. Returns the status: `RUNNING`, `NO_MEMORY`, `BAD_LENGTH`, or `OUT_OF_TURN` if no
+    /// batch waits for its packet.
+    pub fn pack(&mut self, alloc: Global, bytes: &[u8]) -> u32
+        ensures { PacksCopied bytes.now result self.old self.new }
+    {
+        match claimed_pages(alloc, &self.worker, bytes) {
+            Ok(pages) => {
+                let memory = CopiedPages::new(&self.table, &pages, bytes);
+                pack_on(&mut self.worker, &memory)
+            }
+            Err(status) => status,
+        }
+    }
+
     /// Writes one packet into the worker's channel, from the pages of blocks that are lent for the
     /// call. Returns the status: `DONE` once the worker has ended, `RUNNING`, `NO_MEMORY` or
     /// `BAD_LENGTH`.

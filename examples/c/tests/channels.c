@@ -39,7 +39,32 @@ static int drain_worker(zimgasol_worker *worker, size_t most) {
     return 0;
 }
 
-/* A round of these pages, and the statuses of its calls on the way. */
+/* Packs the next packet of a worker in two halves, and tries first what isn't to be done. `count`
+ * and `pages` stay where no batch is left. */
+static uint32_t pack_copied(zimgasol_worker *worker) {
+    static uint8_t copy[128 * PAGE];
+    zimgasol_batch batch = {.block = 99, .count = 77}, again;
+    uint32_t status = zimgasol_worker_next(worker, &batch);
+    if (status == ZIMGASOL_DONE) {
+        if (batch.block != 99 || batch.count != 77) return 1;
+        if (zimgasol_worker_pack(worker, copy, 0) != ZIMGASOL_OUT_OF_TURN) return 2;
+        return ZIMGASOL_DONE;
+    }
+    if (status != ZIMGASOL_RUNNING || batch.block > 1 || batch.count < 1 || batch.count > 16) return 3;
+    if (zimgasol_worker_next(worker, &again) != ZIMGASOL_RUNNING) return 4;
+    if (again.block != batch.block || again.count != batch.count) return 5;
+    if (memcmp(again.pages, batch.pages, batch.count * sizeof *batch.pages) != 0) return 6;
+    for (size_t i = 0; i < batch.count; i++)
+        memcpy(copy + i * PAGE, guest[batch.block] + batch.pages[i] * PAGE, PAGE);
+    if (zimgasol_worker_pack(worker, copy, batch.count * PAGE - 1) != ZIMGASOL_BAD_LENGTH) return 7;
+    if (zimgasol_worker_pack(worker, copy, (batch.count + 1) * PAGE) != ZIMGASOL_BAD_LENGTH) return 8;
+    status = zimgasol_worker_pack(worker, copy, batch.count * PAGE);
+    if (zimgasol_worker_pack(worker, copy, batch.count * PAGE) != ZIMGASOL_OUT_OF_TURN) return 9;
+    return status;
+}
+
+/* A round of these pages, and the statuses of its calls on the way. A worker takes a step whole, or
+ * in two halves, or is told its batch and then takes the step whole. */
 static int send_round(zimgasol_multi *multi, const zimgasol_place *dirty, size_t count) {
     zimgasol_worker workers[CHANNELS] = {{0}}, none = {0};
     zimgasol_place outside = {1, OTHER};
@@ -58,11 +83,14 @@ static int send_round(zimgasol_multi *multi, const zimgasol_place *dirty, size_t
     WANT(zimgasol_multi_worker(multi, &none) == ZIMGASOL_OUT_OF_TURN && none.full == 0);
     WANT(zimgasol_worker_step(&workers[0], lent, 1) == ZIMGASOL_BAD_LENGTH);
     WANT(zimgasol_worker_step(&workers[0], short_one, 2) == ZIMGASOL_BAD_LENGTH);
+    WANT(zimgasol_worker_pack(&workers[0], guest[0], PAGE) == ZIMGASOL_OUT_OF_TURN);
     WANT(zimgasol_multi_give_back(multi, &workers[0]) == ZIMGASOL_OUT_OF_TURN && workers[0].full != 0);
     int running = CHANNELS;
     for (int turn = 0; running > 0; turn++) {
         zimgasol_worker *worker = &workers[turn % CHANNELS];
-        uint32_t status = zimgasol_worker_step(worker, lent, 2);
+        zimgasol_batch batch;
+        if (turn % 5 == 1) WANT(zimgasol_worker_next(worker, &batch) != ZIMGASOL_NO_MEMORY);
+        uint32_t status = turn % 5 < 2 ? zimgasol_worker_step(worker, lent, 2) : pack_copied(worker);
         WANT(status == ZIMGASOL_DONE || status == ZIMGASOL_RUNNING);
         if (turn % 2 == 0 && drain_worker(worker, 10000)) return 1;
         running = status == ZIMGASOL_DONE ? running - 1 : CHANNELS;

@@ -29,12 +29,29 @@ static void drain_worker(zimgasol_worker *worker) {
     }
 }
 
-/* Steps a worker once, again where it was refused. Returns whether its channel goes on. */
+static uint32_t pack_lent(zimgasol_worker *worker) {
+    return zimgasol_worker_step(worker, lent, 1);
+}
+
+/* A step in two halves: the pages of the next packet are copied in between. */
+static uint32_t pack_copied(zimgasol_worker *worker) {
+    uint8_t copy[2 * PAGE];
+    zimgasol_batch batch;
+    uint32_t status = zimgasol_worker_next(worker, &batch);
+    if (status != ZIMGASOL_RUNNING) return status;
+    WANT(batch.block == 0 && batch.count <= 2);
+    for (size_t i = 0; i < batch.count; i++) memcpy(copy + i * PAGE, guest + batch.pages[i] * PAGE, PAGE);
+    return zimgasol_worker_pack(worker, copy, batch.count * PAGE);
+}
+
+/* Steps a worker once, again where it was refused, whole or in two halves. Returns whether its
+ * channel goes on. */
 static int steps(zimgasol_worker *worker) {
-    uint32_t status = zimgasol_worker_step(worker, lent, 1);
+    uint32_t (*step)(zimgasol_worker *) = zimgasol_worker_channel(worker) == 0 ? pack_lent : pack_copied;
+    uint32_t status = step(worker);
     if (status == ZIMGASOL_NO_MEMORY) {
         WANT(refusals == 1);
-        status = zimgasol_worker_step(worker, lent, 1);
+        status = step(worker);
     }
     WANT(status == ZIMGASOL_DONE || status == ZIMGASOL_RUNNING);
     return status == ZIMGASOL_RUNNING;
