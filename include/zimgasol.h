@@ -692,6 +692,17 @@ ZIMGASOL_API zimgasol_status zimgasol_in_place_session_verdict(zimgasol_in_place
 /* Returns how many rounds were judged lawful. The blocks have all of them. */
 ZIMGASOL_API uint64_t zimgasol_in_place_session_rounds(zimgasol_in_place_session *session);
 
+/* Reports in *at how many of the bytes taken the main stream has: those up to its end byte, or in
+ * the frame MACHINE up to the footer of RAM's END. The bytes taken after them are the caller's.
+ * Returns DONE; or RUNNING, and *at stays, where it isn't closed, and after NO_MEMORY. */
+ZIMGASOL_API zimgasol_status zimgasol_in_place_session_closed_at(
+    zimgasol_in_place_session *session, uint64_t *at);
+
+/* Reports in *at how many of the bytes taken of a source are complete items without a fault, and
+ * returns whether it is known, as zimgasol_session_valid_up_to does. */
+ZIMGASOL_API bool zimgasol_in_place_session_valid_up_to(zimgasol_in_place_session *session,
+    size_t source, uint64_t *at);
+
 /* Frees it. The blocks stay the caller's. */
 ZIMGASOL_API void zimgasol_in_place_session_free(zimgasol_in_place_session *session);
 

@@ -5,19 +5,22 @@ use Rattle.mig_mem.specs.RamTable.{RamTable}
 use Rattle.mig_mem.specs.Image.{Image}
 use Rattle.mig_mem.specs.Lent.{FitTable, lent_image}
 use Rattle.mig_stream.specs.declared.item.Frame.{Frame}
-use Rattle.mig_single_load.specs.Settings.{for_table}
+use Rattle.mig_stream.specs.Reader.{HasClosedAt}
+use Rattle.mig_single_load.specs.Settings.{for_table, main_of}
+use Rattle.mig_single_load.specs.declared.settings.LoadSettings.{LoadSettings}
 use Rattle.mig_single_load.specs.declared.fault.Origin.TheVariants as origin
 use Rattle.mig_single_load.specs.declared.fault.Fault.TheVariants as fault
 use Rattle.mig_answer.specs.declared.verdict.Verdict.{Verdict}
 use Rattle.mig_answer.specs.declared.verdict.Verdict.TheVariants.{Running}
-use Rattle.mig_answer.specs.Texts.{no_texts}
+use Rattle.mig_answer.specs.Texts.{Texts, no_texts}
 use Rattle.mig_answer.specs.MultiLoad.{failed}
 use Rattle.mig_session.specs.declared.source.Source.{Source}
-use Rattle.mig_session.specs.Session.{HasSource, count_of, feed_step, end_step, with_fed, with_end}
+use Rattle.mig_session.specs.Session.{HasSource, count_of, feed_step, end_step, with_fed, with_end, IsSourceValidUpTo}
 use Rattle.mig_in_place.specs.Sources.{counts_of}
-use Rattle.mig_in_place.specs.Session.{InPlaceLoad, StandsFor, StepsOn, RunsOut, Tells, TakesBytes}
-use Rattle.mig_c_calls.specs.Status.{IsOneOf, done, no_memory, bad_channels, bad_source, is_over, too_long, bad_length, bad_frame}
+use Rattle.mig_in_place.specs.Session.{InPlaceLoad, StandsFor, LacksMemory, StepsOn, RunsOut, Tells, TakesBytes}
+use Rattle.mig_c_calls.specs.Status.{IsOneOf, done, running, no_memory, bad_channels, bad_source, is_over, too_long, bad_length, bad_frame}
 use Rattle.mig_c.specs.Frames.{frame_of}
+use Rattle.mig_c.specs.Found.{if_told}
 use Rattle.mig_c.specs.InPlace.{settings_into}
 
 -- ---- the calls
@@ -120,3 +123,24 @@ pub record TellsTakes (from : Source) (told : Bool) (s : InPlaceLoad) : Type 0 w
       → Tells memory s (λ given uuid first texts. IsTrue told ↔ TakesBytes (for_table first.table given) uuid s.rounds texts from)
   pub settled : s.verdict ≢ Running → IsFalse told
   pub foreign : (HasSource (counts_of s.sources) from → ⊥) → IsFalse told
+
+-- C sees how many of the bytes taken the main stream has, once it is closed; before that the number
+-- stays.
+pub record TellsClosedAt (status before after : ℕ) (s : InPlaceLoad) : Type 0 where
+  pub is_named : IsOneOf (done ∷ running ∷ []) status
+  pub closed : status ≡ done → (memory : Image) → Tells memory s (λ given uuid first texts. HasClosedAt (main_of (for_table first.table given)) texts.main.bytes (Some after))
+  pub not_closed : status ≡ running → (memory : Image) → Tells memory s (λ given uuid first texts. HasClosedAt (main_of (for_table first.table given)) texts.main.bytes None)
+  pub lacking : (memory : Image) (given : LoadSettings) (uuid : List ℕ) (first : Image) (texts : Texts) → LacksMemory given uuid first texts memory s
+      → status ≡ running
+  pub same : status ≢ done → after ≡ before
+
+-- C sees how many of a source's bytes that were taken are complete items without a fault: a fault's
+-- item begins after them. It isn't told so where there is no such source, nor after a refused
+-- allocation.
+pub record TellsValidUpTo (from : Source) (told : Bool) (before after : ℕ) (s : InPlaceLoad) : Type 0 where
+  pub stands : HasSource (counts_of s.sources) from → (memory : Image)
+      → Tells memory s (λ given uuid first texts. IsSourceValidUpTo (for_table first.table given) uuid texts from (if_told told after))
+  pub lacking : (memory : Image) (given : LoadSettings) (uuid : List ℕ) (first : Image) (texts : Texts) → LacksMemory given uuid first texts memory s
+      → IsFalse told
+  pub foreign : (HasSource (counts_of s.sources) from → ⊥) → IsFalse told
+  pub same : IsFalse told → after ≡ before

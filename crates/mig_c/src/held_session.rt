@@ -6,12 +6,14 @@ ghost use Rattle.mig_mem.specs.Lent.{mut_lent_bytes};
 ghost use Rattle.mig_session.specs.Session.{HasSource, count_of};
 ghost use Rattle.mig_in_place.specs.Sources.{counts_of};
 ghost use Rattle.mig_c.specs.Found.{seen_of_verdict};
-ghost use Rattle.mig_c.specs.InPlaceSessions.{BeginsInto, RefusesPiece, FeedsMemory, FeedsBlocks, EndsSource, TellsTaken, TellsTakes};
+ghost use Rattle.mig_c.specs.InPlaceSessions.{BeginsInto, RefusesPiece, FeedsMemory, FeedsBlocks, EndsSource, TellsTaken, TellsTakes, TellsClosedAt, TellsValidUpTo};
 
 use crate::fault::{FoundFault, found, none, running};
 use crate::lent::{LentBlocks, fit, put_back, taken_out};
 use mig_answer::Verdict;
-use mig_c_calls::status::{BAD_LENGTH, BAD_SOURCE, DONE, IS_OVER, MAX_LIMIT, NO_MEMORY, TOO_LONG};
+use mig_c_calls::status::{
+    BAD_LENGTH, BAD_SOURCE, DONE, IS_OVER, MAX_LIMIT, NO_MEMORY, RUNNING, TOO_LONG,
+};
 use mig_in_place::InPlaceSession;
 use mig_mem::{NoMemory, Table};
 use mig_session::Source;
@@ -125,6 +127,36 @@ fn feed_blocks(
     (table, status)
 }
 
+// Reports how many of the bytes taken the main stream has, once it is closed.
+fn closed_at(session: &InPlaceSession<Global>, at: &mut u64) -> u32
+    ensures { TellsClosedAt result at.old at.new session.now }
+{
+    match session.closed_at() {
+        Some(count) => {
+            *at = count;
+            DONE
+        }
+        None => RUNNING,
+    }
+}
+
+// Returns whether it is known how many bytes of a source are complete items without a fault, and
+// reports how many.
+fn valid_up_to(session: &InPlaceSession<Global>, source: Source, at: &mut u64) -> bool
+    ensures { TellsValidUpTo source result at.old at.new session.now }
+{
+    if !session.has(source) {
+        return false;
+    }
+    match session.valid_up_to(source) {
+        Some(count) => {
+            *at = count;
+            true
+        }
+        None => false,
+    }
+}
+
 impl HeldSession {
     /// Creates a load into blocks of `table`, which it copies. No bytes were taken.
     pub(crate) fn new(
@@ -196,6 +228,21 @@ impl HeldSession {
         } else {
             0
         }
+    }
+
+    /// Reports how many of the bytes taken the main stream has, once it is closed.
+    pub(crate) fn closed_at(&self, at: &mut u64) -> u32
+        ensures { TellsClosedAt result at.old at.new self.now }
+    {
+        closed_at(&self.session, at)
+    }
+
+    /// Returns whether it is known how many of the bytes taken of a source are complete items without
+    /// a fault, and reports how many.
+    pub(crate) fn valid_up_to(&self, source: Source, at: &mut u64) -> bool
+        ensures { TellsValidUpTo source result at.old at.new self.now }
+    {
+        valid_up_to(&self.session, source, at)
     }
 
     /// Returns the verdict on the bytes taken, as C sees it.

@@ -8,7 +8,7 @@ ghost use Rattle.mig_c.specs.Frames.{waiting_of as most_waiting};
 ghost use Rattle.mig_c.specs.Kinds.{table_in, in_place_session_in, Turns, Tells};
 ghost use Rattle.mig_c.specs.Found.{seen_of_verdict};
 ghost use Rattle.mig_c.specs.Sessions.{source_of};
-ghost use Rattle.mig_c.specs.InPlaceSessions.{Opens, OpensInto, FeedsBlocks, EndsSource, TellsTaken, TellsTakes};
+ghost use Rattle.mig_c.specs.InPlaceSessions.{Opens, OpensInto, FeedsBlocks, EndsSource, TellsTaken, TellsTakes, TellsClosedAt, TellsValidUpTo};
 
 use crate::fault::FoundFault;
 use crate::frame::frame_of;
@@ -264,6 +264,62 @@ pub extern "C" fn zimgasol_in_place_session_fed(
     let number = fed(&object, source_of(source));
     session.handle = Handle::of(object);
     number
+}
+
+fn closed_at(object: &Object, at: &mut u64) -> u32
+    requires { IsSome (in_place_session_in (Some object.now)) }
+    ensures { Tells (TellsClosedAt result at.old at.new) (in_place_session_in (Some object.now)) }
+{
+    match object {
+        Object::InPlaceSession(load) => load.closed_at(at),
+        _ => unreachable!(),
+    }
+}
+
+/// Reports how many of the bytes taken the main stream has, once it is closed.
+#[unsafe(no_mangle)]
+pub extern "C" fn zimgasol_in_place_session_closed_at(
+    alloc: Global,
+    session: &mut InPlaceSessionHandle,
+    at: &mut u64,
+) -> u32
+    requires session { IsSome (in_place_session_in session.old.handle.value) }
+    ensures same { session.new.handle.value ≡ session.old.handle.value }
+    ensures tells { Tells (TellsClosedAt result at.old at.new) (in_place_session_in session.old.handle.value) }
+{
+    let object = session.handle.take().into_box(alloc);
+    let status = closed_at(&object, at);
+    session.handle = Handle::of(object);
+    status
+}
+
+fn valid_up_to(object: &Object, source: Source, at: &mut u64) -> bool
+    requires { IsSome (in_place_session_in (Some object.now)) }
+    ensures { Tells (TellsValidUpTo source result at.old at.new) (in_place_session_in (Some object.now)) }
+{
+    match object {
+        Object::InPlaceSession(load) => load.valid_up_to(source, at),
+        _ => unreachable!(),
+    }
+}
+
+/// Returns whether it is known how many of the bytes taken of a source are complete items without a
+/// fault, from the first byte on, and reports how many.
+#[unsafe(no_mangle)]
+pub extern "C" fn zimgasol_in_place_session_valid_up_to(
+    alloc: Global,
+    session: &mut InPlaceSessionHandle,
+    source: usize,
+    at: &mut u64,
+) -> bool
+    requires session { IsSome (in_place_session_in session.old.handle.value) }
+    ensures same { session.new.handle.value ≡ session.old.handle.value }
+    ensures tells { Tells (TellsValidUpTo (source_of source) result at.old at.new) (in_place_session_in session.old.handle.value) }
+{
+    let object = session.handle.take().into_box(alloc);
+    let result = valid_up_to(&object, source_of(source), at);
+    session.handle = Handle::of(object);
+    result
 }
 
 fn verdict(object: &Object) -> FoundFault

@@ -210,6 +210,7 @@ static int send_named(zimgasol_table *table) {
     zimgasol_in_place_session load = {0};
     zimgasol_multi multi = {0};
     zimgasol_fault fault;
+    uint64_t at = 7;
     WANT(zimgasol_multi_new_named(&multi, table, uuid, 16, CHANNELS, 16, long_name, 1025) == ZIMGASOL_BAD_LENGTH && multi.full == 0);
     WANT(zimgasol_multi_new_named(&multi, table, uuid, 15, CHANNELS, 16, long_name, 4) == ZIMGASOL_BAD_LENGTH && multi.full == 0);
     WANT(zimgasol_multi_new_named(&multi, table, uuid, 16, 0, 16, long_name, 1024) == ZIMGASOL_CHANNELS && multi.full == 0);
@@ -232,6 +233,7 @@ static int send_named(zimgasol_table *table) {
     WANT(zimgasol_in_place_session_new_within(&load, table, uuid, 16, CHANNELS, &settings) == ZIMGASOL_DONE);
     if (feed_all(&load, 777)) return 1;
     WANT(zimgasol_in_place_session_verdict(&load, &fault) == ZIMGASOL_DONE && zimgasol_in_place_session_rounds(&load) == 1);
+    WANT(zimgasol_in_place_session_closed_at(&load, &at) == ZIMGASOL_DONE && at == named_length[0]);
     WANT(memcmp(loaded[0] + PAGE, guest[0] + PAGE, PAGE) == 0 && memcmp(loaded[0] + 7 * PAGE, guest[0] + 7 * PAGE, PAGE) == 0);
     WANT(memcmp(loaded[1], guest[1], PAGE) == 0);
     zimgasol_in_place_session_free(&load);
@@ -285,7 +287,7 @@ static int load_all(zimgasol_table *table, size_t cut) {
     zimgasol_in_place_session load = {0};
     zimgasol_fault fault;
     size_t taken = 7;
-    uint64_t pages = 0;
+    uint64_t pages = 0, at = 7;
     memset(loaded, 0xEE, sizeof loaded);
     WANT(zimgasol_in_place_session_new(&load, table, uuid, 16, 0, ZIMGASOL_FRAME_RAM) == ZIMGASOL_BAD_CHANNELS);
     WANT(zimgasol_in_place_session_new(&load, table, uuid, 17, 256, ZIMGASOL_FRAME_RAM) == ZIMGASOL_BAD_CHANNELS);
@@ -293,6 +295,7 @@ static int load_all(zimgasol_table *table, size_t cut) {
     WANT(zimgasol_in_place_session_new(&load, table, uuid, 16, CHANNELS, (zimgasol_frame)2) == ZIMGASOL_BAD_FRAME && load.full == 0);
     WANT(zimgasol_in_place_session_new(&load, table, uuid, 16, CHANNELS, ZIMGASOL_FRAME_RAM) == ZIMGASOL_DONE);
     WANT(zimgasol_in_place_session_verdict(&load, &fault) == ZIMGASOL_RUNNING);
+    WANT(zimgasol_in_place_session_closed_at(&load, &at) == ZIMGASOL_RUNNING && at == 7);
     WANT(!zimgasol_in_place_session_takes(&load, 1 + CHANNELS));
     WANT(zimgasol_in_place_session_feed(&load, into, 2, 1 + CHANNELS, stream[0], 1, &taken) == ZIMGASOL_BAD_SOURCE && taken == 0);
     WANT(zimgasol_in_place_session_feed(&load, into, 1, 0, stream[0], 1, &taken) == ZIMGASOL_BAD_LENGTH && taken == 0);
@@ -300,6 +303,9 @@ static int load_all(zimgasol_table *table, size_t cut) {
     if (feed_all(&load, cut)) return 1;
     WANT(zimgasol_in_place_session_verdict(&load, &fault) == ZIMGASOL_DONE && fault.number == 0);
     WANT(zimgasol_in_place_session_rounds(&load) == 2);
+    WANT(zimgasol_in_place_session_closed_at(&load, &at) == ZIMGASOL_DONE && at == length[0]);
+    for (size_t source = 0; source <= CHANNELS; source++)
+        WANT(zimgasol_in_place_session_valid_up_to(&load, source, &at) && at == length[source]);
     for (size_t p = 0; p < PAGES; p++) pages += memcmp(loaded[0] + p * PAGE, guest[0] + p * PAGE, PAGE) != 0;
     WANT(pages == 0);
     WANT(memcmp(loaded[1], guest[1], OTHER * PAGE) == 0);
@@ -313,6 +319,7 @@ static int load_wrong(zimgasol_table *table) {
     zimgasol_in_place_session load = {0};
     zimgasol_fault fault;
     size_t taken;
+    uint64_t at = 7;
     WANT(zimgasol_in_place_session_new(&load, table, uuid, 16, CHANNELS, ZIMGASOL_FRAME_RAM) == ZIMGASOL_DONE);
     stream[2][64] ^= 1; /* the first byte of a packet's magic */
     for (size_t source = 0; source <= CHANNELS; source++)
@@ -320,6 +327,12 @@ static int load_wrong(zimgasol_table *table) {
     stream[2][64] ^= 1;
     WANT(zimgasol_in_place_session_verdict(&load, &fault) == ZIMGASOL_CHANNEL_PACKET_MAGIC);
     WANT(fault.source == ZIMGASOL_CHANNEL(1) && fault.round == 0 && fault.number == ZIMGASOL_CHANNEL_PACKET_MAGIC);
+    WANT(zimgasol_in_place_session_valid_up_to(&load, fault.source, &at) && at == 64);
+    at = 7;
+    WANT(!zimgasol_in_place_session_valid_up_to(&load, ZIMGASOL_CHANNEL(CHANNELS), &at) && at == 7);
+    WANT(!zimgasol_in_place_session_valid_up_to(&load, ZIMGASOL_ROUND, &at) && at == 7);
+    /* the main stream was taken whole, and is closed */
+    WANT(zimgasol_in_place_session_closed_at(&load, &at) == ZIMGASOL_DONE && at == length[0]);
     WANT(!zimgasol_in_place_session_takes(&load, 0));
     WANT(zimgasol_in_place_session_feed(&load, into, 2, 0, stream[0], 1, &taken) == ZIMGASOL_DONE && taken == 0);
     WANT(zimgasol_in_place_session_rounds(&load) == 0);
