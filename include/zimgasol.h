@@ -329,6 +329,16 @@ typedef struct zimgasol_buffer {
     size_t len;
 } zimgasol_buffer;
 
+/* What the next bytes of a stream are (zimgasol_in_place_wanted): `len` of them, at least 1. If
+ * is_page is 1 they are the content of a page, which belongs `offset` bytes into the buffer of
+ * block `block`. Else is_page, `block` and `offset` are 0. */
+typedef struct zimgasol_next {
+    size_t len;
+    uint64_t is_page;
+    size_t block;
+    uint64_t offset;
+} zimgasol_next;
+
 /* The handles. `full` is 0 where a handle is empty. Its other values are the library's. */
 typedef struct zimgasol_table { void *at; uint64_t full; } zimgasol_table;
 typedef struct zimgasol_loader { void *at; uint64_t full; } zimgasol_loader;
@@ -526,6 +536,37 @@ ZIMGASOL_API zimgasol_status zimgasol_in_place_new_within(zimgasol_in_place *in_
  * records, in their order; else nothing has changed, and the piece can be fed again. */
 ZIMGASOL_API zimgasol_status zimgasol_in_place_feed(zimgasol_in_place *in_place,
     zimgasol_buffer *blocks, size_t count, const uint8_t *piece, size_t len);
+
+/* The two calls below let a caller read a page from its socket straight into its block, and no byte
+ * beyond the stream:
+ *
+ *     while (zimgasol_in_place_wanted(&load, &next)) {
+ *         if (next.is_page) {
+ *             read all of next.len bytes to blocks[next.block].bytes + next.offset
+ *             zimgasol_in_place_page_read(&load, blocks, count);
+ *         } else {
+ *             read up to next.len bytes into a piece, of any length from 1 on
+ *             zimgasol_in_place_feed(&load, blocks, count, piece, len);
+ *         }
+ *     }
+ *
+ * A page may be read by several calls of `read`: the load is told once all of it is there. Until
+ * then it waits for the page's first byte. Where the stream ends before that, the block has a part
+ * of the page. Bytes that were read past a page, as by `readv`, are fed after it. Instead of
+ * reading a page so, a caller may feed its bytes as any others. */
+
+/* Reports in *next what the next bytes of the stream are: those of an item that isn't complete, or
+ * the content of a page, which lies within the blocks. Returns whether more of the stream is read:
+ * not once it is closed or has a fault, is of another table, or a piece failed for good with
+ * NO_MEMORY. Then *next stays. */
+ZIMGASOL_API bool zimgasol_in_place_wanted(zimgasol_in_place *in_place, zimgasol_next *next);
+
+/* Takes the page that comes next, whose bytes the caller has read into its block, as those of the
+ * stream. The other bytes of the blocks are as the call before left them. Returns DONE. Or the
+ * first of these that applies, and nothing has changed: IS_OVER after zimgasol_in_place_end;
+ * OUT_OF_TURN, where no page comes next; TOO_LONG; BAD_LENGTH (the blocks aren't the table's). */
+ZIMGASOL_API zimgasol_status zimgasol_in_place_page_read(zimgasol_in_place *in_place,
+    const zimgasol_buffer *blocks, size_t count);
 
 /* The stream is over: no piece is fed from now on. Once more changes nothing. */
 ZIMGASOL_API void zimgasol_in_place_end(zimgasol_in_place *in_place);

@@ -77,6 +77,10 @@ class Buffer(ctypes.Structure):
     _fields_ = [("bytes", ctypes.c_void_p), ("len", ctypes.c_size_t)]
 
 
+class Next(ctypes.Structure):
+    _fields_ = [("len", ctypes.c_size_t), ("is_page", ctypes.c_uint64), ("block", ctypes.c_size_t), ("offset", ctypes.c_uint64)]
+
+
 class Text(ctypes.Structure):
     _fields_ = [("bytes", ctypes.c_char_p), ("bytes_len", ctypes.c_size_t)]
 
@@ -90,8 +94,9 @@ class Library:
             getattr(self.calls, "zimgasol_" + name).restype = ctypes.c_size_t
         for name in ("loader_rounds", "in_place_rounds", "session_rounds"):
             getattr(self.calls, "zimgasol_" + name).restype = ctypes.c_uint64
-        for name in ("table_new", "sender_new", "in_place_new", "in_place_feed", "hello", "put_packet"):
+        for name in ("table_new", "sender_new", "in_place_new", "in_place_feed", "in_place_page_read", "hello", "put_packet"):
             getattr(self.calls, "zimgasol_" + name).restype = ctypes.c_uint32
+        self.calls.zimgasol_in_place_wanted.restype = ctypes.c_bool
 
     def call(self, name, *arguments):
         return getattr(self.calls, "zimgasol_" + name)(*arguments)
@@ -406,14 +411,32 @@ def load_single(library, page_size, limit, frame, text, cut):
     return asked.answer(page_size)
 
 
+def read_straight(library, load, blocks, text):
+    """Reads each page that comes next into its block, and feeds what stands between them: no byte past the stream's end. What
+    is left of a page that isn't there whole is fed."""
+    at, following = 0, Next()
+    while library.call("in_place_wanted", ctypes.byref(load), ctypes.byref(following)):
+        piece = text[at:at + following.len]
+        at += len(piece)
+        if following.is_page and len(piece) == following.len:
+            ctypes.memmove(blocks[following.block].bytes + following.offset, piece, len(piece))
+            library.done("in_place_page_read", ctypes.byref(load), blocks, size(len(blocks)))
+        elif piece:
+            library.done("in_place_feed", ctypes.byref(load), blocks, size(len(blocks)), piece, size(len(piece)))
+        else:
+            break
+
+
 def load_in_place(library, page_size, named, frame, text, cut):
-    """A load into blocks of our own, which are zeros at first: what is told of it."""
+    """A load into blocks of our own, which are zeros at first: what is told of it. Without a cut it is read by what comes next."""
     table, load, fault = library.table(page_size, named), Handle(), Fault()
     library.done("in_place_new", ctypes.byref(load), ctypes.byref(table), frame)
     library.call("table_free", ctypes.byref(table))
     buffers = [ctypes.create_string_buffer(pages * page_size) for pages, _ in named]
     blocks = (Buffer * len(buffers))(*(Buffer(ctypes.addressof(it), len(it)) for it in buffers))
-    for piece in pieces(text, cut):
+    if cut is None:
+        read_straight(library, load, blocks, text)
+    for piece in pieces(text, cut) if cut is not None else ():
         library.done("in_place_feed", ctypes.byref(load), blocks, size(len(blocks)), piece, size(len(piece)))
     library.call("in_place_end", ctypes.byref(load))
     library.call("in_place_verdict", ctypes.byref(load), ctypes.byref(fault))
@@ -524,13 +547,14 @@ class Rows:
         if case.limit != LIMIT:
             # a load in place has the table in place of a limit
             return
-        into = load_in_place(self.library, page_size, table or [(1, b"other")], case.frame, text, cut)
+        ways = [load_in_place(self.library, page_size, table or [(1, b"other")], case.frame, text, way) for way in ([0, None] if cut == 0 else [cut])]
         # the blocks have the records of a section that isn't complete, too
         written = {(block, number): content for block, number, content in page_records(text, page_size, table or [], case.frame)}
         blocks = memory_name((block, number, content) for (block, number), content in sorted(written.items()))
         if wanted.startswith("ok"):
             self.want(name, f"{question}, page records", blocks, wanted.split("; ", 2)[2])
-        self.want(name, f"{question}, in place", into, "; ".join([*wanted.split("; ")[:2], blocks]))
+        for into in ways:
+            self.want(name, f"{question}, in place", into, "; ".join([*wanted.split("; ")[:2], blocks]))
         if table:
             into = load_in_place(self.library, page_size, table + [(1, b"other")], case.frame, text, cut)
             self.want(name, f"{question}, in place of others", into, "fault 63 round 0 in main; rounds 0; zeros")
@@ -665,11 +689,13 @@ def failing_read():
 
 def live():
     """A guest is migrated while it runs: plainly, with AddressSanitizer, and under valgrind."""
-    for words in (("-m", 16), ("-m", 3, "-n", 1), ("-m", 16, "-n", 100000)):
+    for words in (("-m", 16), ("-m", 3, "-n", 1), ("-m", 16, "-n", 100000), ("-m", 16, "-s"), ("-m", 3, "-n", 1, "-s")):
         run(OUT / "live", *words, wanted="0 pages differ")
     run(OUT / "live_asan", "-m", 4, wanted="0 pages differ")
+    run(OUT / "live_asan", "-m", 4, "-s", wanted="0 pages differ")
     if VALGRIND:
         run(*VALGRIND, "--fair-sched=yes", OUT / "live", "-m", 1, wanted="0 pages differ")
+        run(*VALGRIND, "--fair-sched=yes", OUT / "live", "-m", 1, "-s", wanted="0 pages differ")
     subprocess.run([OUT / "live", "-m", "64", "-t"], check=True, stdout=subprocess.DEVNULL)
 
 

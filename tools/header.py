@@ -24,6 +24,7 @@ STRUCTS = {
     "WorkerHandle": "zimgasol_worker",
     "NamedPlace": "zimgasol_place",
     "NamedBatch": "zimgasol_batch",
+    "NextBytes": "zimgasol_next",
     "NamedBlock": "zimgasol_block",
     "FoundFault": "zimgasol_fault",
     "AskedSettings": "zimgasol_settings",
@@ -32,6 +33,7 @@ STRUCTS = {
 # slices of bytes, in a slice: each is a pointer and a length to C
 SLICES = {
     "&[&[u8]]": ("zimgasol_lent", ["const uint8_t *bytes", "size_t len"]),
+    "&[&mut [u8]]": ("zimgasol_buffer", ["uint8_t *bytes", "size_t len"]),
     "&mut [&mut [u8]]": ("zimgasol_buffer", ["uint8_t *bytes", "size_t len"]),
 }
 EXPORT = re.compile(r'pub (?:unsafe )?extern "C" fn (\w+)\s*\((.*?)\)\s*(?:->\s*([\w ]+?))?\s*(?=\n?\s*(?:requires|ensures|\{))', re.S)

@@ -1,14 +1,15 @@
 /* A live migration within one process, over a socket pair: a thread goes on writing to a guest's
  * memory while its pages are sent, and another thread loads them into blocks of its own.
  *
- *   live [-m MIB] [-n PAGES] [-t]
+ *   live [-m MIB] [-n PAGES] [-s] [-t]
  *
  * The guest has two blocks, `pc.ram` of MIB (16) and `vga.vram` of 1 MiB. The first round sends all
  * pages, each further one those that were written since, and the last one is sent with the writer
  * stopped. A section has at most PAGES (64) pages, and is drained before the next one begins. At
  * the end both memories are compared: it prints `0 pages differ`, with status 0; 1 where pages
- * differ, and 3 where it can't go on. -t writes times to standard error, and those of a plain
- * transfer of the same pages (`write` from the guest, `read` into the blocks).
+ * differ, and 3 where it can't go on. With -s each page is read from the socket straight into its
+ * block, and no byte beyond the stream is read. -t writes times to standard error, and those of a
+ * plain transfer of the same pages (`write` from the guest, `read` into the blocks).
  */
 #define _GNU_SOURCE
 #include "zimgasol.h"
@@ -205,21 +206,51 @@ typedef struct receiver {
     zimgasol_table *table;
     zimgasol_status status;
     uint64_t sections;
+    bool straight;
 } receiver;
+
+/* Feeds pieces as they come. */
+static zimgasol_status feed_pieces(zimgasol_in_place *load, zimgasol_buffer *blocks, int socket) {
+    uint8_t piece[PIECE];
+    zimgasol_status status = ZIMGASOL_DONE;
+    ssize_t len;
+    while (status == ZIMGASOL_DONE && (len = read(socket, piece, sizeof piece)) > 0)
+        status = zimgasol_in_place_feed(load, blocks, BLOCKS, piece, (size_t)len);
+    return status;
+}
+
+/* Reads each page into its block, and feeds what stands between the pages. */
+static zimgasol_status read_pages(zimgasol_in_place *load, zimgasol_buffer *blocks, int socket) {
+    uint8_t piece[64];
+    zimgasol_status status = ZIMGASOL_DONE;
+    zimgasol_next next;
+    size_t there = 0; /* bytes of the next page that were read */
+    while (status == ZIMGASOL_DONE && zimgasol_in_place_wanted(load, &next)) {
+        uint8_t *to = next.is_page ? blocks[next.block].bytes + next.offset + there : piece;
+        size_t most = next.len - there;
+        if (!next.is_page && most > sizeof piece) most = sizeof piece;
+        ssize_t len = read(socket, to, most);
+        if (len <= 0) break;
+        if (!next.is_page) {
+            status = zimgasol_in_place_feed(load, blocks, BLOCKS, piece, (size_t)len);
+        } else if ((there += (size_t)len) == next.len) {
+            status = zimgasol_in_place_page_read(load, blocks, BLOCKS);
+            there = 0;
+        }
+    }
+    return status;
+}
 
 static void *receive(void *given) {
     receiver *r = given;
     zimgasol_in_place load = {0};
     zimgasol_buffer blocks[BLOCKS];
     zimgasol_fault fault;
-    uint8_t piece[PIECE];
-    ssize_t len = 0;
     for (size_t b = 0; b < BLOCKS; b++)
         blocks[b] = (zimgasol_buffer){bytes_of(&r->m.rams[b]), r->m.rams[b].pages * PAGE};
     r->status = zimgasol_in_place_new(&load, r->table, ZIMGASOL_FRAME_RAM);
     if (r->status != ZIMGASOL_DONE) return NULL;
-    while (r->status == ZIMGASOL_DONE && (len = read(r->socket, piece, sizeof piece)) > 0)
-        r->status = zimgasol_in_place_feed(&load, blocks, BLOCKS, piece, (size_t)len);
+    r->status = (r->straight ? read_pages : feed_pieces)(&load, blocks, r->socket);
     zimgasol_in_place_end(&load);
     if (r->status == ZIMGASOL_DONE) r->status = zimgasol_in_place_verdict(&load, &fault);
     r->sections = zimgasol_in_place_rounds(&load);
@@ -302,10 +333,10 @@ static int write_by_library(machine *m, zimgasol_table *table, int socket, long 
 /* Sends all pages of a guest that is stopped, plainly (`table` is null) or by the library, into
  * fresh blocks. Returns how many milliseconds it takes, or -1. */
 static double measured(machine *m, uint64_t mib, zimgasol_table *table, zimgasol_table *loaded,
-    long most) {
+    long most, bool straight) {
     int sockets[2];
     pthread_t reader;
-    receiver r = {.table = loaded};
+    receiver r = {.table = loaded, .straight = straight};
     if (socketpair(AF_UNIX, SOCK_STREAM, 0, sockets) != 0) return -1;
     make_machine(&r.m, mib);
     r.socket = sockets[1];
@@ -322,9 +353,9 @@ static double measured(machine *m, uint64_t mib, zimgasol_table *table, zimgasol
 }
 
 static int compare_times(machine *m, uint64_t mib, zimgasol_table *sent, zimgasol_table *loaded,
-    long most) {
-    double plain = measured(m, mib, NULL, loaded, most);
-    double library = measured(m, mib, sent, loaded, most);
+    long most, bool straight) {
+    double plain = measured(m, mib, NULL, loaded, most, straight);
+    double library = measured(m, mib, sent, loaded, most, straight);
     if (plain < 0 || library < 0) return 3;
     fprintf(stderr, "stopped: plain %.1f ms, library %.1f ms, %.2f times\n", plain, library,
         library / plain);
@@ -334,19 +365,20 @@ static int compare_times(machine *m, uint64_t mib, zimgasol_table *sent, zimgaso
 int main(int count, char **words) {
     uint64_t mib = 16;
     long most = 64;
-    bool times = false;
+    bool times = false, straight = false;
     for (int i = 1; i < count; i++) {
         if (strcmp(words[i], "-t") == 0) times = true;
+        else if (strcmp(words[i], "-s") == 0) straight = true;
         else if (strcmp(words[i], "-m") == 0 && i + 1 < count) mib = strtoull(words[++i], NULL, 10);
         else if (strcmp(words[i], "-n") == 0 && i + 1 < count) most = strtol(words[++i], NULL, 10);
     }
     if (mib == 0 || mib > 4096 || most < 1) {
-        fprintf(stderr, "live [-m MIB] [-n PAGES] [-t]\n");
+        fprintf(stderr, "live [-m MIB] [-n PAGES] [-s] [-t]\n");
         return 3;
     }
     signal(SIGPIPE, SIG_IGN);
     machine m;
-    receiver r = {0};
+    receiver r = {.straight = straight};
     zimgasol_table sent = {0}, loaded = {0};
     size_t entry;
     make_machine(&m, mib);
@@ -357,7 +389,8 @@ int main(int count, char **words) {
     if (zimgasol_table_new(&sent, PAGE, m.blocks, BLOCKS, &entry) == ZIMGASOL_DONE) {
         if (zimgasol_table_new(&loaded, PAGE, m.blocks, BLOCKS, &entry) == ZIMGASOL_DONE) {
             status = migrate(&m, &r, &sent, &loaded, most, times);
-            if (status == 0 && times) status = compare_times(&m, mib, &sent, &loaded, most);
+            if (status == 0 && times)
+                status = compare_times(&m, mib, &sent, &loaded, most, straight);
             zimgasol_table_free(&loaded);
         }
         zimgasol_table_free(&sent);

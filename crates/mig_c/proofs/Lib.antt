@@ -6,3 +6,4 @@ pub mod Crosses
 pub mod Moved
 pub mod LentBlocks
 pub mod PageReads
+pub mod PageTakes

@@ -10,6 +10,7 @@ pub mod Frames
 pub mod Reading
 pub mod Loading
 pub mod InPlace
+pub mod NextBytes
 pub mod Sessions
 pub mod Sending
 pub mod Packets

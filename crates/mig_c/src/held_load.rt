@@ -4,9 +4,11 @@
 ghost use Rattle.std.specs.Prelude.{◌≡◌, ◌<◌, ◌+◌, ◌^◌, IsFalse, IfOk, length};
 ghost use Rattle.mig_mem.specs.Lent.{mut_lent_bytes};
 ghost use Rattle.mig_c.specs.InPlace.{Begins, RefusesPiece, FeedsMemory, FeedsInPlace, EndsInPlace, TellsVerdict, TellsClosedAt, TellsValidUpTo};
+ghost use Rattle.mig_c.specs.NextBytes.{TellsNext, TakesPage};
 
 use crate::fault::{FoundFault, of_verdict};
 use crate::lent::{LentBlocks, fit, put_back, taken_out};
+use crate::next_bytes::{NextBytes, take_page, wanted};
 use mig_c_calls::status::{
     BAD_LENGTH, DONE, IS_OVER, MAX_LIMIT, NO_MEMORY, ROOM, RUNNING, TOO_LONG,
 };
@@ -129,6 +131,20 @@ impl HeldLoad {
         let (table, status) = feed_blocks(alloc, &mut self.state, table, blocks, piece);
         self.table = Some(table);
         status
+    }
+
+    /// Reports what the next bytes of the stream are. Returns false if no more of it is read.
+    pub(crate) fn wanted(&self, next: &mut NextBytes) -> bool
+        ensures { TellsNext result next.old next.new self.now }
+    {
+        wanted(&self.state, next)
+    }
+
+    /// Takes the page that comes next, which was read into its block.
+    pub(crate) fn page_read(&mut self, blocks: &[&mut [u8]]) -> u32
+        ensures { TakesPage (mut_lent_bytes blocks.now) result self.old self.new }
+    {
+        take_page(&mut self.state, blocks)
     }
 
     /// Marks the end of the stream: no piece is fed after it.

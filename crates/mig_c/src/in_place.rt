@@ -7,11 +7,13 @@ ghost use Rattle.mig_c_calls.specs.Status.{done};
 ghost use Rattle.mig_c.specs.Frames.{waiting_of as most_waiting};
 ghost use Rattle.mig_c.specs.Kinds.{table_in, in_place_in, Turns, Tells};
 ghost use Rattle.mig_c.specs.InPlace.{Opens, OpensInPlace, FeedsInPlace, EndsInPlace, TellsVerdict, TellsClosedAt, TellsValidUpTo};
+ghost use Rattle.mig_c.specs.NextBytes.{TellsNext, TakesPage};
 
 use crate::fault::FoundFault;
 use crate::frame::frame_of;
 use crate::handle::{Handle, InPlaceHandle, TableHandle};
 use crate::held_load::HeldLoad;
+use crate::next_bytes::NextBytes;
 use crate::object::Object;
 use crate::settings::{AskedSettings, waiting_of};
 use mig_c_calls::status::{BAD_FRAME, DONE, NO_MEMORY};
@@ -147,6 +149,60 @@ pub extern "C" fn zimgasol_in_place_feed(
 {
     let mut object = in_place.handle.take().into_box(alloc);
     let status = feed(alloc, &mut object, blocks, piece);
+    in_place.handle = Handle::of(object);
+    status
+}
+
+fn wanted(object: &Object, next: &mut NextBytes) -> bool
+    requires { IsSome (in_place_in (Some object.now)) }
+    ensures { Tells (TellsNext result next.old next.new) (in_place_in (Some object.now)) }
+{
+    match object {
+        Object::InPlace(load) => load.wanted(next),
+        _ => unreachable!(),
+    }
+}
+
+/// Reports what the next bytes of the stream are: bytes to feed, or a page with its place in the
+/// blocks. Returns false if no more of the stream is read.
+#[unsafe(no_mangle)]
+pub extern "C" fn zimgasol_in_place_wanted(
+    alloc: Global,
+    in_place: &mut InPlaceHandle,
+    next: &mut NextBytes,
+) -> bool
+    requires in_place { IsSome (in_place_in in_place.old.handle.value) }
+    ensures same { in_place.new.handle.value ≡ in_place.old.handle.value }
+    ensures tells { Tells (TellsNext result next.old next.new) (in_place_in in_place.old.handle.value) }
+{
+    let object = in_place.handle.take().into_box(alloc);
+    let result = wanted(&object, next);
+    in_place.handle = Handle::of(object);
+    result
+}
+
+fn page_read(object: &mut Object, blocks: &[&mut [u8]]) -> u32
+    requires { IsSome (in_place_in (Some object.old)) }
+    ensures { Turns (TakesPage (mut_lent_bytes blocks.now) result) (in_place_in (Some object.old)) (in_place_in (Some object.new)) }
+{
+    match object {
+        Object::InPlace(load) => load.page_read(blocks),
+        _ => unreachable!(),
+    }
+}
+
+/// Takes the page that comes next in the stream, which the caller has read into its block.
+#[unsafe(no_mangle)]
+pub extern "C" fn zimgasol_in_place_page_read(
+    alloc: Global,
+    in_place: &mut InPlaceHandle,
+    blocks: &[&mut [u8]],
+) -> u32
+    requires in_place { IsSome (in_place_in in_place.old.handle.value) }
+    ensures takes { Turns (TakesPage (mut_lent_bytes blocks.now) result) (in_place_in in_place.old.handle.value) (in_place_in in_place.new.handle.value) }
+{
+    let mut object = in_place.handle.take().into_box(alloc);
+    let status = page_read(&mut object, blocks);
     in_place.handle = Handle::of(object);
     status
 }

@@ -22,6 +22,7 @@ mod lent;
 mod loader;
 mod loose;
 mod multi;
+mod next_bytes;
 mod object;
 mod packet;
 mod putting;

@@ -25,7 +25,8 @@ fn zeros(size: u64) -> &'static [u8]
     front(&ZEROS, size)
 }
 
-fn page_of(bytes: &[u8], size: u64, page: u64) -> &[u8]
+/// Returns the content of a page.
+pub(crate) fn page_of(bytes: &[u8], size: u64, page: u64) -> &[u8]
     requires { page * size + size ≤ length bytes.now }
     ensures { result.now ≡ part_at size bytes.now page }
 {

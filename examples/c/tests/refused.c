@@ -193,17 +193,56 @@ static uint32_t feed_in_place(zimgasol_in_place *load, size_t cut) {
     return ZIMGASOL_DONE;
 }
 
-/* Loads into blocks. A load that has failed is made again, with blocks as they were at first. */
+/* Reads each page into its block, as from a socket in two parts, and feeds what stands between them. What isn't to be done is tried first.
+ * Returns NO_MEMORY where the load has failed. */
+static uint32_t read_in_place(zimgasol_in_place *load) {
+    zimgasol_buffer blocks[2] = {{first_block, sizeof first_block}, {second_block, sizeof second_block}};
+    zimgasol_next next;
+    zimgasol_fault fault;
+    size_t at = 0, pages = 0;
+    while (zimgasol_in_place_wanted(load, &next)) {
+        WANT(at < text_len && next.len > 0 && next.len <= text_len - at && zimgasol_in_place_fed(load) == at);
+        if (!next.is_page) {
+            WANT(next.block == 0 && next.offset == 0 && zimgasol_in_place_page_read(load, blocks, 2) == ZIMGASOL_OUT_OF_TURN);
+            uint32_t status = zimgasol_in_place_feed(load, blocks, 2, text + at, next.len);
+            if (status == ZIMGASOL_NO_MEMORY) {
+                WANT(refusals == 1);
+                if (zimgasol_in_place_verdict(load, &fault) == ZIMGASOL_NO_MEMORY) {
+                    WANT(!zimgasol_in_place_wanted(load, &next) && zimgasol_in_place_page_read(load, blocks, 2) == ZIMGASOL_OUT_OF_TURN);
+                    return status;
+                }
+                status = zimgasol_in_place_feed(load, blocks, 2, text + at, next.len);
+            }
+            WANT(status == ZIMGASOL_DONE);
+        } else {
+            WANT(next.len == PAGE && next.block < 2 && next.offset % PAGE == 0 && next.offset + PAGE <= blocks[next.block].len);
+            memcpy(blocks[next.block].bytes + next.offset, text + at, 100);
+            WANT(zimgasol_in_place_page_read(load, blocks, 1) == ZIMGASOL_BAD_LENGTH);
+            memcpy(blocks[next.block].bytes + next.offset + 100, text + at + 100, PAGE - 100);
+            WANT(zimgasol_in_place_page_read(load, blocks, 2) == ZIMGASOL_DONE);
+            pages++;
+        }
+        at += next.len;
+    }
+    WANT(at == text_len && pages > 0);
+    zimgasol_in_place_end(load);
+    WANT(zimgasol_in_place_page_read(load, blocks, 2) == ZIMGASOL_IS_OVER);
+    next.len = 7;
+    WANT(!zimgasol_in_place_wanted(load, &next) && next.len == 7);
+    return ZIMGASOL_DONE;
+}
+
+/* Loads into blocks, in pieces of `cut` bytes or, where that is 0, by what comes next. A load that has failed is made again, with blocks as they were at first. */
 static void load_in_place(size_t cut) {
     zimgasol_in_place load = {0};
     zimgasol_fault fault;
     uint64_t at = 7;
     make_in_place(&load);
-    if (feed_in_place(&load, cut) == ZIMGASOL_NO_MEMORY) {
+    if ((cut > 0 ? feed_in_place(&load, cut) : read_in_place(&load)) == ZIMGASOL_NO_MEMORY) {
         WANT(zimgasol_in_place_closed_at(&load, &at) == ZIMGASOL_RUNNING && at == 7);
         zimgasol_in_place_free(&load);
         make_in_place(&load);
-        WANT(feed_in_place(&load, cut) == ZIMGASOL_DONE);
+        WANT((cut > 0 ? feed_in_place(&load, cut) : read_in_place(&load)) == ZIMGASOL_DONE);
     }
     WANT(zimgasol_in_place_closed_at(&load, &at) == ZIMGASOL_DONE && at == text_len);
     WANT(zimgasol_in_place_verdict(&load, &fault) == ZIMGASOL_DONE && fault.number == 0 && zimgasol_in_place_rounds(&load) == 4);
@@ -452,6 +491,7 @@ int main(int count, char **words) {
         counted = refusals = 0;
         send();
         load(1000);
+        load_in_place(0);
         load_in_place(900);
         load_in_place(5000);
         put_channel();
