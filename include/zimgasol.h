@@ -212,7 +212,7 @@ typedef enum zimgasol_status {
     ZIMGASOL_OTHER_TABLE = 63,
     /* more page records in a section or a round than may wait (zimgasol_settings) */
     ZIMGASOL_STREAM_WAITING = 64,
-    /* more of a channel's round than may wait: no load of this library sets such a limit */
+    /* more packets and pages in a channel's round than may wait (zimgasol_settings) */
     ZIMGASOL_CHANNEL_WAITING = 65,
 
     /* ---- a call, and how a load stands */
@@ -268,9 +268,10 @@ ZIMGASOL_ASSERT(sizeof(zimgasol_frame) == sizeof(uint32_t), "an enum has the siz
 /* What a load is passed beside its streams, where its _new says `_within`. All zeros are the
  * settings of the same call without it, in the frame RAM.
  *  - `waiting`: the most page records of one section of a single stream, or of one round of a main
- *    stream. One more is the fault STREAM_WAITING. 0 sets no limit. A loader keeps the pages of a
- *    section until its footer has come, so this bounds what a sender can have it keep. Each load
- *    judges it, so that all give one answer. The packets of channels aren't counted.
+ *    stream. One more is the fault STREAM_WAITING. Each channel may have as many packets and pages
+ *    together in a round; one more is CHANNEL_WAITING. 0 sets no limit. A loader keeps the pages of
+ *    a section until its footer has come, and a session the packets of a round, so this bounds what
+ *    a sender can have them keep. Each load tests it, so that all have one result.
  *  - `reserved`: zeros, as room for what may come. */
 typedef struct zimgasol_settings {
     zimgasol_frame frame;

@@ -112,7 +112,7 @@ fn of_load(status: u32) -> &'static [u8]
         62 => b"bad batch limit\0",
         63 => b"table differs\0",
         64 => b"stream: too many records wait\0",
-        65 => b"channel: too much waits\0",
+        65 => b"channel: too many packets wait\0",
         _ => b"unknown status\0",
     }
 }
