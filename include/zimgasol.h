@@ -272,6 +272,7 @@ ZIMGASOL_ASSERT(sizeof(zimgasol_frame) == sizeof(uint32_t), "an enum has the siz
  *    together in a round; one more is CHANNEL_WAITING. 0 sets no limit. A loader keeps the pages of
  *    a section until its footer has come, and a session the packets of a round, so this bounds what
  *    a sender can have them keep. Each load tests it, so that all have one result.
+ *    Twice the guest's pages and one is enough for who sends each page once in a section or round.
  *  - `reserved`: zeros, as room for what may come. */
 typedef struct zimgasol_settings {
     zimgasol_frame frame;

@@ -340,6 +340,30 @@ static int load_wrong(zimgasol_table *table) {
     return 0;
 }
 
+/* A packet of 16 pages counts 17: where 16 may wait in a channel's round, the first one is at fault,
+ * after the hello's 64 bytes. Of `PAGES` and `OTHER` pages twice as many and one are enough. */
+static int load_limited(zimgasol_table *table) {
+    zimgasol_in_place_session load = {0};
+    zimgasol_settings settings = {.frame = ZIMGASOL_FRAME_RAM, .waiting = 16};
+    zimgasol_fault fault;
+    size_t taken;
+    uint64_t at = 7;
+    WANT(zimgasol_in_place_session_new_within(&load, table, uuid, 16, CHANNELS, &settings) == ZIMGASOL_DONE);
+    for (size_t source = 0; source <= CHANNELS; source++)
+        WANT(zimgasol_in_place_session_feed(&load, into, 2, source, stream[source], length[source], &taken) == ZIMGASOL_DONE);
+    WANT(zimgasol_in_place_session_verdict(&load, &fault) == ZIMGASOL_CHANNEL_WAITING);
+    WANT(fault.source == ZIMGASOL_CHANNEL(0) && fault.round == 0 && fault.number == ZIMGASOL_CHANNEL_WAITING);
+    WANT(zimgasol_in_place_session_valid_up_to(&load, fault.source, &at) && at == 64);
+    WANT(zimgasol_in_place_session_rounds(&load) == 0);
+    zimgasol_in_place_session_free(&load);
+    settings.waiting = 2 * (PAGES + OTHER) + 1;
+    WANT(zimgasol_in_place_session_new_within(&load, table, uuid, 16, CHANNELS, &settings) == ZIMGASOL_DONE);
+    if (feed_all(&load, 4096)) return 1;
+    WANT(zimgasol_in_place_session_verdict(&load, &fault) == ZIMGASOL_DONE && zimgasol_in_place_session_rounds(&load) == 2);
+    zimgasol_in_place_session_free(&load);
+    return 0;
+}
+
 /* Steps a worker until it has ended. */
 static int step_all(zimgasol_worker *worker) {
     zimgasol_status status;
@@ -397,7 +421,7 @@ int main(void) {
     size_t cuts[] = {MOST, 100000, 4096, 777};
     for (size_t i = 0; i < sizeof cuts / sizeof cuts[0]; i++)
         if (load_all(&table, cuts[i])) return 1;
-    if (load_wrong(&table)) return 1;
+    if (load_wrong(&table) || load_limited(&table)) return 1;
     printf("%zu bytes on the main stream, %zu, %zu and %zu on the channels; 0 pages differ\n", length[0], length[1], length[2], length[3]);
     if (send_named(&table) || foreign(&table)) return 1;
     zimgasol_table_free(&table);
