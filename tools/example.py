@@ -706,6 +706,7 @@ def channels():
     run(OUT / "channels_asan", "-m", 4, wanted="0 pages differ")
     if VALGRIND:
         run(*VALGRIND, "--fair-sched=yes", OUT / "channels", "-m", 1, wanted="0 pages differ")
+    subprocess.run([OUT / "channels", "-m", "64", "-t"], check=True, stdout=subprocess.DEVNULL)
 
 
 def version_and_texts(library):

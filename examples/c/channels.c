@@ -2,14 +2,16 @@
  * writing to a guest's memory while its pages are sent, by a thread for each channel, and another
  * thread loads them into blocks of its own.
  *
- *   channels [-m MIB] [-c CHANNELS] [-b PAGES]
+ *   channels [-m MIB] [-c CHANNELS] [-b PAGES] [-t]
  *
  * The guest has two blocks, `pc.ram` of MIB (16) and `vga.vram` of 1 MiB, and CHANNELS (4) channels
  * carry packets of at most PAGES (128) pages. Each round sends the pages written since the round
  * before: each worker copies the pages of one packet at a time, while the guest runs. The last
  * round is packed from the guest's own memory, with the writer stopped. At the end both memories
  * are compared: it prints `0 pages differ`, with status 0; 1 where pages differ, and 3 where it
- * can't go on.
+ * can't go on. -t then sends the stopped guest once more, without zero pages, and does so plainly:
+ * as many threads `write` their part of each block, and others `read` it into place. It writes both
+ * times to standard error.
  */
 #define _GNU_SOURCE
 #include "zimgasol.h"
@@ -19,7 +21,9 @@
 #include <stdio.h>
 #include <stdlib.h>
 #include <string.h>
+#include <sys/mman.h>
 #include <sys/socket.h>
+#include <time.h>
 #include <unistd.h>
 
 enum { PAGE = 4096, BLOCKS = 2, WORDS = PAGE / 8, PIECE = 1 << 16, MOST = 16, ROUNDS = 4 };
@@ -37,7 +41,7 @@ static zimgasol_block blocks[BLOCKS] = {{.id = "pc.ram"}, {.id = "vga.vram", .pa
 static const uint8_t uuid[16] = {7, 1};
 static size_t channels = 4, limit = 128;
 static int sockets[1 + MOST][2]; /* the sender's end, and the loader's */
-static _Atomic bool is_running = true;
+static _Atomic bool is_running;
 
 static void check(zimgasol_status status, const char *call) {
     if (status == ZIMGASOL_DONE) return;
@@ -197,58 +201,151 @@ static void *load(void *table) {
     return NULL;
 }
 
-int main(int count, char **words) {
+static void connect_all(void) {
+    for (size_t s = 0; s <= channels; s++)
+        if (socketpair(AF_UNIX, SOCK_STREAM, 0, sockets[s]) != 0) taken(NULL, "socketpair");
+}
+
+/* Sends the guest by the library, and loads it. If it runs, its writer is stopped for the last
+ * round. */
+static void migrate(bool runs, zimgasol_place *dirty) {
     zimgasol_table table = {0}, other = {0};
     zimgasol_multi multi = {0};
     pthread_t writer, loader;
+    size_t entry;
+    connect_all();
+    check(zimgasol_table_new(&table, PAGE, blocks, BLOCKS, &entry), "table_new");
+    check(zimgasol_table_new(&other, PAGE, blocks, BLOCKS, &entry), "table_new");
+    check(zimgasol_multi_new(&multi, &table, uuid, 16, channels, limit), "multi_new");
+    atomic_store(&is_running, runs);
+    if (pthread_create(&loader, NULL, load, &other) != 0) taken(NULL, "thread");
+    if (runs && pthread_create(&writer, NULL, write_guest, NULL) != 0) taken(NULL, "thread");
+    drain_main(&multi);
+    for (int round = 0; runs && round < ROUNDS; round++)
+        send_round(&multi, dirty, list_dirty(dirty));
+    atomic_store(&is_running, false);
+    if (runs) pthread_join(writer, NULL);
+    send_round(&multi, dirty, list_dirty(dirty));
+    check(zimgasol_multi_finish(&multi), "finish");
+    drain_main(&multi);
+    for (size_t s = 0; s <= channels; s++) close(sockets[s][0]);
+    pthread_join(loader, NULL);
+    zimgasol_multi_free(&multi);
+    zimgasol_table_free(&table);
+    zimgasol_table_free(&other);
+}
+
+/* ---- the same pages without the library */
+
+static void *write_part(void *arg) {
+    size_t j = (size_t)arg;
+    for (size_t b = 0; b < BLOCKS; b++) {
+        uint64_t from = rams[b].pages * j / channels, to = rams[b].pages * (j + 1) / channels;
+        send_all(sockets[1 + j][0], (uint8_t *)rams[b].guest + from * PAGE, (to - from) * PAGE);
+    }
+    return NULL;
+}
+
+static void *read_part(void *arg) {
+    size_t j = (size_t)arg;
+    for (size_t b = 0; b < BLOCKS; b++) {
+        uint64_t from = rams[b].pages * j / channels, to = rams[b].pages * (j + 1) / channels;
+        uint8_t *at = rams[b].loaded + from * PAGE, *end = rams[b].loaded + to * PAGE;
+        while (at < end) {
+            ssize_t len = read(sockets[1 + j][1], at, (size_t)(end - at));
+            if (len <= 0) taken(NULL, "read");
+            at += len;
+        }
+    }
+    return NULL;
+}
+
+static void copy_plainly(void) {
+    pthread_t writers[MOST], readers[MOST];
+    connect_all();
+    for (size_t j = 0; j < channels; j++) {
+        if (pthread_create(&readers[j], NULL, read_part, (void *)j) != 0) taken(NULL, "thread");
+        if (pthread_create(&writers[j], NULL, write_part, (void *)j) != 0) taken(NULL, "thread");
+    }
+    for (size_t j = 0; j < channels; j++) {
+        pthread_join(writers[j], NULL);
+        pthread_join(readers[j], NULL);
+    }
+    for (size_t s = 0; s <= channels; s++)
+        for (size_t end = 0; end < 2; end++) close(sockets[s][end]);
+}
+
+/* ---- both */
+
+static size_t count_differing(void) {
+    size_t differ = 0;
+    for (size_t b = 0; b < BLOCKS; b++)
+        for (uint64_t at = 0; at < rams[b].pages * PAGE; at += PAGE)
+            differ += memcmp((uint8_t *)rams[b].guest + at, rams[b].loaded + at, PAGE) != 0;
+    return differ;
+}
+
+static void *mapped(size_t len) {
+    void *at = mmap(NULL, len, PROT_READ | PROT_WRITE, MAP_PRIVATE | MAP_ANONYMOUS, -1, 0);
+    return taken(at == MAP_FAILED ? NULL : at, "mmap");
+}
+
+/* Returns how many milliseconds a transfer of all pages takes, into fresh blocks. */
+static double timed(bool plain, zimgasol_place *dirty) {
+    struct timespec began, ended;
+    for (size_t b = 0; b < BLOCKS; b++) {
+        munmap(rams[b].loaded, rams[b].pages * PAGE);
+        rams[b].loaded = mapped(rams[b].pages * PAGE);
+        for (uint64_t p = 0; p < rams[b].pages; p++) {
+            atomic_store_explicit(&rams[b].guest[p * WORDS], p + 1, memory_order_relaxed);
+            atomic_store(&rams[b].dirty[p], 1);
+        }
+    }
+    clock_gettime(CLOCK_MONOTONIC, &began);
+    if (plain) copy_plainly();
+    else migrate(false, dirty);
+    clock_gettime(CLOCK_MONOTONIC, &ended);
+    return (ended.tv_sec - began.tv_sec) * 1e3 + (ended.tv_nsec - began.tv_nsec) / 1e6;
+}
+
+int main(int count, char **words) {
     uint64_t mib = 16;
-    size_t entry, all = 0, differ = 0;
+    size_t all = 0;
+    bool times = false;
     int option;
-    while ((option = getopt(count, words, "m:c:b:")) != -1) {
+    while ((option = getopt(count, words, "m:c:b:t")) != -1) {
         unsigned long number = optarg != NULL ? strtoul(optarg, NULL, 10) : 0;
         if (option == 'm') mib = number;
-        else if (option == 'c' && number <= MOST) channels = number;
+        else if (option == 'c' && number >= 1 && number <= MOST) channels = number;
         else if (option == 'b') limit = number;
+        else if (option == 't') times = true;
         else return 3;
     }
     blocks[0].pages = mib * 256;
     for (size_t b = 0; b < BLOCKS; b++) {
         struct ram *r = &rams[b];
         r->pages = blocks[b].pages;
-        r->guest = taken(calloc(r->pages, PAGE), "calloc");
-        r->loaded = taken(calloc(r->pages, PAGE), "calloc");
-        r->dirty = taken(calloc(r->pages, 1), "calloc");
-        for (uint64_t p = 0; p < r->pages; p++) atomic_store(&r->dirty[p], 1);
+        r->guest = mapped(r->pages * PAGE);
+        r->loaded = mapped(r->pages * PAGE);
+        r->dirty = mapped(r->pages);
+        memset((void *)r->dirty, 1, r->pages);
         all += r->pages;
     }
     zimgasol_place *dirty = taken(malloc((all + 1) * sizeof *dirty), "malloc");
-    for (size_t s = 0; s <= channels; s++)
-        if (socketpair(AF_UNIX, SOCK_STREAM, 0, sockets[s]) != 0) taken(NULL, "socketpair");
-    check(zimgasol_table_new(&table, PAGE, blocks, BLOCKS, &entry), "table_new");
-    check(zimgasol_table_new(&other, PAGE, blocks, BLOCKS, &entry), "table_new");
-    check(zimgasol_multi_new(&multi, &table, uuid, 16, channels, limit), "multi_new");
-    if (pthread_create(&loader, NULL, load, &other) != 0) taken(NULL, "thread");
-    if (pthread_create(&writer, NULL, write_guest, NULL) != 0) taken(NULL, "thread");
-    drain_main(&multi);
-    for (int round = 0; round < ROUNDS; round++) send_round(&multi, dirty, list_dirty(dirty));
-    atomic_store(&is_running, false);
-    pthread_join(writer, NULL);
-    send_round(&multi, dirty, list_dirty(dirty));
-    check(zimgasol_multi_finish(&multi), "finish");
-    drain_main(&multi);
-    for (size_t s = 0; s <= channels; s++) close(sockets[s][0]);
-    pthread_join(loader, NULL);
+    migrate(true, dirty);
+    size_t differ = count_differing();
+    if (times) {
+        double plain = timed(true, dirty), library = timed(false, dirty);
+        fprintf(stderr, "stopped: plain %.1f ms, library %.1f ms, %.2f times\n", plain, library,
+            library / plain);
+        differ += count_differing();
+    }
     for (size_t b = 0; b < BLOCKS; b++) {
-        for (uint64_t p = 0; p < rams[b].pages; p++)
-            differ += memcmp((uint8_t *)rams[b].guest + p * PAGE, rams[b].loaded + p * PAGE, PAGE) != 0;
-        free((void *)rams[b].guest);
-        free(rams[b].loaded);
-        free((void *)rams[b].dirty);
+        munmap((void *)rams[b].guest, rams[b].pages * PAGE);
+        munmap(rams[b].loaded, rams[b].pages * PAGE);
+        munmap((void *)rams[b].dirty, rams[b].pages);
     }
     free(dirty);
-    zimgasol_multi_free(&multi);
-    zimgasol_table_free(&table);
-    zimgasol_table_free(&other);
     printf("%zu pages differ\n", differ);
     return differ != 0;
 }
