@@ -58,7 +58,10 @@ static void *taken(void *at, const char *what) {
 static void send_all(int to, const uint8_t *bytes, size_t len) {
     while (len > 0) {
         ssize_t sent = write(to, bytes, len);
-        if (sent < 0) { perror("write"); exit(3); }
+        if (sent < 0) {
+            perror("write");
+            exit(3);
+        }
         bytes += sent;
         len -= (size_t)sent;
     }
@@ -175,18 +178,25 @@ static void *load(void *table) {
             size_t count = 0;
             if (from[s] == to[s] || !zimgasol_in_place_session_takes(&session, s)) continue;
             check(zimgasol_in_place_session_feed(&session, into, BLOCKS, s, kept[s] + from[s],
-                to[s] - from[s], &count), "feed");
+                      to[s] - from[s], &count),
+                "feed");
             from[s] += count;
             moved = moved || count > 0;
         }
         if (moved) continue;
         for (size_t s = 0; s <= channels; s++)
             polled[s] = (struct pollfd){from[s] == to[s] ? sockets[s][1] : -1, POLLIN, 0};
-        if (poll(polled, 1 + channels, -1) < 0) { perror("poll"); exit(3); }
+        if (poll(polled, 1 + channels, -1) < 0) {
+            perror("poll");
+            exit(3);
+        }
         for (size_t s = 0; s <= channels; s++) {
             if (polled[s].revents == 0) continue;
             ssize_t len = read(sockets[s][1], kept[s], PIECE);
-            if (len < 0) { perror("read"); exit(3); }
+            if (len < 0) {
+                perror("read");
+                exit(3);
+            }
             from[s] = 0;
             to[s] = (size_t)len;
             if (len > 0) continue;

@@ -1,10 +1,13 @@
-/* Loads a stream from standard input into blocks of its own, as a machine that is to run the guest, and prints what came of it.
+/* Loads a stream from standard input into its own blocks, as a machine that is to run the guest,
+ * and prints the result.
  *
  *   in_place [-p PAGE_SIZE] [-c BYTES] [-o FILE] ID=PAGES ..
  *
- * Each ID=PAGES is a block of the machine, in the order of the stream's. Pages have 4096 bytes where -p says nothing else, and the stream is fed in
- * pieces of 65536: -c sets another length. -o writes the blocks to a file, one after another. It prints `single BYTES sections S`, with status 0;
- * `fault N round R` with status 1, and then the blocks have the page records before it; or why it can't go on, with status 3.
+ * Each ID=PAGES is a block of the machine, in the stream's order. -p sets the page size (4096), -c
+ * the length of the pieces that are fed (65536). -o writes the blocks to a file, one after another.
+ * It prints `single BYTES sections S`, with status 0. After a fault it prints `fault N round R`,
+ * with status 1, and the blocks have the page records before it. If it can't go on it prints why,
+ * with status 3.
  */
 #define _DEFAULT_SOURCE
 #include "zimgasol.h"
@@ -22,16 +25,19 @@ typedef struct machine {
     size_t count;
 } machine;
 
-/* Adds a block of this name and so many pages. Answers 0 where the word isn't one, and -1 where the system has no memory for it. */
+/* Adds the block that `word` names. Returns 1; 0 if the word is no block, -1 if the system has no
+ * memory for it. */
 static int add_block(machine *m, const char *word, uint64_t page_size) {
     const char *equals = strchr(word, '=');
     uint64_t pages = equals == NULL ? 0 : strtoull(equals + 1, NULL, 10);
-    if (pages == 0 || pages > (1ULL << 40) / page_size || equals - word > 255 || m->count == MOST) return 0;
+    if (pages == 0 || pages > (1ULL << 40) / page_size || equals - word > 255 || m->count == MOST)
+        return 0;
     zimgasol_block *block = &m->blocks[m->count];
     memcpy(block->id, word, (size_t)(equals - word));
     block->pages = pages;
     size_t len = pages * page_size;
-    void *bytes = mmap(NULL, len, PROT_READ | PROT_WRITE, MAP_PRIVATE | MAP_ANONYMOUS | MAP_NORESERVE, -1, 0);
+    void *bytes =
+        mmap(NULL, len, PROT_READ | PROT_WRITE, MAP_PRIVATE | MAP_ANONYMOUS | MAP_NORESERVE, -1, 0);
     if (bytes == MAP_FAILED) {
         perror(word);
         return -1;
@@ -44,7 +50,8 @@ static void unmap(machine *m) {
     for (size_t i = 0; i < m->count; i++) munmap(m->buffers[i].bytes, m->buffers[i].len);
 }
 
-/* Feeds all of standard input. Answers how many bytes that were; or -1, and tells why it can't go on. */
+/* Feeds all of standard input. Returns how many bytes that were. If it can't go on it prints why,
+ * and returns -1. */
 static long long feed_input(zimgasol_in_place *load, machine *m, size_t cut) {
     uint8_t *piece = malloc(cut);
     long long total = 0;
@@ -65,13 +72,14 @@ static long long feed_input(zimgasol_in_place *load, machine *m, size_t cut) {
 static int write_blocks(const machine *m, const char *name) {
     FILE *file = fopen(name, "wb");
     int done = file != NULL;
-    for (size_t i = 0; done && i < m->count; i++) done = fwrite(m->buffers[i].bytes, 1, m->buffers[i].len, file) == m->buffers[i].len;
+    for (size_t i = 0; done && i < m->count; i++)
+        done = fwrite(m->buffers[i].bytes, 1, m->buffers[i].len, file) == m->buffers[i].len;
     if (file != NULL && fclose(file) != 0) done = 0;
     if (!done) perror(name);
     return done;
 }
 
-/* A load into the machine's blocks. */
+/* Makes a load into the machine's blocks. */
 static uint32_t begin(zimgasol_in_place *load, const machine *m, uint64_t page_size) {
     zimgasol_table table = {0};
     size_t entry = 0;
@@ -96,7 +104,8 @@ static int load_into(machine *m, uint64_t page_size, size_t cut, const char *out
         printf("fault %u round %llu\n", fault.number, (unsigned long long)fault.round);
         status = 1;
     } else if (bytes >= 0) {
-        printf("single %lld sections %llu\n", bytes, (unsigned long long)zimgasol_in_place_rounds(&load));
+        printf("single %lld sections %llu\n", bytes,
+            (unsigned long long)zimgasol_in_place_rounds(&load));
     }
     if (fflush(stdout) != 0) {
         perror("standard output");
@@ -119,8 +128,10 @@ int main(int count, char **words) {
         else if (strcmp(words[i], "-o") == 0) output = words[i + 1];
         else break;
     }
-    for (; i < count && added > 0; i++) added = page_size > 0 && words[i][0] != '-' ? add_block(&m, words[i], page_size) : 0;
-    if (added == 0 || m.count == 0 || cut == 0) fprintf(stderr, "in_place [-p PAGE_SIZE] [-c BYTES] [-o FILE] ID=PAGES ..\n");
+    for (; i < count && added > 0; i++)
+        added = page_size > 0 && words[i][0] != '-' ? add_block(&m, words[i], page_size) : 0;
+    if (added == 0 || m.count == 0 || cut == 0)
+        fprintf(stderr, "in_place [-p PAGE_SIZE] [-c BYTES] [-o FILE] ID=PAGES ..\n");
     else if (added > 0) status = load_into(&m, page_size, cut, output);
     unmap(&m);
     return status;

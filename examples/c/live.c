@@ -342,8 +342,8 @@ static double measured(machine *m, uint64_t mib, zimgasol_table *table, zimgasol
     r.socket = sockets[1];
     double began = now();
     if (pthread_create(&reader, NULL, table == NULL ? read_plain : receive, &r) != 0) return -1;
-    int done = table == NULL ? write_plain(m, sockets[0])
-                             : write_by_library(m, table, sockets[0], most);
+    int done =
+        table == NULL ? write_plain(m, sockets[0]) : write_by_library(m, table, sockets[0], most);
     close(sockets[0]);
     pthread_join(reader, NULL);
     double took = now() - began;

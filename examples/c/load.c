@@ -1,14 +1,13 @@
-/* Loads a stream from standard input, as it comes, and prints what came of it.
+/* Loads a stream from standard input, as it comes, and prints the result.
  *
  *   load [-p PAGE_SIZE] [-l LIMIT] [-c BYTES] [-o FILE] [-f machine]
  *
- * Pages have 4096 bytes where -p says nothing else, the guest may have 2^30 bytes, and the stream is
- * fed in pieces of 65536: -c sets another length. -o writes the memory to a file, block after block,
- * with holes for pages of zeros.
- * With `-f machine` it reads a whole machine's stream, as QEMU writes it, up to the end of RAM.
- * It prints `single BYTES sections S`, with status 0, or `fault N round R` with status 1, and then
- * what the fault is to standard error; or why it can't begin or go on, with status 3, which is also
- * that of an output or a file that can't be written.
+ * -p sets the page size (4096), -l the most bytes that the guest may have (2^30), -c the length of
+ * the pieces that are fed (65536). -o writes the memory to a file, block after block, with holes
+ * for pages of zeros. With `-f machine` it reads a machine's stream, as QEMU writes it, up to the
+ * end of RAM. It prints `single BYTES sections S`, with status 0. After a fault it prints `fault N
+ * round R`, with status 1, and the fault's text to standard error. If it can't go on, or the output
+ * or the file can't be written, it prints why, with status 3.
  */
 #define _GNU_SOURCE
 #include "zimgasol.h"
@@ -20,8 +19,8 @@
 
 enum { FEW = 64 };
 
-/* Feeds all of standard input. Returns how many bytes that were, or -1 where it can't be read or
- * there is no memory. */
+/* Feeds all of standard input. Returns how many bytes that were; -1 if it can't be read or there is
+ * no memory. */
 static long long feed_input(zimgasol_loader *loader, size_t cut) {
     uint8_t *piece = malloc(cut);
     long long total = 0;
@@ -67,11 +66,11 @@ static int write_memory(zimgasol_loader *loader, size_t page_size, const char *n
     uint64_t start = 0;
     for (size_t i = 0; done && i < zimgasol_loader_blocks(loader); i++) {
         zimgasol_block block;
-        done = zimgasol_loader_block(loader, i, &block) == ZIMGASOL_DONE
-            && write_block(loader, i, block.pages, page_size, bytes, file, start);
+        done = zimgasol_loader_block(loader, i, &block) == ZIMGASOL_DONE &&
+            write_block(loader, i, block.pages, page_size, bytes, file, start);
         start += block.pages * page_size;
     }
-    /* as long as the guest is, also where its last pages are zeros */
+    /* as long as the guest, also if its last pages are zeros */
     done = done && ftruncate(file, (off_t)start) == 0;
     if (file >= 0 && close(file) != 0) done = 0;
     free(bytes);

@@ -2,11 +2,11 @@
  *
  *   send [-p PAGE_SIZE] [-b ID] [-n PAGES] [-m NAME] FILE
  *
- * The guest has one block, `pc.ram` where -b says nothing else, of as many pages as the file has;
- * the last one is filled up with zeros. A round has at most 256 pages, or as many as -n says: each
- * is a section of the stream, and is drained before the next begins. With -m it is RAM of the stream
- * of a machine of this name: a configuration stands before it, and no end byte after it. Status 3
- * where the file can't be read, also in its midst, the output fails or there is no memory.
+ * The guest has one block, of as many pages as the file has; the last one is filled up with zeros.
+ * -p sets the page size (4096), -b the block's id (pc.ram), -n the most pages of a round (256). A
+ * round is a section of the stream, and is drained before the next one begins. With -m it is RAM of
+ * the stream of the machine NAME: a configuration stands before it, and no end byte after it.
+ * Status 3: the file can't be read to its end, the output fails, or there is no memory.
  */
 #include "zimgasol.h"
 #include <stdio.h>
@@ -22,8 +22,8 @@ static int drain(zimgasol_sender *sender) {
     return 1;
 }
 
-/* What is sent: a file of `len` bytes, in pages of this size, through a buffer for one page. It is
- * of a machine of this name, or the name is null. */
+/* What is sent: a file of `len` bytes, page by page, through a buffer for one page. `machine` is
+ * the machine's name, or null. */
 typedef struct source {
     FILE *file;
     uint64_t len;
@@ -32,8 +32,8 @@ typedef struct source {
     const char *machine;
 } source;
 
-/* Reads page `number`; what the last one lacks is zeros. A file that gives less than its length, or
- * an error, is no page. */
+/* Reads page `number`; what the last one lacks is zeros. Returns 0 if the file ends early or can't
+ * be read. */
 static int read_page(const source *from, uint64_t number) {
     uint64_t left = from->len - number * from->page_size;
     size_t len = left < from->page_size ? (size_t)left : from->page_size;
@@ -91,12 +91,11 @@ static int send_file(FILE *file, size_t page_size, const char *id, uint64_t most
     }
     if (machine == NULL) status = zimgasol_sender_new(&sender, &table);
     else
-        status = zimgasol_sender_new_named(&sender, &table, (const uint8_t *)machine,
-            strlen(machine));
+        status =
+            zimgasol_sender_new_named(&sender, &table, (const uint8_t *)machine, strlen(machine));
     zimgasol_table_free(&table);
     if (status != ZIMGASOL_DONE) return 3;
-    source from = {
-        .file = file, .len = (uint64_t)len, .page_size = page_size, .machine = machine};
+    source from = {.file = file, .len = (uint64_t)len, .page_size = page_size, .machine = machine};
     int done = send_all(&sender, &from, block.pages, most);
     zimgasol_sender_free(&sender);
     return done && fflush(stdout) == 0 ? 0 : 3;

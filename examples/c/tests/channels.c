@@ -1,21 +1,35 @@
-/* The calls for several channels, in both directions: a guest of two blocks is sent in rounds, by workers that are stepped by turns, and loaded in
- * place, with the bytes that a source doesn't take kept until it does. Each status that a call has is asked for once, and what stands after it. */
+/* The calls for several channels, in both directions: a guest of two blocks is sent in rounds, by
+ * workers that are stepped by turns, and loaded in place, with the bytes that a source doesn't take
+ * kept until it does. Each status that a call has is asked for once, and what stands after it. */
 #include "zimgasol.h"
 #include <stdio.h>
 #include <stdlib.h>
 #include <string.h>
 
-enum { PAGE = 4096, CHANNELS = 3, PAGES = 300, OTHER = 2, MOST = 1 << 22 };
+enum {
+    PAGE = 4096,
+    CHANNELS = 3,
+    PAGES = 300,
+    OTHER = 2,
+    OTHER_LEN = OTHER * PAGE,
+    MOST = 1 << 22
+};
 
-#define WANT(test) do { if (!(test)) { printf("line %d: %s\n", __LINE__, #test); return 1; } } while (0)
+#define WANT(test)                                                                                 \
+    do {                                                                                           \
+        if (!(test)) {                                                                             \
+            printf("line %d: %s\n", __LINE__, #test);                                              \
+            return 1;                                                                              \
+        }                                                                                          \
+    } while (0)
 
 static uint8_t guest[2][PAGES * PAGE], loaded[2][PAGES * PAGE];
 static uint8_t stream[1 + CHANNELS][MOST];
 static size_t length[1 + CHANNELS], given[1 + CHANNELS];
 static const uint8_t uuid[16] = {1, 2, 3};
 
-static zimgasol_lent lent[2] = {{guest[0], PAGES * PAGE}, {guest[1], OTHER * PAGE}};
-static zimgasol_buffer into[2] = {{loaded[0], PAGES * PAGE}, {loaded[1], OTHER * PAGE}};
+static zimgasol_lent lent[2] = {{guest[0], sizeof guest[0]}, {guest[1], OTHER_LEN}};
+static zimgasol_buffer into[2] = {{loaded[0], sizeof loaded[0]}, {loaded[1], OTHER_LEN}};
 
 static void write_guest(unsigned seed) {
     for (size_t p = 0; p < PAGES; p++)
@@ -32,7 +46,8 @@ static int drain_main(zimgasol_multi *multi) {
 
 static int drain_worker(zimgasol_worker *worker, size_t most) {
     size_t channel = zimgasol_worker_channel(worker), len;
-    while ((len = zimgasol_worker_drain(worker, stream[1 + channel] + length[1 + channel], most)) > 0) {
+    while ((len = zimgasol_worker_drain(worker, stream[1 + channel] + length[1 + channel], most)) >
+        0) {
         length[1 + channel] += len;
         WANT(length[1 + channel] + most < MOST);
     }
@@ -50,14 +65,16 @@ static uint32_t pack_copied(zimgasol_worker *worker) {
         if (zimgasol_worker_pack(worker, copy, 0) != ZIMGASOL_OUT_OF_TURN) return 2;
         return ZIMGASOL_DONE;
     }
-    if (status != ZIMGASOL_RUNNING || batch.block > 1 || batch.count < 1 || batch.count > 16) return 3;
+    if (status != ZIMGASOL_RUNNING || batch.block > 1 || batch.count < 1 || batch.count > 16)
+        return 3;
     if (zimgasol_worker_next(worker, &again) != ZIMGASOL_RUNNING) return 4;
     if (again.block != batch.block || again.count != batch.count) return 5;
     if (memcmp(again.pages, batch.pages, batch.count * sizeof *batch.pages) != 0) return 6;
     for (size_t i = 0; i < batch.count; i++)
         memcpy(copy + i * PAGE, guest[batch.block] + batch.pages[i] * PAGE, PAGE);
     if (zimgasol_worker_pack(worker, copy, batch.count * PAGE - 1) != ZIMGASOL_BAD_LENGTH) return 7;
-    if (zimgasol_worker_pack(worker, copy, (batch.count + 1) * PAGE) != ZIMGASOL_BAD_LENGTH) return 8;
+    if (zimgasol_worker_pack(worker, copy, (batch.count + 1) * PAGE) != ZIMGASOL_BAD_LENGTH)
+        return 8;
     status = zimgasol_worker_pack(worker, copy, batch.count * PAGE);
     if (zimgasol_worker_pack(worker, copy, batch.count * PAGE) != ZIMGASOL_OUT_OF_TURN) return 9;
     return status;
@@ -75,7 +92,8 @@ static int send_round(zimgasol_multi *multi, const zimgasol_place *dirty, size_t
     WANT(zimgasol_multi_begin_round(multi, &outside, 1) == ZIMGASOL_NO_PAGE);
     WANT(zimgasol_multi_begin_round(multi, dirty, count) == ZIMGASOL_DONE);
     WANT(zimgasol_multi_begin_round(multi, dirty, count) == ZIMGASOL_OUT_OF_TURN);
-    WANT(zimgasol_multi_finish(multi) == ZIMGASOL_OUT_OF_TURN && zimgasol_multi_finish_open(multi) == ZIMGASOL_OUT_OF_TURN);
+    WANT(zimgasol_multi_finish(multi) == ZIMGASOL_OUT_OF_TURN &&
+        zimgasol_multi_finish_open(multi) == ZIMGASOL_OUT_OF_TURN);
     for (size_t j = 0; j < CHANNELS; j++) {
         WANT(zimgasol_multi_worker(multi, &workers[j]) == ZIMGASOL_DONE);
         WANT(zimgasol_worker_channel(&workers[j]) == j);
@@ -84,19 +102,22 @@ static int send_round(zimgasol_multi *multi, const zimgasol_place *dirty, size_t
     WANT(zimgasol_worker_step(&workers[0], lent, 1) == ZIMGASOL_BAD_LENGTH);
     WANT(zimgasol_worker_step(&workers[0], short_one, 2) == ZIMGASOL_BAD_LENGTH);
     WANT(zimgasol_worker_pack(&workers[0], guest[0], PAGE) == ZIMGASOL_OUT_OF_TURN);
-    WANT(zimgasol_multi_give_back(multi, &workers[0]) == ZIMGASOL_OUT_OF_TURN && workers[0].full != 0);
+    WANT(zimgasol_multi_give_back(multi, &workers[0]) == ZIMGASOL_OUT_OF_TURN &&
+        workers[0].full != 0);
     int running = CHANNELS;
     for (int turn = 0; running > 0; turn++) {
         zimgasol_worker *worker = &workers[turn % CHANNELS];
         zimgasol_batch batch;
         if (turn % 5 == 1) WANT(zimgasol_worker_next(worker, &batch) != ZIMGASOL_NO_MEMORY);
-        uint32_t status = turn % 5 < 2 ? zimgasol_worker_step(worker, lent, 2) : pack_copied(worker);
+        uint32_t status =
+            turn % 5 < 2 ? zimgasol_worker_step(worker, lent, 2) : pack_copied(worker);
         WANT(status == ZIMGASOL_DONE || status == ZIMGASOL_RUNNING);
         if (turn % 2 == 0 && drain_worker(worker, 10000)) return 1;
         running = status == ZIMGASOL_DONE ? running - 1 : CHANNELS;
     }
     WANT(zimgasol_worker_step(&workers[0], lent, 2) == ZIMGASOL_DONE);
-    WANT(zimgasol_multi_give_back(multi, &workers[1]) == ZIMGASOL_OUT_OF_TURN && workers[1].full != 0);
+    WANT(zimgasol_multi_give_back(multi, &workers[1]) == ZIMGASOL_OUT_OF_TURN &&
+        workers[1].full != 0);
     WANT(zimgasol_multi_end_round(multi) == ZIMGASOL_OUT_OF_TURN);
     for (size_t j = 0; j < CHANNELS; j++) {
         if (drain_worker(&workers[j], 77777)) return 1;
@@ -121,7 +142,8 @@ static int send_all(zimgasol_table *table) {
     WANT(zimgasol_multi_new(&multi, table, uuid, 16, 0, 128) == ZIMGASOL_CHANNELS);
     WANT(zimgasol_multi_new(&multi, table, uuid, 16, 256, 128) == ZIMGASOL_CHANNELS);
     WANT(zimgasol_multi_new(&multi, table, uuid, 16, CHANNELS, 0) == ZIMGASOL_BATCH_LIMIT);
-    WANT(zimgasol_multi_new(&multi, table, uuid, 16, CHANNELS, 129) == ZIMGASOL_BATCH_LIMIT && multi.full == 0);
+    WANT(zimgasol_multi_new(&multi, table, uuid, 16, CHANNELS, 129) == ZIMGASOL_BATCH_LIMIT &&
+        multi.full == 0);
     WANT(zimgasol_multi_new(&multi, table, uuid, 16, CHANNELS, 16) == ZIMGASOL_DONE);
     write_guest(1);
     if (send_round(&multi, all, PAGES + OTHER)) return 1;
@@ -141,7 +163,8 @@ static int send_all(zimgasol_table *table) {
     return 0;
 }
 
-/* Where no round was sent, the hellos are left of the channels, and each is that of zimgasol_hello. */
+/* Where no round was sent, the hellos are left of the channels, and each is that of zimgasol_hello.
+ */
 static int send_none(zimgasol_table *table) {
     zimgasol_multi multi = {0};
     uint8_t out[100], hello[64];
@@ -151,7 +174,8 @@ static int send_none(zimgasol_table *table) {
         WANT(zimgasol_multi_drain_channel(&multi, j, out, 60) == 60);
         WANT(zimgasol_multi_drain_channel(&multi, j, out + 60, 40) == 4);
         WANT(zimgasol_multi_drain_channel(&multi, j, out, sizeof out) == 0);
-        WANT(zimgasol_hello(uuid, 16, j, hello, 64) == ZIMGASOL_DONE && memcmp(out, hello, 60) == 0);
+        WANT(
+            zimgasol_hello(uuid, 16, j, hello, 64) == ZIMGASOL_DONE && memcmp(out, hello, 60) == 0);
     }
     zimgasol_multi_free(&multi);
     return 0;
@@ -167,19 +191,23 @@ static int feed_all(zimgasol_in_place_session *load, size_t cut) {
         for (size_t source = 0; source <= CHANNELS; source++) {
             size_t left = length[source] - given[source], len = left < cut ? left : cut;
             if (len == 0 || !zimgasol_in_place_session_takes(load, source)) continue;
-            WANT(zimgasol_in_place_session_feed(load, into, 2, source, stream[source] + given[source], len, &taken) == ZIMGASOL_DONE);
+            WANT(zimgasol_in_place_session_feed(load, into, 2, source,
+                     stream[source] + given[source], len, &taken) == ZIMGASOL_DONE);
             WANT(taken <= len);
             given[source] += taken;
             WANT(zimgasol_in_place_session_fed(load, source) == given[source]);
             moved = moved || taken > 0;
         }
         /* the array of the blocks stays as it is */
-        WANT(into[0].bytes == loaded[0] && into[0].len == PAGES * PAGE && into[1].bytes == loaded[1] && into[1].len == OTHER * PAGE);
+        WANT(into[0].bytes == loaded[0] && into[0].len == PAGES * PAGE &&
+            into[1].bytes == loaded[1] && into[1].len == OTHER * PAGE);
     }
     for (size_t source = 0; source <= CHANNELS; source++) {
         WANT(given[source] == length[source]);
         WANT(zimgasol_in_place_session_end(load, source) == ZIMGASOL_DONE);
-        WANT(zimgasol_in_place_session_feed(load, into, 2, source, stream[0], 1, &taken) == ZIMGASOL_IS_OVER && taken == 0);
+        WANT(zimgasol_in_place_session_feed(load, into, 2, source, stream[0], 1, &taken) ==
+                ZIMGASOL_IS_OVER &&
+            taken == 0);
     }
     return 0;
 }
@@ -189,11 +217,16 @@ static int send_some(zimgasol_table *table, const char *name) {
     zimgasol_multi multi = {0};
     zimgasol_place some[3] = {{0, 1}, {1, 0}, {0, 7}};
     memset(length, 0, sizeof length);
-    if (name == NULL) WANT(zimgasol_multi_new(&multi, table, uuid, 16, CHANNELS, 16) == ZIMGASOL_DONE);
-    else WANT(zimgasol_multi_new_named(&multi, table, uuid, 16, CHANNELS, 16, (const uint8_t *)name, strlen(name)) == ZIMGASOL_DONE);
+    if (name == NULL)
+        WANT(zimgasol_multi_new(&multi, table, uuid, 16, CHANNELS, 16) == ZIMGASOL_DONE);
+    else
+        WANT(zimgasol_multi_new_named(&multi, table, uuid, 16, CHANNELS, 16, (const uint8_t *)name,
+                 strlen(name)) == ZIMGASOL_DONE);
     if (send_round(&multi, some, 3)) return 1;
-    WANT((name == NULL ? zimgasol_multi_finish(&multi) : zimgasol_multi_finish_open(&multi)) == ZIMGASOL_DONE);
-    WANT(zimgasol_multi_finish_open(&multi) == ZIMGASOL_OUT_OF_TURN && zimgasol_multi_finish(&multi) == ZIMGASOL_OUT_OF_TURN);
+    WANT((name == NULL ? zimgasol_multi_finish(&multi) : zimgasol_multi_finish_open(&multi)) ==
+        ZIMGASOL_DONE);
+    WANT(zimgasol_multi_finish_open(&multi) == ZIMGASOL_OUT_OF_TURN &&
+        zimgasol_multi_finish(&multi) == ZIMGASOL_OUT_OF_TURN);
     if (drain_main(&multi)) return 1;
     zimgasol_multi_free(&multi);
     return 0;
@@ -203,7 +236,8 @@ static int send_some(zimgasol_table *table, const char *name) {
  * end byte, and its channels are the same. It is loaded in its frame, with what follows it. */
 static int send_named(zimgasol_table *table) {
     enum { LITTLE = 1 << 16 };
-    static const uint8_t configuration[] = {7, 0, 0, 0, 4, 'v', 'i', 'r', 't'}, long_name[1025] = {'m'};
+    static const uint8_t configuration[] = {7, 0, 0, 0, 4, 'v', 'i', 'r', 't'},
+                         long_name[1025] = {'m'};
     static uint8_t named[1 + CHANNELS][LITTLE];
     size_t named_length[1 + CHANNELS], rest = 8 + sizeof configuration;
     zimgasol_settings settings = {.frame = ZIMGASOL_FRAME_MACHINE};
@@ -211,10 +245,18 @@ static int send_named(zimgasol_table *table) {
     zimgasol_multi multi = {0};
     zimgasol_fault fault;
     uint64_t at = 7;
-    WANT(zimgasol_multi_new_named(&multi, table, uuid, 16, CHANNELS, 16, long_name, 1025) == ZIMGASOL_BAD_LENGTH && multi.full == 0);
-    WANT(zimgasol_multi_new_named(&multi, table, uuid, 15, CHANNELS, 16, long_name, 4) == ZIMGASOL_BAD_LENGTH && multi.full == 0);
-    WANT(zimgasol_multi_new_named(&multi, table, uuid, 16, 0, 16, long_name, 1024) == ZIMGASOL_CHANNELS && multi.full == 0);
-    WANT(zimgasol_multi_new_named(&multi, table, uuid, 16, CHANNELS, 129, long_name, 1024) == ZIMGASOL_BATCH_LIMIT && multi.full == 0);
+    WANT(zimgasol_multi_new_named(&multi, table, uuid, 16, CHANNELS, 16, long_name, 1025) ==
+            ZIMGASOL_BAD_LENGTH &&
+        multi.full == 0);
+    WANT(zimgasol_multi_new_named(&multi, table, uuid, 15, CHANNELS, 16, long_name, 4) ==
+            ZIMGASOL_BAD_LENGTH &&
+        multi.full == 0);
+    WANT(zimgasol_multi_new_named(&multi, table, uuid, 16, 0, 16, long_name, 1024) ==
+            ZIMGASOL_CHANNELS &&
+        multi.full == 0);
+    WANT(zimgasol_multi_new_named(&multi, table, uuid, 16, CHANNELS, 129, long_name, 1024) ==
+            ZIMGASOL_BATCH_LIMIT &&
+        multi.full == 0);
     write_guest(1);
     if (send_some(table, "virt")) return 1;
     for (size_t s = 0; s <= CHANNELS; s++) {
@@ -222,19 +264,25 @@ static int send_named(zimgasol_table *table) {
         memcpy(named[s], stream[s], named_length[s] = length[s]);
     }
     if (send_some(table, NULL)) return 1;
-    WANT(named_length[0] == length[0] + sizeof configuration - 1 && memcmp(named[0], stream[0], 8) == 0);
+    WANT(named_length[0] == length[0] + sizeof configuration - 1 &&
+        memcmp(named[0], stream[0], 8) == 0);
     WANT(memcmp(named[0] + 8, configuration, sizeof configuration) == 0);
-    WANT(memcmp(named[0] + rest, stream[0] + 8, length[0] - 9) == 0 && stream[0][length[0] - 1] == 0);
-    for (size_t s = 1; s <= CHANNELS; s++) WANT(named_length[s] == length[s] && memcmp(named[s], stream[s], length[s]) == 0);
+    WANT(memcmp(named[0] + rest, stream[0] + 8, length[0] - 9) == 0 &&
+        stream[0][length[0] - 1] == 0);
+    for (size_t s = 1; s <= CHANNELS; s++)
+        WANT(named_length[s] == length[s] && memcmp(named[s], stream[s], length[s]) == 0);
     memcpy(stream[0], named[0], named_length[0]);
     memcpy(stream[0] + named_length[0], "\4 and so on", 11);
     length[0] = named_length[0] + 11;
     memset(loaded, 0, sizeof loaded);
-    WANT(zimgasol_in_place_session_new_within(&load, table, uuid, 16, CHANNELS, &settings) == ZIMGASOL_DONE);
+    WANT(zimgasol_in_place_session_new_within(&load, table, uuid, 16, CHANNELS, &settings) ==
+        ZIMGASOL_DONE);
     if (feed_all(&load, 777)) return 1;
-    WANT(zimgasol_in_place_session_verdict(&load, &fault) == ZIMGASOL_DONE && zimgasol_in_place_session_rounds(&load) == 1);
+    WANT(zimgasol_in_place_session_verdict(&load, &fault) == ZIMGASOL_DONE &&
+        zimgasol_in_place_session_rounds(&load) == 1);
     WANT(zimgasol_in_place_session_closed_at(&load, &at) == ZIMGASOL_DONE && at == named_length[0]);
-    WANT(memcmp(loaded[0] + PAGE, guest[0] + PAGE, PAGE) == 0 && memcmp(loaded[0] + 7 * PAGE, guest[0] + 7 * PAGE, PAGE) == 0);
+    WANT(memcmp(loaded[0] + PAGE, guest[0] + PAGE, PAGE) == 0 &&
+        memcmp(loaded[0] + 7 * PAGE, guest[0] + 7 * PAGE, PAGE) == 0);
     WANT(memcmp(loaded[1], guest[1], PAGE) == 0);
     zimgasol_in_place_session_free(&load);
     return 0;
@@ -253,16 +301,19 @@ static int give_up(zimgasol_table *table) {
     WANT(zimgasol_multi_cancel_round(&multi) == ZIMGASOL_OUT_OF_TURN);
     WANT(zimgasol_multi_drain(&multi, out, 10) == 10);
     WANT(zimgasol_multi_begin_round(&multi, all, PAGES) == ZIMGASOL_DONE);
-    for (size_t j = 0; j < 2; j++) WANT(zimgasol_multi_worker(&multi, &workers[j]) == ZIMGASOL_DONE);
+    for (size_t j = 0; j < 2; j++)
+        WANT(zimgasol_multi_worker(&multi, &workers[j]) == ZIMGASOL_DONE);
     WANT(zimgasol_worker_step(&workers[0], lent, 2) == ZIMGASOL_RUNNING);
     WANT(zimgasol_worker_drain(&workers[0], out, sizeof out) == sizeof out);
     WANT(zimgasol_multi_cancel_round(&multi) == ZIMGASOL_DONE && multi.full != 0);
     WANT(zimgasol_multi_cancel_round(&multi) == ZIMGASOL_OUT_OF_TURN);
     WANT(zimgasol_multi_begin_round(&multi, all, PAGES) == ZIMGASOL_OUT_OF_TURN);
     WANT(zimgasol_multi_worker(&multi, &none) == ZIMGASOL_OUT_OF_TURN && none.full == 0);
-    WANT(zimgasol_multi_give_back(&multi, &workers[0]) == ZIMGASOL_OUT_OF_TURN && workers[0].full != 0);
+    WANT(zimgasol_multi_give_back(&multi, &workers[0]) == ZIMGASOL_OUT_OF_TURN &&
+        workers[0].full != 0);
     WANT(zimgasol_multi_end_round(&multi) == ZIMGASOL_OUT_OF_TURN);
-    WANT(zimgasol_multi_finish(&multi) == ZIMGASOL_OUT_OF_TURN && zimgasol_multi_finish_open(&multi) == ZIMGASOL_OUT_OF_TURN);
+    WANT(zimgasol_multi_finish(&multi) == ZIMGASOL_OUT_OF_TURN &&
+        zimgasol_multi_finish_open(&multi) == ZIMGASOL_OUT_OF_TURN);
     /* what waited of the main stream is gone, and so is the hello of the third channel */
     WANT(zimgasol_multi_drain(&multi, out, sizeof out) == 0);
     WANT(zimgasol_multi_drain_channel(&multi, 2, out, sizeof out) == 0);
@@ -289,16 +340,26 @@ static int load_all(zimgasol_table *table, size_t cut) {
     size_t taken = 7;
     uint64_t pages = 0, at = 7;
     memset(loaded, 0xEE, sizeof loaded);
-    WANT(zimgasol_in_place_session_new(&load, table, uuid, 16, 0, ZIMGASOL_FRAME_RAM) == ZIMGASOL_BAD_CHANNELS);
-    WANT(zimgasol_in_place_session_new(&load, table, uuid, 17, 256, ZIMGASOL_FRAME_RAM) == ZIMGASOL_BAD_CHANNELS);
-    WANT(zimgasol_in_place_session_new(&load, table, uuid, 17, CHANNELS, ZIMGASOL_FRAME_RAM) == ZIMGASOL_BAD_LENGTH);
-    WANT(zimgasol_in_place_session_new(&load, table, uuid, 16, CHANNELS, (zimgasol_frame)2) == ZIMGASOL_BAD_FRAME && load.full == 0);
-    WANT(zimgasol_in_place_session_new(&load, table, uuid, 16, CHANNELS, ZIMGASOL_FRAME_RAM) == ZIMGASOL_DONE);
+    WANT(zimgasol_in_place_session_new(&load, table, uuid, 16, 0, ZIMGASOL_FRAME_RAM) ==
+        ZIMGASOL_BAD_CHANNELS);
+    WANT(zimgasol_in_place_session_new(&load, table, uuid, 17, 256, ZIMGASOL_FRAME_RAM) ==
+        ZIMGASOL_BAD_CHANNELS);
+    WANT(zimgasol_in_place_session_new(&load, table, uuid, 17, CHANNELS, ZIMGASOL_FRAME_RAM) ==
+        ZIMGASOL_BAD_LENGTH);
+    WANT(zimgasol_in_place_session_new(&load, table, uuid, 16, CHANNELS, (zimgasol_frame)2) ==
+            ZIMGASOL_BAD_FRAME &&
+        load.full == 0);
+    WANT(zimgasol_in_place_session_new(&load, table, uuid, 16, CHANNELS, ZIMGASOL_FRAME_RAM) ==
+        ZIMGASOL_DONE);
     WANT(zimgasol_in_place_session_verdict(&load, &fault) == ZIMGASOL_RUNNING);
     WANT(zimgasol_in_place_session_closed_at(&load, &at) == ZIMGASOL_RUNNING && at == 7);
     WANT(!zimgasol_in_place_session_takes(&load, 1 + CHANNELS));
-    WANT(zimgasol_in_place_session_feed(&load, into, 2, 1 + CHANNELS, stream[0], 1, &taken) == ZIMGASOL_BAD_SOURCE && taken == 0);
-    WANT(zimgasol_in_place_session_feed(&load, into, 1, 0, stream[0], 1, &taken) == ZIMGASOL_BAD_LENGTH && taken == 0);
+    WANT(zimgasol_in_place_session_feed(&load, into, 2, 1 + CHANNELS, stream[0], 1, &taken) ==
+            ZIMGASOL_BAD_SOURCE &&
+        taken == 0);
+    WANT(zimgasol_in_place_session_feed(&load, into, 1, 0, stream[0], 1, &taken) ==
+            ZIMGASOL_BAD_LENGTH &&
+        taken == 0);
     WANT(zimgasol_in_place_session_end(&load, 1 + CHANNELS) == ZIMGASOL_BAD_SOURCE);
     if (feed_all(&load, cut)) return 1;
     WANT(zimgasol_in_place_session_verdict(&load, &fault) == ZIMGASOL_DONE && fault.number == 0);
@@ -306,7 +367,8 @@ static int load_all(zimgasol_table *table, size_t cut) {
     WANT(zimgasol_in_place_session_closed_at(&load, &at) == ZIMGASOL_DONE && at == length[0]);
     for (size_t source = 0; source <= CHANNELS; source++)
         WANT(zimgasol_in_place_session_valid_up_to(&load, source, &at) && at == length[source]);
-    for (size_t p = 0; p < PAGES; p++) pages += memcmp(loaded[0] + p * PAGE, guest[0] + p * PAGE, PAGE) != 0;
+    for (size_t p = 0; p < PAGES; p++)
+        pages += memcmp(loaded[0] + p * PAGE, guest[0] + p * PAGE, PAGE) != 0;
     WANT(pages == 0);
     WANT(memcmp(loaded[1], guest[1], OTHER * PAGE) == 0);
     zimgasol_in_place_session_free(&load);
@@ -320,13 +382,16 @@ static int load_wrong(zimgasol_table *table) {
     zimgasol_fault fault;
     size_t taken;
     uint64_t at = 7;
-    WANT(zimgasol_in_place_session_new(&load, table, uuid, 16, CHANNELS, ZIMGASOL_FRAME_RAM) == ZIMGASOL_DONE);
+    WANT(zimgasol_in_place_session_new(&load, table, uuid, 16, CHANNELS, ZIMGASOL_FRAME_RAM) ==
+        ZIMGASOL_DONE);
     stream[2][64] ^= 1; /* the first byte of a packet's magic */
     for (size_t source = 0; source <= CHANNELS; source++)
-        WANT(zimgasol_in_place_session_feed(&load, into, 2, source, stream[source], length[source], &taken) == ZIMGASOL_DONE);
+        WANT(zimgasol_in_place_session_feed(&load, into, 2, source, stream[source], length[source],
+                 &taken) == ZIMGASOL_DONE);
     stream[2][64] ^= 1;
     WANT(zimgasol_in_place_session_verdict(&load, &fault) == ZIMGASOL_CHANNEL_PACKET_MAGIC);
-    WANT(fault.source == ZIMGASOL_CHANNEL(1) && fault.round == 0 && fault.number == ZIMGASOL_CHANNEL_PACKET_MAGIC);
+    WANT(fault.source == ZIMGASOL_CHANNEL(1) && fault.round == 0 &&
+        fault.number == ZIMGASOL_CHANNEL_PACKET_MAGIC);
     WANT(zimgasol_in_place_session_valid_up_to(&load, fault.source, &at) && at == 64);
     at = 7;
     WANT(!zimgasol_in_place_session_valid_up_to(&load, ZIMGASOL_CHANNEL(CHANNELS), &at) && at == 7);
@@ -334,32 +399,39 @@ static int load_wrong(zimgasol_table *table) {
     /* the main stream was taken whole, and is closed */
     WANT(zimgasol_in_place_session_closed_at(&load, &at) == ZIMGASOL_DONE && at == length[0]);
     WANT(!zimgasol_in_place_session_takes(&load, 0));
-    WANT(zimgasol_in_place_session_feed(&load, into, 2, 0, stream[0], 1, &taken) == ZIMGASOL_DONE && taken == 0);
+    WANT(zimgasol_in_place_session_feed(&load, into, 2, 0, stream[0], 1, &taken) == ZIMGASOL_DONE &&
+        taken == 0);
     WANT(zimgasol_in_place_session_rounds(&load) == 0);
     zimgasol_in_place_session_free(&load);
     return 0;
 }
 
-/* A packet of 16 pages counts 17: where 16 may wait in a channel's round, the first one is at fault,
- * after the hello's 64 bytes. Of `PAGES` and `OTHER` pages twice as many and one are enough. */
+/* A packet of 16 pages counts 17: where 16 may wait in a channel's round, the first one is at
+ * fault, after the hello's 64 bytes. Of `PAGES` and `OTHER` pages twice as many and one are enough.
+ */
 static int load_limited(zimgasol_table *table) {
     zimgasol_in_place_session load = {0};
     zimgasol_settings settings = {.frame = ZIMGASOL_FRAME_RAM, .waiting = 16};
     zimgasol_fault fault;
     size_t taken;
     uint64_t at = 7;
-    WANT(zimgasol_in_place_session_new_within(&load, table, uuid, 16, CHANNELS, &settings) == ZIMGASOL_DONE);
+    WANT(zimgasol_in_place_session_new_within(&load, table, uuid, 16, CHANNELS, &settings) ==
+        ZIMGASOL_DONE);
     for (size_t source = 0; source <= CHANNELS; source++)
-        WANT(zimgasol_in_place_session_feed(&load, into, 2, source, stream[source], length[source], &taken) == ZIMGASOL_DONE);
+        WANT(zimgasol_in_place_session_feed(&load, into, 2, source, stream[source], length[source],
+                 &taken) == ZIMGASOL_DONE);
     WANT(zimgasol_in_place_session_verdict(&load, &fault) == ZIMGASOL_CHANNEL_WAITING);
-    WANT(fault.source == ZIMGASOL_CHANNEL(0) && fault.round == 0 && fault.number == ZIMGASOL_CHANNEL_WAITING);
+    WANT(fault.source == ZIMGASOL_CHANNEL(0) && fault.round == 0 &&
+        fault.number == ZIMGASOL_CHANNEL_WAITING);
     WANT(zimgasol_in_place_session_valid_up_to(&load, fault.source, &at) && at == 64);
     WANT(zimgasol_in_place_session_rounds(&load) == 0);
     zimgasol_in_place_session_free(&load);
     settings.waiting = 2 * (PAGES + OTHER) + 1;
-    WANT(zimgasol_in_place_session_new_within(&load, table, uuid, 16, CHANNELS, &settings) == ZIMGASOL_DONE);
+    WANT(zimgasol_in_place_session_new_within(&load, table, uuid, 16, CHANNELS, &settings) ==
+        ZIMGASOL_DONE);
     if (feed_all(&load, 4096)) return 1;
-    WANT(zimgasol_in_place_session_verdict(&load, &fault) == ZIMGASOL_DONE && zimgasol_in_place_session_rounds(&load) == 2);
+    WANT(zimgasol_in_place_session_verdict(&load, &fault) == ZIMGASOL_DONE &&
+        zimgasol_in_place_session_rounds(&load) == 2);
     zimgasol_in_place_session_free(&load);
     return 0;
 }
@@ -390,21 +462,31 @@ static int foreign(zimgasol_table *table) {
     if (step_all(&stray)) return 1;
     WANT(zimgasol_multi_new(&multi, table, uuid, 16, CHANNELS, 16) == ZIMGASOL_DONE);
     WANT(zimgasol_multi_begin_round(&multi, all, PAGES) == ZIMGASOL_DONE);
-    for (size_t j = 0; j < CHANNELS; j++) WANT(zimgasol_multi_worker(&multi, &workers[j]) == ZIMGASOL_DONE);
+    for (size_t j = 0; j < CHANNELS; j++)
+        WANT(zimgasol_multi_worker(&multi, &workers[j]) == ZIMGASOL_DONE);
     WANT(zimgasol_worker_step(&workers[0], lent, 2) == ZIMGASOL_RUNNING);
-    for (size_t j = 1; j < CHANNELS; j++) if (step_all(&workers[j])) return 1;
+    for (size_t j = 1; j < CHANNELS; j++)
+        if (step_all(&workers[j])) return 1;
     WANT(zimgasol_multi_give_back(&multi, &stray) == ZIMGASOL_DONE && stray.full == 0);
-    WANT(zimgasol_multi_give_back(&multi, &workers[0]) == ZIMGASOL_OUT_OF_TURN && workers[0].full != 0);
-    for (size_t j = 1; j < CHANNELS; j++) WANT(zimgasol_multi_give_back(&multi, &workers[j]) == ZIMGASOL_DONE);
-    WANT(zimgasol_multi_end_round(&multi) == ZIMGASOL_DONE && zimgasol_multi_finish(&multi) == ZIMGASOL_DONE);
+    WANT(zimgasol_multi_give_back(&multi, &workers[0]) == ZIMGASOL_OUT_OF_TURN &&
+        workers[0].full != 0);
+    for (size_t j = 1; j < CHANNELS; j++)
+        WANT(zimgasol_multi_give_back(&multi, &workers[j]) == ZIMGASOL_DONE);
+    WANT(zimgasol_multi_end_round(&multi) == ZIMGASOL_DONE &&
+        zimgasol_multi_finish(&multi) == ZIMGASOL_DONE);
     memset(length, 0, sizeof length);
     if (drain_main(&multi)) return 1;
     for (size_t j = 0; j < CHANNELS; j++)
-        while ((len = zimgasol_multi_drain_channel(&multi, j, stream[1 + j] + length[1 + j], 10000)) > 0) length[1 + j] += len;
-    WANT(zimgasol_in_place_session_new(&load, table, uuid, 16, CHANNELS, ZIMGASOL_FRAME_RAM) == ZIMGASOL_DONE);
+        while ((len = zimgasol_multi_drain_channel(&multi, j, stream[1 + j] + length[1 + j],
+                    10000)) > 0)
+            length[1 + j] += len;
+    WANT(zimgasol_in_place_session_new(&load, table, uuid, 16, CHANNELS, ZIMGASOL_FRAME_RAM) ==
+        ZIMGASOL_DONE);
     for (size_t source = 0; source <= CHANNELS; source++)
-        WANT(zimgasol_in_place_session_feed(&load, into, 2, source, stream[source], length[source], &taken) == ZIMGASOL_DONE);
-    WANT(zimgasol_in_place_session_verdict(&load, &fault) == ZIMGASOL_ROUND_DOUBLED && fault.first == 1 && fault.round == 0);
+        WANT(zimgasol_in_place_session_feed(&load, into, 2, source, stream[source], length[source],
+                 &taken) == ZIMGASOL_DONE);
+    WANT(zimgasol_in_place_session_verdict(&load, &fault) == ZIMGASOL_ROUND_DOUBLED &&
+        fault.first == 1 && fault.round == 0);
     zimgasol_in_place_session_free(&load);
     zimgasol_worker_free(&workers[0]);
     zimgasol_multi_free(&multi);
@@ -413,7 +495,8 @@ static int foreign(zimgasol_table *table) {
 }
 
 int main(void) {
-    zimgasol_block blocks[2] = {{.id = "pc.ram", .pages = PAGES}, {.id = "pc.bios", .pages = OTHER}};
+    zimgasol_block blocks[2] = {{.id = "pc.ram", .pages = PAGES},
+        {.id = "pc.bios", .pages = OTHER}};
     zimgasol_table table = {0};
     size_t entry;
     WANT(zimgasol_table_new(&table, PAGE, blocks, 2, &entry) == ZIMGASOL_DONE);
@@ -422,7 +505,8 @@ int main(void) {
     for (size_t i = 0; i < sizeof cuts / sizeof cuts[0]; i++)
         if (load_all(&table, cuts[i])) return 1;
     if (load_wrong(&table) || load_limited(&table)) return 1;
-    printf("%zu bytes on the main stream, %zu, %zu and %zu on the channels; 0 pages differ\n", length[0], length[1], length[2], length[3]);
+    printf("%zu bytes on the main stream, %zu, %zu and %zu on the channels; 0 pages differ\n",
+        length[0], length[1], length[2], length[3]);
     if (send_named(&table) || foreign(&table)) return 1;
     zimgasol_table_free(&table);
     return 0;

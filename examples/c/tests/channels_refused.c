@@ -1,8 +1,8 @@
-/* Each allocation of the calls for several channels refused in turn. A guest is sent in two rounds by
- * workers that are stepped by turns, and loaded into blocks, with the nth call of malloc or realloc
- * refused. The call that wanted it says so, and is made again; a load that failed for good is made
- * anew. The streams are those of a run without a refusal, the blocks have the guest, and nothing is
- * left. */
+/* Each allocation of the calls for several channels refused in turn. A guest is sent in two rounds
+ * by workers that are stepped by turns, and loaded into blocks, with the nth call of malloc or
+ * realloc refused. The call that wanted it says so, and is made again; a load that failed for good
+ * is made anew. The streams are those of a run without a refusal, the blocks have the guest, and
+ * nothing is left. */
 #include "zimgasol.h"
 #include "refusing.h"
 #include <string.h>
@@ -40,14 +40,16 @@ static uint32_t pack_copied(zimgasol_worker *worker) {
     uint32_t status = zimgasol_worker_next(worker, &batch);
     if (status != ZIMGASOL_RUNNING) return status;
     WANT(batch.block == 0 && batch.count <= 2);
-    for (size_t i = 0; i < batch.count; i++) memcpy(copy + i * PAGE, guest + batch.pages[i] * PAGE, PAGE);
+    for (size_t i = 0; i < batch.count; i++)
+        memcpy(copy + i * PAGE, guest + batch.pages[i] * PAGE, PAGE);
     return zimgasol_worker_pack(worker, copy, batch.count * PAGE);
 }
 
 /* Steps a worker once, again where it was refused, whole or in two halves. Returns whether its
  * channel goes on. */
 static int steps(zimgasol_worker *worker) {
-    uint32_t (*step)(zimgasol_worker *) = zimgasol_worker_channel(worker) == 0 ? pack_lent : pack_copied;
+    uint32_t (*step)(zimgasol_worker *) =
+        zimgasol_worker_channel(worker) == 0 ? pack_lent : pack_copied;
     uint32_t status = step(worker);
     if (status == ZIMGASOL_NO_MEMORY) {
         WANT(refusals == 1);
@@ -103,12 +105,14 @@ static void send_named(zimgasol_table *table) {
     zimgasol_place place = {0, 3};
     uint8_t out[10];
     size_t len, total = 0;
-    AGAIN(zimgasol_multi_new_named(&multi, table, uuid, 16, CHANNELS, 2, (const uint8_t *)"virt", 4));
+    AGAIN(
+        zimgasol_multi_new_named(&multi, table, uuid, 16, CHANNELS, 2, (const uint8_t *)"virt", 4));
     AGAIN(zimgasol_multi_finish_open(&multi));
     while ((len = zimgasol_multi_drain(&multi, out, sizeof out)) > 0) total += len;
     WANT(total == 8 + 9 + (17 + 8 + 15 + 13) + (5 + 13));
     zimgasol_multi_free(&multi);
-    AGAIN(zimgasol_multi_new_named(&multi, table, uuid, 16, CHANNELS, 2, (const uint8_t *)"virt", 4));
+    AGAIN(
+        zimgasol_multi_new_named(&multi, table, uuid, 16, CHANNELS, 2, (const uint8_t *)"virt", 4));
     AGAIN(zimgasol_multi_begin_round(&multi, &place, 1));
     AGAIN(zimgasol_multi_worker(&multi, &worker));
     WANT(steps(&worker));
@@ -127,7 +131,8 @@ static int feeds(zimgasol_in_place_session *load, size_t cut) {
         for (size_t source = 0; source < SOURCES; source++) {
             size_t left = length[source] - given[source], len = left < cut ? left : cut;
             if (len == 0 || !zimgasol_in_place_session_takes(load, source)) continue;
-            uint32_t status = zimgasol_in_place_session_feed(load, into, 1, source, stream[source] + given[source], len, &taken);
+            uint32_t status = zimgasol_in_place_session_feed(load, into, 1, source,
+                stream[source] + given[source], len, &taken);
             WANT(into[0].bytes == loaded && into[0].len == sizeof loaded);
             if (status == ZIMGASOL_NO_MEMORY) {
                 WANT(refusals == 1 && taken == 0);
@@ -185,6 +190,8 @@ int main(void) {
         most = counted > most ? counted : most;
         if (refused > 0 && refusals == 0) break;
     }
-    printf("%ld runs of up to %ld allocations on channels, with none refused, then the first, then the second: all streams and blocks right, no block left\n", runs, most);
+    printf("%ld runs of up to %ld allocations on channels, with none refused, then the first, then "
+           "the second: all streams and blocks right, no block left\n",
+        runs, most);
     return 0;
 }

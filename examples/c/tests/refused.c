@@ -1,5 +1,7 @@
-/* Each allocation refused in turn. A guest of two blocks is sent, loaded by a loader, into blocks and by a session, and read out, with the nth call of malloc
- * or realloc refused: the call that wanted it says so, and is made again. What comes of it is the same as with no refusal, and no block is left. */
+/* Each allocation refused in turn. A guest of two blocks is sent, loaded by a loader, into blocks
+ * and by a session, and read out, with the nth call of malloc or realloc refused: the call that
+ * wanted it says so, and is made again. What comes of it is the same as with no refusal, and no
+ * block is left. */
 #include "zimgasol.h"
 #include "refusing.h"
 #include <string.h>
@@ -36,7 +38,8 @@ static void drain(zimgasol_sender *sender) {
     }
 }
 
-/* Sends three rounds, of which one is left out. A machine's stream where there is a name: without the end byte. */
+/* Sends three rounds, of which one is left out. A machine's stream where there is a name: without
+ * the end byte. */
 static void send_rounds(const char *name) {
     zimgasol_block blocks[2] = {{.id = "a", .pages = 3}, {.id = "pc.ram", .pages = 2}};
     zimgasol_table table = {0};
@@ -60,14 +63,17 @@ static void send_rounds(const char *name) {
     }
     if (name == NULL) AGAIN(zimgasol_sender_finish(&sender));
     else AGAIN(zimgasol_sender_finish_open(&sender));
-    WANT(zimgasol_sender_finish(&sender) == ZIMGASOL_OUT_OF_TURN && zimgasol_sender_finish_open(&sender) == ZIMGASOL_OUT_OF_TURN);
-    WANT(zimgasol_sender_begin_round(&sender) == ZIMGASOL_OUT_OF_TURN && zimgasol_sender_end_round(&sender) == ZIMGASOL_OUT_OF_TURN);
+    WANT(zimgasol_sender_finish(&sender) == ZIMGASOL_OUT_OF_TURN &&
+        zimgasol_sender_finish_open(&sender) == ZIMGASOL_OUT_OF_TURN);
+    WANT(zimgasol_sender_begin_round(&sender) == ZIMGASOL_OUT_OF_TURN &&
+        zimgasol_sender_end_round(&sender) == ZIMGASOL_OUT_OF_TURN);
     drain(&sender);
     zimgasol_table_free(&table);
     zimgasol_sender_free(&sender);
 }
 
-/* A machine's stream is that of RAM's sections, with a configuration after the file header and without the end byte. */
+/* A machine's stream is that of RAM's sections, with a configuration after the file header and
+ * without the end byte. */
 static void send(void) {
     static const uint8_t configuration[] = {7, 0, 0, 0, 4, 'v', 'i', 'r', 't'};
     static uint8_t named[MOST];
@@ -77,7 +83,8 @@ static void send(void) {
     send_rounds(NULL);
     WANT(named_len == text_len + sizeof configuration - 1 && memcmp(named, text, 8) == 0);
     WANT(memcmp(named + 8, configuration, sizeof configuration) == 0);
-    WANT(memcmp(named + 8 + sizeof configuration, text + 8, text_len - 9) == 0 && text[text_len - 1] == 0);
+    WANT(memcmp(named + 8 + sizeof configuration, text + 8, text_len - 9) == 0 &&
+        text[text_len - 1] == 0);
 }
 
 /* Several pages at once, and the next one that isn't zeros: of block 0 only page 2 is none. */
@@ -86,18 +93,25 @@ static void read_loaded(zimgasol_loader *loader) {
     uint64_t at = 77;
     memset(pages, 0xEE, sizeof pages);
     WANT(zimgasol_loader_read(loader, 0, 0, pages, sizeof pages) == ZIMGASOL_DONE);
-    WANT(pages[0] == 0 && memcmp(pages, pages + 1, 2 * PAGE - 1) == 0 && pages[2 * PAGE] == 3 && pages[2 * PAGE + 1] == 7 && pages[3 * PAGE - 1] == 7);
+    WANT(pages[0] == 0 && memcmp(pages, pages + 1, 2 * PAGE - 1) == 0 && pages[2 * PAGE] == 3 &&
+        pages[2 * PAGE + 1] == 7 && pages[3 * PAGE - 1] == 7);
     memset(pages, 0xEE, sizeof pages);
-    WANT(zimgasol_loader_read(loader, 0, 1, pages, 2 * PAGE) == ZIMGASOL_DONE && pages[PAGE - 1] == 0 && pages[PAGE] == 3 && pages[2 * PAGE] == 0xEE);
-    WANT(zimgasol_loader_read(loader, 0, 1, pages, 3 * PAGE) == ZIMGASOL_NO_PAGE && zimgasol_loader_read(loader, 0, 4, pages, 0) == ZIMGASOL_NO_PAGE);
-    WANT(zimgasol_loader_read(loader, 0, UINT64_MAX, pages, PAGE) == ZIMGASOL_NO_PAGE && zimgasol_loader_read(loader, 2, 0, pages, PAGE) == ZIMGASOL_NO_PAGE);
-    WANT(zimgasol_loader_read(loader, 0, 1, pages, PAGE + 1) == ZIMGASOL_BAD_LENGTH && zimgasol_loader_read(loader, 0, 3, pages, 0) == ZIMGASOL_DONE);
+    WANT(zimgasol_loader_read(loader, 0, 1, pages, 2 * PAGE) == ZIMGASOL_DONE &&
+        pages[PAGE - 1] == 0 && pages[PAGE] == 3 && pages[2 * PAGE] == 0xEE);
+    WANT(zimgasol_loader_read(loader, 0, 1, pages, 3 * PAGE) == ZIMGASOL_NO_PAGE &&
+        zimgasol_loader_read(loader, 0, 4, pages, 0) == ZIMGASOL_NO_PAGE);
+    WANT(zimgasol_loader_read(loader, 0, UINT64_MAX, pages, PAGE) == ZIMGASOL_NO_PAGE &&
+        zimgasol_loader_read(loader, 2, 0, pages, PAGE) == ZIMGASOL_NO_PAGE);
+    WANT(zimgasol_loader_read(loader, 0, 1, pages, PAGE + 1) == ZIMGASOL_BAD_LENGTH &&
+        zimgasol_loader_read(loader, 0, 3, pages, 0) == ZIMGASOL_DONE);
     WANT(pages[PAGE - 1] == 0 && pages[PAGE] == 3 && pages[2 * PAGE] == 0xEE);
     WANT(zimgasol_loader_next_nonzero(loader, 0, 0, &at) == ZIMGASOL_DONE && at == 2);
     WANT(zimgasol_loader_next_nonzero(loader, 0, 2, &at) == ZIMGASOL_DONE && at == 2);
     at = 77;
-    WANT(zimgasol_loader_next_nonzero(loader, 0, 3, &at) == ZIMGASOL_NO_PAGE && zimgasol_loader_next_nonzero(loader, 0, UINT64_MAX, &at) == ZIMGASOL_NO_PAGE);
-    WANT(zimgasol_loader_next_nonzero(loader, 1, 0, &at) == ZIMGASOL_NO_PAGE && zimgasol_loader_next_nonzero(loader, 2, 0, &at) == ZIMGASOL_NO_PAGE && at == 77);
+    WANT(zimgasol_loader_next_nonzero(loader, 0, 3, &at) == ZIMGASOL_NO_PAGE &&
+        zimgasol_loader_next_nonzero(loader, 0, UINT64_MAX, &at) == ZIMGASOL_NO_PAGE);
+    WANT(zimgasol_loader_next_nonzero(loader, 1, 0, &at) == ZIMGASOL_NO_PAGE &&
+        zimgasol_loader_next_nonzero(loader, 2, 0, &at) == ZIMGASOL_NO_PAGE && at == 77);
 }
 
 static void load(size_t cut) {
@@ -109,17 +123,19 @@ static void load(size_t cut) {
         uint32_t status = zimgasol_loader_feed(&loader, text + at, len);
         if (status == ZIMGASOL_NO_MEMORY) status = zimgasol_loader_feed(&loader, text + at, len);
         if (status == ZIMGASOL_WAITS) {
-            WANT(zimgasol_loader_verdict(&loader, &fault) == ZIMGASOL_NO_MEMORY && fault.source == ZIMGASOL_ROUND);
+            WANT(zimgasol_loader_verdict(&loader, &fault) == ZIMGASOL_NO_MEMORY &&
+                fault.source == ZIMGASOL_ROUND);
             WANT(zimgasol_loader_blocks(&loader) == 0);
             status = zimgasol_loader_settle(&loader);
         }
         WANT(status == ZIMGASOL_DONE);
-        if (at == 0 && len < text_len)
-        {
+        if (at == 0 && len < text_len) {
             uint64_t none = 7;
             if (zimgasol_loader_blocks(&loader) == 0)
-                WANT(zimgasol_loader_next_nonzero(&loader, 0, 0, &none) == ZIMGASOL_NO_PAGE && zimgasol_loader_read(&loader, 0, 0, page, 0) == ZIMGASOL_NO_PAGE);
-            WANT(zimgasol_loader_verdict(&loader, &fault) == ZIMGASOL_RUNNING && fault.number == ZIMGASOL_RUNNING);
+                WANT(zimgasol_loader_next_nonzero(&loader, 0, 0, &none) == ZIMGASOL_NO_PAGE &&
+                    zimgasol_loader_read(&loader, 0, 0, page, 0) == ZIMGASOL_NO_PAGE);
+            WANT(zimgasol_loader_verdict(&loader, &fault) == ZIMGASOL_RUNNING &&
+                fault.number == ZIMGASOL_RUNNING);
             WANT(zimgasol_loader_closed_at(&loader, &none) == ZIMGASOL_RUNNING && none == 7);
         }
     }
@@ -132,9 +148,11 @@ static void load(size_t cut) {
     WANT(zimgasol_loader_rounds(&loader) == 4);
     WANT(zimgasol_loader_blocks(&loader) == 2);
     zimgasol_block block;
-    WANT(zimgasol_loader_block(&loader, 1, &block) == ZIMGASOL_DONE && block.pages == 2 && strcmp((char *)block.id, "pc.ram") == 0);
+    WANT(zimgasol_loader_block(&loader, 1, &block) == ZIMGASOL_DONE && block.pages == 2 &&
+        strcmp((char *)block.id, "pc.ram") == 0);
     WANT(zimgasol_loader_block(&loader, 2, &block) == ZIMGASOL_NO_PAGE);
-    WANT(zimgasol_loader_page(&loader, 0, 2, page, PAGE) == ZIMGASOL_DONE && page[0] == 3 && page[PAGE - 1] == 7);
+    WANT(zimgasol_loader_page(&loader, 0, 2, page, PAGE) == ZIMGASOL_DONE && page[0] == 3 &&
+        page[PAGE - 1] == 7);
     WANT(zimgasol_loader_page(&loader, 1, 1, page, PAGE) == ZIMGASOL_DONE && page[0] == 0);
     WANT(zimgasol_loader_page(&loader, 1, 2, page, PAGE) == ZIMGASOL_NO_PAGE);
     WANT(zimgasol_loader_page(&loader, 1, 1, page, PAGE - 1) == ZIMGASOL_BAD_LENGTH);
@@ -146,7 +164,8 @@ static void load(size_t cut) {
 static uint8_t first_block[3 * PAGE], second_block[2 * PAGE];
 
 static int is_filled(const uint8_t *bytes, size_t len, uint8_t byte) {
-    for (size_t i = 0; i < len; i++) if (bytes[i] != byte) return 0;
+    for (size_t i = 0; i < len; i++)
+        if (bytes[i] != byte) return 0;
     return 1;
 }
 
@@ -161,9 +180,11 @@ static void make_in_place(zimgasol_in_place *load) {
     memset(second_block, 0xEE, sizeof second_block);
 }
 
-/* Feeds the stream, and tries first what isn't to be done. A piece is fed again where nothing had changed. Returns NO_MEMORY where the load has failed. */
+/* Feeds the stream, and tries first what isn't to be done. A piece is fed again where nothing had
+ * changed. Returns NO_MEMORY where the load has failed. */
 static uint32_t feed_in_place(zimgasol_in_place *load, size_t cut) {
-    zimgasol_buffer blocks[2] = {{first_block, sizeof first_block}, {second_block, sizeof second_block}};
+    zimgasol_buffer blocks[2] = {{first_block, sizeof first_block},
+        {second_block, sizeof second_block}};
     zimgasol_fault fault;
     for (size_t at = 0; at < text_len; at += cut) {
         size_t len = text_len - at < cut ? text_len - at : cut;
@@ -176,9 +197,11 @@ static uint32_t feed_in_place(zimgasol_in_place *load, size_t cut) {
         if (status == ZIMGASOL_NO_MEMORY) {
             WANT(refusals == 1);
             if (zimgasol_in_place_verdict(load, &fault) == ZIMGASOL_NO_MEMORY) {
-                WANT(fault.source == ZIMGASOL_ROUND && fault.round == zimgasol_in_place_rounds(load));
+                WANT(fault.source == ZIMGASOL_ROUND &&
+                    fault.round == zimgasol_in_place_rounds(load));
                 /* it has failed for good, and only counts */
-                WANT(zimgasol_in_place_feed(load, blocks, 2, text, 1) == ZIMGASOL_DONE && zimgasol_in_place_fed(load) == at + len + 1);
+                WANT(zimgasol_in_place_feed(load, blocks, 2, text, 1) == ZIMGASOL_DONE &&
+                    zimgasol_in_place_fed(load) == at + len + 1);
                 WANT(zimgasol_in_place_verdict(load, &fault) == ZIMGASOL_NO_MEMORY);
                 return status;
             }
@@ -186,36 +209,42 @@ static uint32_t feed_in_place(zimgasol_in_place *load, size_t cut) {
             status = zimgasol_in_place_feed(load, blocks, 2, text + at, len);
         }
         WANT(status == ZIMGASOL_DONE && zimgasol_in_place_fed(load) == at + len);
-        WANT(blocks[0].bytes == first_block && blocks[1].bytes == second_block && blocks[0].len == sizeof first_block && blocks[1].len == sizeof second_block);
+        WANT(blocks[0].bytes == first_block && blocks[1].bytes == second_block &&
+            blocks[0].len == sizeof first_block && blocks[1].len == sizeof second_block);
     }
     zimgasol_in_place_end(load);
     WANT(zimgasol_in_place_feed(load, blocks, 0, text, 1) == ZIMGASOL_IS_OVER);
     return ZIMGASOL_DONE;
 }
 
-/* Reads each page into its block, as from a socket in two parts, and feeds what stands between them. What isn't to be done is tried first.
- * Returns NO_MEMORY where the load has failed. */
+/* Reads each page into its block, as from a socket in two parts, and feeds what stands between
+ * them. What isn't to be done is tried first. Returns NO_MEMORY where the load has failed. */
 static uint32_t read_in_place(zimgasol_in_place *load) {
-    zimgasol_buffer blocks[2] = {{first_block, sizeof first_block}, {second_block, sizeof second_block}};
+    zimgasol_buffer blocks[2] = {{first_block, sizeof first_block},
+        {second_block, sizeof second_block}};
     zimgasol_next next;
     zimgasol_fault fault;
     size_t at = 0, pages = 0;
     while (zimgasol_in_place_wanted(load, &next)) {
-        WANT(at < text_len && next.len > 0 && next.len <= text_len - at && zimgasol_in_place_fed(load) == at);
+        WANT(at < text_len && next.len > 0 && next.len <= text_len - at &&
+            zimgasol_in_place_fed(load) == at);
         if (!next.is_page) {
-            WANT(next.block == 0 && next.offset == 0 && zimgasol_in_place_page_read(load, blocks, 2) == ZIMGASOL_OUT_OF_TURN);
+            WANT(next.block == 0 && next.offset == 0 &&
+                zimgasol_in_place_page_read(load, blocks, 2) == ZIMGASOL_OUT_OF_TURN);
             uint32_t status = zimgasol_in_place_feed(load, blocks, 2, text + at, next.len);
             if (status == ZIMGASOL_NO_MEMORY) {
                 WANT(refusals == 1);
                 if (zimgasol_in_place_verdict(load, &fault) == ZIMGASOL_NO_MEMORY) {
-                    WANT(!zimgasol_in_place_wanted(load, &next) && zimgasol_in_place_page_read(load, blocks, 2) == ZIMGASOL_OUT_OF_TURN);
+                    WANT(!zimgasol_in_place_wanted(load, &next) &&
+                        zimgasol_in_place_page_read(load, blocks, 2) == ZIMGASOL_OUT_OF_TURN);
                     return status;
                 }
                 status = zimgasol_in_place_feed(load, blocks, 2, text + at, next.len);
             }
             WANT(status == ZIMGASOL_DONE);
         } else {
-            WANT(next.len == PAGE && next.block < 2 && next.offset % PAGE == 0 && next.offset + PAGE <= blocks[next.block].len);
+            WANT(next.len == PAGE && next.block < 2 && next.offset % PAGE == 0 &&
+                next.offset + PAGE <= blocks[next.block].len);
             memcpy(blocks[next.block].bytes + next.offset, text + at, 100);
             WANT(zimgasol_in_place_page_read(load, blocks, 1) == ZIMGASOL_BAD_LENGTH);
             memcpy(blocks[next.block].bytes + next.offset + 100, text + at + 100, PAGE - 100);
@@ -232,7 +261,8 @@ static uint32_t read_in_place(zimgasol_in_place *load) {
     return ZIMGASOL_DONE;
 }
 
-/* Loads into blocks, in pieces of `cut` bytes or, where that is 0, by what comes next. A load that has failed is made again, with blocks as they were at first. */
+/* Loads into blocks, in pieces of `cut` bytes or, where that is 0, by what comes next. A load that
+ * has failed is made again, with blocks as they were at first. */
 static void load_in_place(size_t cut) {
     zimgasol_in_place load = {0};
     zimgasol_fault fault;
@@ -245,29 +275,39 @@ static void load_in_place(size_t cut) {
         WANT((cut > 0 ? feed_in_place(&load, cut) : read_in_place(&load)) == ZIMGASOL_DONE);
     }
     WANT(zimgasol_in_place_closed_at(&load, &at) == ZIMGASOL_DONE && at == text_len);
-    WANT(zimgasol_in_place_verdict(&load, &fault) == ZIMGASOL_DONE && fault.number == 0 && zimgasol_in_place_rounds(&load) == 4);
+    WANT(zimgasol_in_place_verdict(&load, &fault) == ZIMGASOL_DONE && fault.number == 0 &&
+        zimgasol_in_place_rounds(&load) == 4);
     zimgasol_in_place_free(&load);
     WANT(load.at == NULL);
-    WANT(is_filled(first_block, 2 * PAGE, 0xEE) && first_block[2 * PAGE] == 3 && is_filled(first_block + 2 * PAGE + 1, PAGE - 1, 7));
+    WANT(is_filled(first_block, 2 * PAGE, 0xEE) && first_block[2 * PAGE] == 3 &&
+        is_filled(first_block + 2 * PAGE + 1, PAGE - 1, 7));
     WANT(is_filled(second_block, PAGE, 0) && is_filled(second_block + PAGE, PAGE, 0xEE));
 }
 
-/* A stream that is cut amid its first round: its page is there, and no section after START is complete. */
+/* A stream that is cut amid its first round: its page is there, and no section after START is
+ * complete. */
 static void cut_in_place(void) {
     zimgasol_in_place load = {0};
-    zimgasol_buffer blocks[2] = {{first_block, sizeof first_block}, {second_block, sizeof second_block}};
+    zimgasol_buffer blocks[2] = {{first_block, sizeof first_block},
+        {second_block, sizeof second_block}};
     zimgasol_fault fault;
     size_t page_end = 0;
     make_in_place(&load);
-    while (first_block[2 * PAGE] != 1) AGAIN(zimgasol_in_place_feed(&load, blocks, 2, text + page_end++, 1));
-    WANT(is_filled(first_block, 2 * PAGE, 0xEE) && is_filled(first_block + 2 * PAGE + 1, PAGE - 1, 7) && is_filled(second_block, 2 * PAGE, 0xEE));
-    WANT(zimgasol_in_place_verdict(&load, &fault) == ZIMGASOL_RUNNING && fault.round == 1 && zimgasol_in_place_rounds(&load) == 1);
+    while (first_block[2 * PAGE] != 1)
+        AGAIN(zimgasol_in_place_feed(&load, blocks, 2, text + page_end++, 1));
+    WANT(is_filled(first_block, 2 * PAGE, 0xEE) &&
+        is_filled(first_block + 2 * PAGE + 1, PAGE - 1, 7) &&
+        is_filled(second_block, 2 * PAGE, 0xEE));
+    WANT(zimgasol_in_place_verdict(&load, &fault) == ZIMGASOL_RUNNING && fault.round == 1 &&
+        zimgasol_in_place_rounds(&load) == 1);
     zimgasol_in_place_end(&load);
-    WANT(zimgasol_in_place_verdict(&load, &fault) == ZIMGASOL_STREAM_TRUNCATED && fault.round == 1 && first_block[2 * PAGE] == 1);
+    WANT(zimgasol_in_place_verdict(&load, &fault) == ZIMGASOL_STREAM_TRUNCATED &&
+        fault.round == 1 && first_block[2 * PAGE] == 1);
     zimgasol_in_place_free(&load);
 }
 
-/* The main stream of a round of a block of two pages, which may be records of zeros on it, and its channel. */
+/* The main stream of a round of a block of two pages, which may be records of zeros on it, and its
+ * channel. */
 static void put_be(uint64_t number, int bytes) {
     while (bytes-- > 0) main_text[main_len++] = (uint8_t)(number >> 8 * bytes);
 }
@@ -276,9 +316,12 @@ static void put_main_with(int zero_pages) {
     main_len = 0;
     put_be(0x5145564D, 4), put_be(3, 4);
     put_be(1, 1), put_be(1, 4), put_be(3, 1), put_be(0x72616D, 3), put_be(0, 4), put_be(4, 4);
-    put_be(2 * PAGE | 4, 8), put_be(1, 1), put_be('a', 1), put_be(2 * PAGE, 8), put_be(0x10, 8), put_be(0x7E, 1), put_be(1, 4);
+    put_be(2 * PAGE | 4, 8), put_be(1, 1), put_be('a', 1), put_be(2 * PAGE, 8), put_be(0x10, 8),
+        put_be(0x7E, 1), put_be(1, 4);
     put_be(2, 1), put_be(1, 4);
-    if (zero_pages) put_be(2, 8), put_be(1, 1), put_be('a', 1), put_be(0, 1), put_be(PAGE | 0x22, 8), put_be(0, 1);
+    if (zero_pages)
+        put_be(2, 8), put_be(1, 1), put_be('a', 1), put_be(0, 1), put_be(PAGE | 0x22, 8),
+            put_be(0, 1);
     put_be(0x200, 8), put_be(0x10, 8), put_be(0x7E, 1), put_be(1, 4);
     put_be(3, 1), put_be(1, 4), put_be(0x10, 8), put_be(0x7E, 1), put_be(1, 4), put_be(0, 1);
 }
@@ -295,14 +338,19 @@ static void put_channel(void) {
     AGAIN(zimgasol_hello(uuid, 16, 0, channel_text, 64));
     channel_len = 64;
     fill(9, 0);
-    AGAIN(zimgasol_put_packet(PAGE, 0, false, (const uint8_t *)"a", 1, normal, 1, page, PAGE, zero, 1, channel_text + channel_len, MOST - channel_len, &written));
+    AGAIN(zimgasol_put_packet(PAGE, 0, false, (const uint8_t *)"a", 1, normal, 1, page, PAGE, zero,
+        1, channel_text + channel_len, MOST - channel_len, &written));
     channel_len += written;
-    AGAIN(zimgasol_put_packet(PAGE, 1, true, (const uint8_t *)"", 0, normal, 0, page, 0, zero, 0, channel_text + channel_len, MOST - channel_len, &written));
+    AGAIN(zimgasol_put_packet(PAGE, 1, true, (const uint8_t *)"", 0, normal, 0, page, 0, zero, 0,
+        channel_text + channel_len, MOST - channel_len, &written));
     channel_len += written;
     WANT(channel_len == 6848);
-    WANT(zimgasol_put_packet(PAGE, 1, true, (const uint8_t *)"", 0, normal, 0, page, 0, zero, 0, channel_text, 10, &written) != ZIMGASOL_DONE);
-    WANT(zimgasol_put_packet(4095, 1, true, (const uint8_t *)"", 0, normal, 0, page, 0, zero, 0, channel_text, 10, &written) == ZIMGASOL_BAD_PAGE_SIZE);
-    WANT(zimgasol_hello(uuid, 15, 0, page, 64) == ZIMGASOL_BAD_LENGTH && zimgasol_hello(uuid, 16, 0, page, 63) == ZIMGASOL_BAD_LENGTH);
+    WANT(zimgasol_put_packet(PAGE, 1, true, (const uint8_t *)"", 0, normal, 0, page, 0, zero, 0,
+             channel_text, 10, &written) != ZIMGASOL_DONE);
+    WANT(zimgasol_put_packet(4095, 1, true, (const uint8_t *)"", 0, normal, 0, page, 0, zero, 0,
+             channel_text, 10, &written) == ZIMGASOL_BAD_PAGE_SIZE);
+    WANT(zimgasol_hello(uuid, 15, 0, page, 64) == ZIMGASOL_BAD_LENGTH &&
+        zimgasol_hello(uuid, 16, 0, page, 63) == ZIMGASOL_BAD_LENGTH);
 }
 
 /* Feeds both texts in turn. Answers the status that was refused, or DONE. */
@@ -310,15 +358,18 @@ static uint32_t feed_session(zimgasol_session *session, size_t cut) {
     uint32_t found = ZIMGASOL_DONE;
     for (size_t at = 0; at < main_len || at < channel_len; at += cut) {
         if (at < channel_len) {
-            uint32_t status = zimgasol_session_feed(session, ZIMGASOL_CHANNEL(0), channel_text + at, channel_len - at < cut ? channel_len - at : cut);
+            uint32_t status = zimgasol_session_feed(session, ZIMGASOL_CHANNEL(0), channel_text + at,
+                channel_len - at < cut ? channel_len - at : cut);
             if (status != ZIMGASOL_DONE) found = status;
         }
         if (at < main_len) {
-            uint32_t status = zimgasol_session_feed(session, ZIMGASOL_MAIN, main_text + at, main_len - at < cut ? main_len - at : cut);
+            uint32_t status = zimgasol_session_feed(session, ZIMGASOL_MAIN, main_text + at,
+                main_len - at < cut ? main_len - at : cut);
             if (status != ZIMGASOL_DONE) found = status;
         }
     }
-    WANT(zimgasol_session_end(session, ZIMGASOL_MAIN) == ZIMGASOL_DONE && zimgasol_session_end(session, ZIMGASOL_CHANNEL(0)) == ZIMGASOL_DONE);
+    WANT(zimgasol_session_end(session, ZIMGASOL_MAIN) == ZIMGASOL_DONE &&
+        zimgasol_session_end(session, ZIMGASOL_CHANNEL(0)) == ZIMGASOL_DONE);
     WANT(zimgasol_session_end(session, ZIMGASOL_CHANNEL(1)) == ZIMGASOL_BAD_SOURCE);
     return found;
 }
@@ -331,35 +382,44 @@ static void load_several(size_t cut) {
     WANT(zimgasol_session_verdict(&session, &fault) == ZIMGASOL_RUNNING);
     uint32_t found = feed_session(&session, cut);
     if (found == ZIMGASOL_NO_MEMORY) {
-        WANT(refusals == 1 && zimgasol_session_verdict(&session, &fault) == ZIMGASOL_NO_MEMORY && fault.source == ZIMGASOL_ROUND);
+        WANT(refusals == 1 && zimgasol_session_verdict(&session, &fault) == ZIMGASOL_NO_MEMORY &&
+            fault.source == ZIMGASOL_ROUND);
         zimgasol_session_free(&session);
         AGAIN(zimgasol_session_new(&session, PAGE, uuid, 16, 1, 1 << 20, ZIMGASOL_FRAME_RAM));
         found = feed_session(&session, cut);
     }
-    WANT(found == ZIMGASOL_DONE && zimgasol_session_verdict(&session, &fault) == ZIMGASOL_DONE && fault.number == 0);
-    WANT(zimgasol_session_feed(&session, ZIMGASOL_MAIN, page, 1) == ZIMGASOL_IS_OVER && zimgasol_session_feed(&session, 2, page, 1) == ZIMGASOL_BAD_SOURCE);
+    WANT(found == ZIMGASOL_DONE && zimgasol_session_verdict(&session, &fault) == ZIMGASOL_DONE &&
+        fault.number == 0);
+    WANT(zimgasol_session_feed(&session, ZIMGASOL_MAIN, page, 1) == ZIMGASOL_IS_OVER &&
+        zimgasol_session_feed(&session, 2, page, 1) == ZIMGASOL_BAD_SOURCE);
     WANT(zimgasol_session_rounds(&session) == 1 && zimgasol_session_blocks(&session) == 1);
     zimgasol_block block;
-    WANT(zimgasol_session_block(&session, 0, &block) == ZIMGASOL_DONE && block.pages == 2 && block.id[0] == 'a' && block.id[1] == 0);
-    WANT(zimgasol_session_page(&session, 0, 1, page, PAGE) == ZIMGASOL_DONE && page[0] == 9 && page[1] == 0);
+    WANT(zimgasol_session_block(&session, 0, &block) == ZIMGASOL_DONE && block.pages == 2 &&
+        block.id[0] == 'a' && block.id[1] == 0);
+    WANT(zimgasol_session_page(&session, 0, 1, page, PAGE) == ZIMGASOL_DONE && page[0] == 9 &&
+        page[1] == 0);
     uint64_t at = 7;
     memset(page, 0xEE, PAGE);
     WANT(zimgasol_session_next_nonzero(&session, 0, 0, &at) == ZIMGASOL_DONE && at == 1);
-    WANT(zimgasol_session_read(&session, 0, 1, page, PAGE) == ZIMGASOL_DONE && page[0] == 9 && page[1] == 0 && page[PAGE - 1] == 0);
-    WANT(zimgasol_session_next_nonzero(&session, 0, 2, &at) == ZIMGASOL_NO_PAGE && zimgasol_session_read(&session, 0, 2, page, PAGE) == ZIMGASOL_NO_PAGE);
+    WANT(zimgasol_session_read(&session, 0, 1, page, PAGE) == ZIMGASOL_DONE && page[0] == 9 &&
+        page[1] == 0 && page[PAGE - 1] == 0);
+    WANT(zimgasol_session_next_nonzero(&session, 0, 2, &at) == ZIMGASOL_NO_PAGE &&
+        zimgasol_session_read(&session, 0, 2, page, PAGE) == ZIMGASOL_NO_PAGE);
     WANT(zimgasol_session_read(&session, 0, 0, page, 7) == ZIMGASOL_BAD_LENGTH);
     zimgasol_session_free(&session);
 }
 
-/* Each section of the stream has two page records: with a limit of one, the second one of the first round is at fault. It begins after START, the head of
- * the section, and a record with its own head, an id and a page. */
+/* Each section of the stream has two page records: with a limit of one, the second one of the first
+ * round is at fault. It begins after START, the head of the section, and a record with its own
+ * head, an id and a page. */
 static void limit_one_stream(uint64_t waiting) {
     static const uint64_t second = 71 + 5 + 8 + 2 + PAGE;
     static const char words[] = "64, stream: too many records wait, after 1 rounds, at byte 4182";
     zimgasol_settings settings = {.waiting = waiting};
     zimgasol_loader loader = {0};
     zimgasol_in_place load = {0};
-    zimgasol_buffer blocks[2] = {{first_block, sizeof first_block}, {second_block, sizeof second_block}};
+    zimgasol_buffer blocks[2] = {{first_block, sizeof first_block},
+        {second_block, sizeof second_block}};
     zimgasol_block named[2] = {{.id = "a", .pages = 3}, {.id = "pc.ram", .pages = 2}};
     zimgasol_table table = {0};
     zimgasol_fault fault;
@@ -370,32 +430,41 @@ static void limit_one_stream(uint64_t waiting) {
     AGAIN(zimgasol_table_new(&table, PAGE, named, 2, &entry));
     AGAIN(zimgasol_in_place_new_within(&load, &table, &settings));
     zimgasol_table_free(&table);
-    WANT(zimgasol_loader_feed(&loader, text, text_len) == ZIMGASOL_DONE && zimgasol_in_place_feed(&load, blocks, 2, text, text_len) == ZIMGASOL_DONE);
+    WANT(zimgasol_loader_feed(&loader, text, text_len) == ZIMGASOL_DONE &&
+        zimgasol_in_place_feed(&load, blocks, 2, text, text_len) == ZIMGASOL_DONE);
     uint32_t wanted = waiting == 1 ? ZIMGASOL_STREAM_WAITING : ZIMGASOL_DONE;
     uint64_t valid = waiting == 1 ? second : text_len;
-    WANT(zimgasol_loader_verdict(&loader, &fault) == wanted && zimgasol_loader_valid_up_to(&loader) == valid);
-    WANT(zimgasol_in_place_verdict(&load, &fault) == wanted && zimgasol_in_place_valid_up_to(&load, &at) && at == valid);
+    WANT(zimgasol_loader_verdict(&loader, &fault) == wanted &&
+        zimgasol_loader_valid_up_to(&loader) == valid);
+    WANT(zimgasol_in_place_verdict(&load, &fault) == wanted &&
+        zimgasol_in_place_valid_up_to(&load, &at) && at == valid);
     if (waiting == 1) {
         WANT(fault.round == 1 && fault.source == ZIMGASOL_MAIN);
-        WANT(zimgasol_fault_text_at(&fault, at, told, sizeof told) == (int)strlen(words) && strcmp(told, words) == 0);
-        WANT(zimgasol_fault_text_at(&fault, at, few, sizeof few) == (int)strlen(words) && strncmp(few, words, 9) == 0 && few[9] == 0);
-        WANT(zimgasol_fault_text_at(&fault, at, told, strlen(words)) == (int)strlen(words) && strncmp(told, words, strlen(words) - 1) == 0);
+        WANT(zimgasol_fault_text_at(&fault, at, told, sizeof told) == (int)strlen(words) &&
+            strcmp(told, words) == 0);
+        WANT(zimgasol_fault_text_at(&fault, at, few, sizeof few) == (int)strlen(words) &&
+            strncmp(few, words, 9) == 0 && few[9] == 0);
+        WANT(zimgasol_fault_text_at(&fault, at, told, strlen(words)) == (int)strlen(words) &&
+            strncmp(told, words, strlen(words) - 1) == 0);
     }
     zimgasol_loader_free(&loader);
     zimgasol_in_place_free(&load);
     settings.frame = (zimgasol_frame)2;
-    WANT(zimgasol_loader_new_within(&loader, PAGE, 1 << 20, &settings) == ZIMGASOL_BAD_FRAME && loader.full == 0);
+    WANT(zimgasol_loader_new_within(&loader, PAGE, 1 << 20, &settings) == ZIMGASOL_BAD_FRAME &&
+        loader.full == 0);
     /* of a stream of another table it isn't known how much is valid */
     make_in_place(&load);
     text[71 - 13 - 8 - 6]++;
-    WANT(zimgasol_in_place_feed(&load, blocks, 2, text, text_len) == ZIMGASOL_DONE && zimgasol_in_place_verdict(&load, &fault) == ZIMGASOL_OTHER_TABLE);
+    WANT(zimgasol_in_place_feed(&load, blocks, 2, text, text_len) == ZIMGASOL_DONE &&
+        zimgasol_in_place_verdict(&load, &fault) == ZIMGASOL_OTHER_TABLE);
     text[71 - 13 - 8 - 6]--;
     at = 7;
     WANT(!zimgasol_in_place_valid_up_to(&load, &at) && at == 7);
     zimgasol_in_place_free(&load);
 }
 
-/* The main stream of a round has two records of zero pages, and the channel a SYNC packet alone: with a limit of one the second record is at fault. */
+/* The main stream of a round has two records of zero pages, and the channel a SYNC packet alone:
+ * with a limit of one the second record is at fault. */
 static void limit_channels(uint64_t waiting) {
     static const uint8_t uuid[16] = {1, 2, 3};
     static const uint64_t none[1] = {0};
@@ -405,22 +474,29 @@ static void limit_channels(uint64_t waiting) {
     uint64_t at = 7;
     put_main_with(1);
     AGAIN(zimgasol_hello(uuid, 16, 0, channel_text, 64));
-    AGAIN(zimgasol_put_packet(PAGE, 0, true, (const uint8_t *)"", 0, none, 0, page, 0, none, 0, channel_text + 64, MOST - 64, &channel_len));
+    AGAIN(zimgasol_put_packet(PAGE, 0, true, (const uint8_t *)"", 0, none, 0, page, 0, none, 0,
+        channel_text + 64, MOST - 64, &channel_len));
     channel_len += 64;
     AGAIN(zimgasol_session_new_within(&session, PAGE, uuid, 16, 1, 1 << 20, &settings));
     WANT(zimgasol_session_closed_at(&session, &at) == ZIMGASOL_RUNNING && at == 7);
     WANT(feed_session(&session, MOST) == ZIMGASOL_DONE);
-    WANT(zimgasol_session_verdict(&session, &fault) == (waiting == 1 ? ZIMGASOL_STREAM_WAITING : ZIMGASOL_DONE));
-    WANT(zimgasol_session_valid_up_to(&session, ZIMGASOL_MAIN, &at) && at == (waiting == 1 ? 56 + 5 + 11 : main_len));
+    WANT(zimgasol_session_verdict(&session, &fault) ==
+        (waiting == 1 ? ZIMGASOL_STREAM_WAITING : ZIMGASOL_DONE));
+    WANT(zimgasol_session_valid_up_to(&session, ZIMGASOL_MAIN, &at) &&
+        at == (waiting == 1 ? 56 + 5 + 11 : main_len));
     at = 7;
-    WANT(zimgasol_session_closed_at(&session, &at) == (waiting == 1 ? ZIMGASOL_RUNNING : ZIMGASOL_DONE) && at == (waiting == 1 ? 7 : main_len));
+    WANT(zimgasol_session_closed_at(&session, &at) ==
+            (waiting == 1 ? ZIMGASOL_RUNNING : ZIMGASOL_DONE) &&
+        at == (waiting == 1 ? 7 : main_len));
     at = 7;
-    WANT(!zimgasol_session_valid_up_to(&session, ZIMGASOL_CHANNEL(1), &at) && !zimgasol_session_valid_up_to(&session, ZIMGASOL_ROUND, &at) && at == 7);
+    WANT(!zimgasol_session_valid_up_to(&session, ZIMGASOL_CHANNEL(1), &at) &&
+        !zimgasol_session_valid_up_to(&session, ZIMGASOL_ROUND, &at) && at == 7);
     zimgasol_session_free(&session);
     put_main();
 }
 
-/* The magic of a channel's second packet is wrong: the hello has 64 bytes, and the first packet 1,344 and a page. */
+/* The magic of a channel's second packet is wrong: the hello has 64 bytes, and the first packet
+ * 1,344 and a page. */
 static void wrong_packet(void) {
     static const uint8_t uuid[16] = {1, 2, 3};
     static const uint64_t second = 64 + 1344 + PAGE;
@@ -431,7 +507,8 @@ static void wrong_packet(void) {
     channel_text[second]++;
     AGAIN(zimgasol_session_new(&session, PAGE, uuid, 16, 1, 1 << 20, ZIMGASOL_FRAME_RAM));
     WANT(feed_session(&session, MOST) == ZIMGASOL_DONE);
-    WANT(zimgasol_session_verdict(&session, &fault) == ZIMGASOL_CHANNEL_PACKET_MAGIC && fault.source == ZIMGASOL_CHANNEL(0));
+    WANT(zimgasol_session_verdict(&session, &fault) == ZIMGASOL_CHANNEL_PACKET_MAGIC &&
+        fault.source == ZIMGASOL_CHANNEL(0));
     WANT(zimgasol_session_valid_up_to(&session, fault.source, &at) && at == second);
     zimgasol_session_free(&session);
 }
@@ -453,21 +530,38 @@ static void misuse(void) {
     blocks[0].pages = 1ull << 60;
     WANT(zimgasol_table_new(&table, PAGE, blocks, 1, &entry) == ZIMGASOL_TOO_LARGE);
     memset(blocks[0].id, 'b', 256);
-    WANT(zimgasol_table_new(&table, PAGE, blocks, 1, &entry) == ZIMGASOL_ID && entry == 0 && table.at == NULL);
-    WANT(zimgasol_loader_new(&loader, PAGE, (1ull << 40) + 1, ZIMGASOL_FRAME_RAM) == ZIMGASOL_BAD_LIMIT && zimgasol_loader_new(&loader, 1, 1, ZIMGASOL_FRAME_RAM) == ZIMGASOL_BAD_PAGE_SIZE && zimgasol_loader_new(&loader, PAGE, 1, (zimgasol_frame)2) == ZIMGASOL_BAD_FRAME);
-    WANT(zimgasol_session_new(&session, PAGE, uuid, 16, 0, 1, ZIMGASOL_FRAME_RAM) == ZIMGASOL_BAD_CHANNELS && zimgasol_session_new(&session, PAGE, uuid, 16, 256, 1, ZIMGASOL_FRAME_RAM) == ZIMGASOL_BAD_CHANNELS);
-    WANT(zimgasol_session_new(&session, PAGE, uuid, 15, 1, 1, ZIMGASOL_FRAME_RAM) == ZIMGASOL_BAD_LENGTH && session.at == NULL);
-    WANT(zimgasol_table_new(&table, PAGE, blocks + 1, 1, &entry) == ZIMGASOL_DONE && zimgasol_sender_new(&sender, &table) == ZIMGASOL_DONE);
-    WANT(zimgasol_sender_put_page(&sender, 0, 0, page, PAGE) == ZIMGASOL_OUT_OF_TURN && zimgasol_sender_end_round(&sender) == ZIMGASOL_OUT_OF_TURN);
-    WANT(zimgasol_sender_cancel_round(&sender) == ZIMGASOL_OUT_OF_TURN && zimgasol_sender_begin_round(&sender) == ZIMGASOL_DONE);
-    WANT(zimgasol_sender_begin_round(&sender) == ZIMGASOL_OUT_OF_TURN && zimgasol_sender_finish(&sender) == ZIMGASOL_OUT_OF_TURN);
-    WANT(zimgasol_sender_put_page(&sender, 0, 1, page, PAGE) == ZIMGASOL_NO_PAGE && zimgasol_sender_put_page(&sender, 0, 0, page, 1) == ZIMGASOL_BAD_LENGTH);
+    WANT(zimgasol_table_new(&table, PAGE, blocks, 1, &entry) == ZIMGASOL_ID && entry == 0 &&
+        table.at == NULL);
+    WANT(zimgasol_loader_new(&loader, PAGE, (1ull << 40) + 1, ZIMGASOL_FRAME_RAM) ==
+            ZIMGASOL_BAD_LIMIT &&
+        zimgasol_loader_new(&loader, 1, 1, ZIMGASOL_FRAME_RAM) == ZIMGASOL_BAD_PAGE_SIZE &&
+        zimgasol_loader_new(&loader, PAGE, 1, (zimgasol_frame)2) == ZIMGASOL_BAD_FRAME);
+    WANT(zimgasol_session_new(&session, PAGE, uuid, 16, 0, 1, ZIMGASOL_FRAME_RAM) ==
+            ZIMGASOL_BAD_CHANNELS &&
+        zimgasol_session_new(&session, PAGE, uuid, 16, 256, 1, ZIMGASOL_FRAME_RAM) ==
+            ZIMGASOL_BAD_CHANNELS);
+    WANT(zimgasol_session_new(&session, PAGE, uuid, 15, 1, 1, ZIMGASOL_FRAME_RAM) ==
+            ZIMGASOL_BAD_LENGTH &&
+        session.at == NULL);
+    WANT(zimgasol_table_new(&table, PAGE, blocks + 1, 1, &entry) == ZIMGASOL_DONE &&
+        zimgasol_sender_new(&sender, &table) == ZIMGASOL_DONE);
+    WANT(zimgasol_sender_put_page(&sender, 0, 0, page, PAGE) == ZIMGASOL_OUT_OF_TURN &&
+        zimgasol_sender_end_round(&sender) == ZIMGASOL_OUT_OF_TURN);
+    WANT(zimgasol_sender_cancel_round(&sender) == ZIMGASOL_OUT_OF_TURN &&
+        zimgasol_sender_begin_round(&sender) == ZIMGASOL_DONE);
+    WANT(zimgasol_sender_begin_round(&sender) == ZIMGASOL_OUT_OF_TURN &&
+        zimgasol_sender_finish(&sender) == ZIMGASOL_OUT_OF_TURN);
+    WANT(zimgasol_sender_put_page(&sender, 0, 1, page, PAGE) == ZIMGASOL_NO_PAGE &&
+        zimgasol_sender_put_page(&sender, 0, 0, page, 1) == ZIMGASOL_BAD_LENGTH);
     zimgasol_sender_free(&sender);
     static const uint8_t long_name[1025] = {'m'};
-    WANT(zimgasol_sender_new_named(&sender, &table, long_name, 1025) == ZIMGASOL_BAD_LENGTH && sender.at == NULL);
-    WANT(zimgasol_sender_new_named(&sender, &table, long_name, 1024) == ZIMGASOL_DONE && zimgasol_sender_waiting(&sender) == 8 + 5 + 1024);
+    WANT(zimgasol_sender_new_named(&sender, &table, long_name, 1025) == ZIMGASOL_BAD_LENGTH &&
+        sender.at == NULL);
+    WANT(zimgasol_sender_new_named(&sender, &table, long_name, 1024) == ZIMGASOL_DONE &&
+        zimgasol_sender_waiting(&sender) == 8 + 5 + 1024);
     zimgasol_sender_free(&sender);
-    WANT(zimgasol_sender_new_named(&sender, &table, long_name, 0) == ZIMGASOL_DONE && zimgasol_sender_waiting(&sender) == 8 + 5);
+    WANT(zimgasol_sender_new_named(&sender, &table, long_name, 0) == ZIMGASOL_DONE &&
+        zimgasol_sender_waiting(&sender) == 8 + 5);
     zimgasol_sender_free(&sender);
     zimgasol_table_free(&table);
     /* once more does nothing */
@@ -477,7 +571,8 @@ static void misuse(void) {
 }
 
 int main(int count, char **words) {
-    long first = count > 1 ? strtol(words[1], NULL, 10) : 0, last = count > 2 ? strtol(words[2], NULL, 10) : 100000, runs = 0, most = 0;
+    long first = count > 1 ? strtol(words[1], NULL, 10) : 0,
+         last = count > 2 ? strtol(words[2], NULL, 10) : 100000, runs = 0, most = 0;
     misuse();
     put_main();
     send();
@@ -501,6 +596,8 @@ int main(int count, char **words) {
         most = counted > most ? counted : most;
         if (refused > 0 && refusals == 0) break;
     }
-    printf("%ld runs of up to %ld allocations, with none refused, then the first, then the second: all answers right, no block left\n", runs, most);
+    printf("%ld runs of up to %ld allocations, with none refused, then the first, then the second: "
+           "all answers right, no block left\n",
+        runs, most);
     return 0;
 }

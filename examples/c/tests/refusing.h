@@ -1,5 +1,5 @@
-/* Has the nth call of malloc or realloc refused, and counts the blocks that are held. A program that
- * includes it is linked with -Wl,--wrap=malloc,--wrap=realloc,--wrap=free. */
+/* Has the nth call of malloc or realloc refused, and counts the blocks that are held. A program
+ * that includes it is linked with -Wl,--wrap=malloc,--wrap=realloc,--wrap=free. */
 #include <stdio.h>
 #include <stdlib.h>
 
@@ -34,7 +34,21 @@ void __wrap_free(void *at) {
     __real_free(at);
 }
 
-#define WANT(test) do { if (!(test)) { printf("refusal %ld: line %d: %s\n", refused, __LINE__, #test); exit(1); } } while (0)
+#define WANT(test)                                                                                 \
+    do {                                                                                           \
+        if (!(test)) {                                                                             \
+            printf("refusal %ld: line %d: %s\n", refused, __LINE__, #test);                        \
+            exit(1);                                                                               \
+        }                                                                                          \
+    } while (0)
 
 /* Makes a call, and makes it again where it was refused. */
-#define AGAIN(call) do { uint32_t status = (call); if (status == ZIMGASOL_NO_MEMORY) { WANT(refusals == 1); status = (call); } WANT(status == ZIMGASOL_DONE); } while (0)
+#define AGAIN(call)                                                                                \
+    do {                                                                                           \
+        uint32_t status = (call);                                                                  \
+        if (status == ZIMGASOL_NO_MEMORY) {                                                        \
+            WANT(refusals == 1);                                                                   \
+            status = (call);                                                                       \
+        }                                                                                          \
+        WANT(status == ZIMGASOL_DONE);                                                             \
+    } while (0)
