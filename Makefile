@@ -41,7 +41,7 @@ header: ## at once | compares include/zimgasol.h with the library's exports
 try: ## at once, after build | runs the built tool in a shell: docs/TOOL.md, pipes, closed streams
 	@tools/try_tool.py
 
-interop: ## minutes, after build | QEMU reads what programs write, and they QEMU's; QEMU='PROGRAM ..'
+interop: ## minutes, after build and program | QEMU reads what programs write, and they QEMU's; QEMU='PROGRAM ..'
 	@tools/interop/interop.py $(if $(QEMU),--qemu '$(QEMU)') $(if $(SUITES),--suites '$(SUITES)')
 
 promises: ## at once | writes docs/contracts from the sources, and draws docs/proof.svg

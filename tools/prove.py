@@ -12,6 +12,7 @@ over all sources, also of functions that CRATE doesn't reach. For these it print
 error[unsupported-theorem] at each of the exports of mig_c, though no proof fails. A line is printed
 for each crate that was proved, and each minute.
 """
+import os
 import shutil
 import subprocess
 import sys
@@ -35,13 +36,16 @@ def wait(name, step):
 
 
 def prove(name, log):
-    """Proves and builds a crate. A program runs on its stored input, and its output is shown."""
+    """Proves and builds a crate. A program runs on its stored words and input, and its output is shown."""
     crate = CRATES / name
     if not is_program(name):
         how = {"stdin": subprocess.DEVNULL, "stdout": log, "stderr": log}
         return wait(name, subprocess.Popen(["rt", "lib"], cwd=crate, **how))
-    with open(crate / "stdin", "rb") as stdin:
-        return wait(name, subprocess.Popen(["rt", "run"], cwd=crate, stdin=stdin, stderr=log))
+    words = crate / "args"
+    command = ["rt", "run", "--", *words.read_text().splitlines()] if words.is_file() else ["rt", "run"]
+    given = crate / "stdin"
+    with open(given if given.is_file() else os.devnull, "rb") as stdin:
+        return wait(name, subprocess.Popen(command, cwd=crate, stdin=stdin, stderr=log))
 
 
 def failed(name, status, text):
