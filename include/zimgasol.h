@@ -13,11 +13,13 @@
  *    It is never written to and never copied; it may be moved, where the old place isn't used any
  *    more. `_new` gets one that is empty, which is one of zeros, or as `_free` or a refused `_new`
  *    left it. `_free` gets any handle of its kind, and does nothing to an empty one. Each other
- *    call gets one whose `_new` returned ZIMGASOL_DONE and that wasn't freed since.
+ *    call gets one whose `_new` returned ZIMGASOL_DONE and that wasn't freed since. A worker's
+ *    `_new` is zimgasol_multi_worker, and a zimgasol_multi_give_back that returns ZIMGASOL_DONE
+ *    empties it.
  *  - Threads. One call at a time works on a handle. A handle may pass to another thread, if a lock,
  *    the start or the join of a thread, or a sequentially consistent atomic orders the calls before
  *    and after. Calls on different handles may run at once, but the table that a `_new` is passed
- *    counts as its handle too. Each call that takes a handle writes to it, also where it only
+ *    is used by that call, too. Each call that takes a handle writes to it, also where it only
  *    reports something, so no handle is passed as `const`.
  *  - Signals and forks. No call is made from a signal handler, nor in the child of a `fork` of a
  *    process with threads.
@@ -26,8 +28,9 @@
  *  - Memory. `malloc`, `realloc` and `free` are one allocator, and each block is aligned to every
  *    power of two up to 16 that divides its size.
  *
- * No call keeps a pointer to a caller's buffer, and none returns a buffer of the library. What was
- * loaded is copied out page by page, or into blocks that the caller passes to each call.
+ * No call keeps a pointer to a caller's buffer, and none returns a buffer of the library, but for
+ * the constant texts of zimgasol_read_status_text. What was loaded is copied out page by page, or
+ * into blocks that the caller passes to each call.
  *
  * The library calls `malloc`, `realloc`, `free` and the functions of <string.h> that move and
  * compare bytes, and nothing else. So no call starts a thread, waits, reads or writes a file, or
@@ -35,9 +38,9 @@
  * with any C function, the system stops a thread that has too little. The library is for x86-64
  * alone, 64 bits, and is built for processors with x86-64-v2 (SSE4.2), which it doesn't check.
  *
- * A call that may be refused returns a status: ZIMGASOL_DONE, the number of a fault (1 to 64, see
+ * A call that may be refused returns a status: ZIMGASOL_DONE, the number of a fault (1 to 65, see
  * docs/FAULTS.md), or one of the numbers from 100 on. After anything but ZIMGASOL_DONE nothing has
- * changed, where nothing else is said.
+ * changed, unless the call says otherwise.
  *
  * Pages that are written meanwhile. The bytes that a call is passed may not change while it runs,
  * since what it promises is said of those bytes. So a page of a guest that runs on is copied to a
@@ -216,7 +219,7 @@ typedef enum zimgasol_status {
     ZIMGASOL_CHANNEL_WAITING = 65,
 
     /* ---- a call, and how a load stands */
-    /* the load goes on: more of a source is needed. No fault */
+    /* no fault. Of a load: more of a source is needed. Of a worker: its channel goes on */
     ZIMGASOL_RUNNING = 100,
     /* a page size other than 4096 and 8192 */
     ZIMGASOL_BAD_PAGE_SIZE = 101,
@@ -234,8 +237,8 @@ typedef enum zimgasol_status {
     ZIMGASOL_NO_PAGE = 107,
     /* a buffer of another length than is needed */
     ZIMGASOL_BAD_LENGTH = 108,
-    /* a call out of turn: a round is open, or none is, or the stream is ended; or a worker isn't
-     * the next one, or hasn't ended */
+    /* a call out of turn: a round is open, or none is, or the stream is ended; a worker isn't the
+     * next one, or hasn't ended; no page comes next (zimgasol_in_place_page_read) */
     ZIMGASOL_OUT_OF_TURN = 109,
     /* more pages than a packet has: 128 of 4096 bytes, 64 of 8192 */
     ZIMGASOL_TOO_MANY_PAGES = 110,
@@ -249,7 +252,8 @@ typedef enum zimgasol_status {
 ZIMGASOL_ASSERT(sizeof(zimgasol_status) == sizeof(uint32_t), "an enum has the size of an int");
 
 /* Where a fault or a piece is: the main stream (or the only one), channel j from 0 on, or, of a
- * fault alone, no one source. */
+ * fault alone, no one source. j numbers the caller's connections: the hello of one may have any id
+ * below their number. */
 #define ZIMGASOL_MAIN 0
 #define ZIMGASOL_CHANNEL(j) (1 + (j))
 #define ZIMGASOL_ROUND UINT64_MAX
@@ -271,8 +275,11 @@ ZIMGASOL_ASSERT(sizeof(zimgasol_frame) == sizeof(uint32_t), "an enum has the siz
  *    stream. One more is the fault STREAM_WAITING. Each channel may have as many packets and pages
  *    together in a round; one more is CHANNEL_WAITING. 0 sets no limit. A loader keeps the pages of
  *    a section until its footer has come, and a session the packets of a round, so this bounds what
- *    a sender can have them keep. Each load tests it, so that all have one result.
- *    Twice the guest's pages and one is enough for who sends each page once in a section or round.
+ *    they keep of an open section or round: some `waiting` pages, and 48 bytes for each. It doesn't
+ *    bound the complete rounds that a session keeps until the other sources have them, nor the
+ *    sections that one piece completes. So pieces are short, and a sender whose `_fed` rises far
+ *    without `_rounds` is given up. Each load tests `waiting`, so that all have one result.
+ *    2 * pages + 1 suffices if each page is sent at most once in a section or round.
  *  - `reserved`: zeros, as room for what may come. */
 typedef struct zimgasol_settings {
     zimgasol_frame frame;
@@ -288,8 +295,9 @@ typedef struct zimgasol_block {
 
 /* Where a load ended, and why: the fault's number, how many rounds (of one stream: sections) were
  * counted before it, its source, and what the fault carries: flags (27, 41), a byte (31), a
- * packet's number (54 to 58, with the number of an offset at 58), or a block and a page (59).
- * `reserved` has zeros, as room for what may come. */
+ * packet's number (54 to 58; at 58 `second` is the index of an offset), or a block and a page (59).
+ * `reserved` has zeros, as room for what may come. With DONE all fields are zeros. With RUNNING
+ * `number` is 100, `round` is how many were counted, and the others are zeros. */
 typedef struct zimgasol_fault {
     uint64_t round;
     uint64_t source;
@@ -341,7 +349,7 @@ typedef struct zimgasol_next {
     uint64_t offset;
 } zimgasol_next;
 
-/* The handles. `full` is 0 where a handle is empty. Its other values are the library's. */
+/* The handles. `full` is 0 if a handle is empty. Its other values, and `at`, are the library's. */
 typedef struct zimgasol_table { void *at; uint64_t full; } zimgasol_table;
 typedef struct zimgasol_loader { void *at; uint64_t full; } zimgasol_loader;
 typedef struct zimgasol_in_place { void *at; uint64_t full; } zimgasol_in_place;
@@ -357,7 +365,8 @@ typedef struct zimgasol_worker { void *at; uint64_t full; } zimgasol_worker;
  * with. */
 ZIMGASOL_API uint32_t zimgasol_version(void);
 
-/* Reports the text of a status in *out, which is a text before, as below. */
+/* Writes the text of a status to *out, which already has one, as zimgasol_status_text gives it. The
+ * text lasts as long as the program. */
 ZIMGASOL_API void zimgasol_read_status_text(uint32_t status, zimgasol_text *out);
 
 /* Returns a few words on a status, for logs; `unknown status` of a number that is none. */
@@ -414,7 +423,7 @@ static inline int zimgasol_fault_text_at(const zimgasol_fault *fault, uint64_t a
 
 /* Makes a table of `count` blocks. Returns DONE, BAD_PAGE_SIZE, NO_MEMORY, or the first thing that
  * is wrong with the blocks, 1 to 6. With 3, 4 and 5 *entry is the number of the block, from 0; with
- * 1, 2, 6 and NO_MEMORY it is 0; else it stays. The blocks stay the caller's. */
+ * 1, 2, 6 and NO_MEMORY it is 0; else it is unchanged. The blocks stay the caller's. */
 ZIMGASOL_API zimgasol_status zimgasol_table_new(zimgasol_table *table, uint64_t page_size,
     const zimgasol_block *blocks, size_t count, size_t *entry);
 
@@ -437,8 +446,8 @@ ZIMGASOL_API zimgasol_status zimgasol_loader_new_within(zimgasol_loader *loader,
  * the memory. The piece may go afterwards. Returns DONE; NO_MEMORY, where nothing has changed and
  * the piece can be fed again; WAITS, where it was taken, and sections wait for memory of the guest,
  * which the next piece and zimgasol_loader_settle ask for again; IS_OVER after zimgasol_loader_end;
- * TOO_LONG. After the end byte, or a fault of the stream's own (11 to 33), its bytes are only
- * counted, and NO_MEMORY doesn't come. */
+ * TOO_LONG. Once the stream is closed or has a fault, bytes are only counted, and NO_MEMORY doesn't
+ * come; WAITS still may. */
 ZIMGASOL_API zimgasol_status zimgasol_loader_feed(zimgasol_loader *loader, const uint8_t *piece,
     size_t len);
 
@@ -446,13 +455,13 @@ ZIMGASOL_API zimgasol_status zimgasol_loader_feed(zimgasol_loader *loader, const
  * none waits, or NO_MEMORY, where they go on waiting. */
 ZIMGASOL_API zimgasol_status zimgasol_loader_settle(zimgasol_loader *loader);
 
-/* The stream is over: no piece is fed from now on. */
+/* Ends the stream: no piece is fed from now on. */
 ZIMGASOL_API void zimgasol_loader_end(zimgasol_loader *loader);
 
-/* Reports the verdict on the stream so far: DONE where its end byte was read; RUNNING where it is
- * whole so far, and STREAM_TRUNCATED (34) in its place after zimgasol_loader_end; else the number
- * of its first fault; NO_MEMORY where sections wait. *found has the same number, with where it
- * is. */
+/* Reports the verdict on the stream so far: DONE if it is closed (its end byte was read, or in the
+ * frame MACHINE the footer of RAM's END); RUNNING if it has no fault so far, and STREAM_TRUNCATED
+ * (34) in its place after zimgasol_loader_end; else the number of its first fault; NO_MEMORY if
+ * sections wait. *found has the same number, with where it is. */
 ZIMGASOL_API zimgasol_status zimgasol_loader_verdict(zimgasol_loader *loader,
     zimgasol_fault *found);
 
@@ -462,14 +471,14 @@ ZIMGASOL_API uint64_t zimgasol_loader_rounds(zimgasol_loader *loader);
 /* Returns how many bytes were fed. */
 ZIMGASOL_API uint64_t zimgasol_loader_fed(zimgasol_loader *loader);
 
-/* Reports in *at how many of the bytes fed the stream has: those up to its end byte. The bytes fed
- * after them are the caller's. Returns DONE, or RUNNING where the stream isn't closed, and *at
- * stays. */
+/* Reports in *at how many of the bytes fed the stream has: those up to its end byte, or in the
+ * frame MACHINE up to the footer of RAM's END. The bytes fed after them are the caller's. Returns
+ * DONE; or RUNNING if the stream isn't closed, and *at is unchanged. */
 ZIMGASOL_API zimgasol_status zimgasol_loader_closed_at(zimgasol_loader *loader, uint64_t *at);
 
 /* Returns how many of the bytes fed are complete items without a fault, from the first byte on. If
- * the verdict is a fault of the stream (11 to 49, 64), the item at fault begins after them: at this
- * byte, counted from 0. */
+ * the verdict is a fault of the stream (11 to 34, 46 to 49, 64), the item at fault begins after
+ * them: at this byte, counted from 0. */
 ZIMGASOL_API uint64_t zimgasol_loader_valid_up_to(zimgasol_loader *loader);
 
 /* Returns how many blocks the guest has: 0 where its memory isn't there yet. */
@@ -512,10 +521,11 @@ ZIMGASOL_API void zimgasol_loader_free(zimgasol_loader *loader);
  * stay after a fault, and where the stream is cut: the guest may run after DONE alone. Where no
  * record writes a page, the block holds what it held at first.
  *
- * That holds where each call gets the blocks as the call before left them. Blocks share no byte
- * with each other, and nobody reads or writes one while a call has it: the guest doesn't run yet. A
- * page that the stream declares as zeros is compared, and isn't written where the block has zeros
- * already, so that fresh pages of private anonymous memory take none of the system's.
+ * That holds if each call gets the blocks as the call before left them, but for a page that
+ * zimgasol_in_place_wanted reported and the caller read. Blocks share no byte with each other, and
+ * nobody reads or writes one while a call has it: the guest doesn't run yet. A page that the stream
+ * declares as zeros is compared, and isn't written where the block has zeros already, so that fresh
+ * pages of private anonymous memory take none of the system's.
  *
  * The stream is to have the table's blocks, the same in the same order: of another one nothing is
  * written, and the verdict is OTHER_TABLE. */
@@ -552,15 +562,17 @@ ZIMGASOL_API zimgasol_status zimgasol_in_place_feed(zimgasol_in_place *in_place,
  *         }
  *     }
  *
- * A page may be read by several calls of `read`: the load is told once all of it is there. Until
- * then it waits for the page's first byte. Where the stream ends before that, the block has a part
- * of the page. Bytes that were read past a page, as by `readv`, are fed after it. Instead of
- * reading a page so, a caller may feed its bytes as any others. */
+ * After the loop zimgasol_in_place_end and zimgasol_in_place_verdict follow: that nothing is wanted
+ * isn't success. A page may be read by several calls of `read`, and zimgasol_in_place_page_read
+ * comes once all of it is there. Until then none of the page counts as fed. If the stream ends
+ * before that, the block has a part of the page. Bytes that were read past a page, as by `readv`,
+ * are fed after it. Instead of reading a page so, a caller may feed its bytes as any others. */
 
 /* Reports in *next what the next bytes of the stream are: those of an item that isn't complete, or
- * the content of a page, which lies within the blocks. Returns whether more of the stream is read:
- * not once it is closed or has a fault, is of another table, or a piece failed for good with
- * NO_MEMORY. Then *next stays. */
+ * the content of a page, which lies within the blocks. Returns whether the stream has more: not
+ * once it is closed or has a fault, is of another table, or a piece failed for good with NO_MEMORY.
+ * Then *next is unchanged. It says nothing of zimgasol_in_place_end, after which no call takes
+ * bytes. */
 ZIMGASOL_API bool zimgasol_in_place_wanted(zimgasol_in_place *in_place, zimgasol_next *next);
 
 /* Takes the page that comes next, whose bytes the caller has read into its block, as those of the
@@ -570,14 +582,13 @@ ZIMGASOL_API bool zimgasol_in_place_wanted(zimgasol_in_place *in_place, zimgasol
 ZIMGASOL_API zimgasol_status zimgasol_in_place_page_read(zimgasol_in_place *in_place,
     const zimgasol_buffer *blocks, size_t count);
 
-/* The stream is over: no piece is fed from now on. Once more changes nothing. */
+/* Ends the stream: no piece is fed from now on. A second call changes nothing. */
 ZIMGASOL_API void zimgasol_in_place_end(zimgasol_in_place *in_place);
 
-/* Reports the verdict on the stream so far: DONE where its end byte was read; RUNNING where it has
- * no fault so far, and STREAM_TRUNCATED (34) in its place after zimgasol_in_place_end; else the
- * number of its first fault; NO_MEMORY for good where a piece failed with it. *found has the same
- * number, with where it is: all zeros with DONE, and with RUNNING the round that
- * zimgasol_in_place_rounds returns. */
+/* Reports the verdict on the stream so far: DONE if it is closed (its end byte was read, or in the
+ * frame MACHINE the footer of RAM's END); RUNNING if it has no fault so far, and STREAM_TRUNCATED
+ * (34) in its place after zimgasol_in_place_end; else the number of its first fault; NO_MEMORY for
+ * good if a piece failed with it. *found has the same number, with where it is. */
 ZIMGASOL_API zimgasol_status zimgasol_in_place_verdict(zimgasol_in_place *in_place,
     zimgasol_fault *found);
 
@@ -590,14 +601,14 @@ ZIMGASOL_API uint64_t zimgasol_in_place_fed(zimgasol_in_place *in_place);
 
 /* Reports in *at how many of the bytes fed the stream has: those up to its end byte, or in the
  * frame MACHINE up to the footer of RAM's END. The bytes fed after them are the caller's. Returns
- * DONE; or RUNNING, and *at stays, where the stream isn't closed: so always with OTHER_TABLE and
+ * DONE; or RUNNING, with *at unchanged, if the stream isn't closed: so always with OTHER_TABLE and
  * NO_MEMORY. */
 ZIMGASOL_API zimgasol_status zimgasol_in_place_closed_at(zimgasol_in_place *in_place,
     uint64_t *at);
 
 /* Reports in *at how many of the bytes fed are complete items without a fault, as
  * zimgasol_loader_valid_up_to does. Returns whether it is known: with OTHER_TABLE and NO_MEMORY it
- * isn't, and *at stays. */
+ * isn't, and *at is unchanged. */
 ZIMGASOL_API bool zimgasol_in_place_valid_up_to(zimgasol_in_place *in_place, uint64_t *at);
 
 /* Frees it. The blocks stay the caller's. */
@@ -624,33 +635,39 @@ ZIMGASOL_API zimgasol_status zimgasol_session_new_within(zimgasol_session *sessi
 ZIMGASOL_API zimgasol_status zimgasol_session_feed(zimgasol_session *session, size_t source,
     const uint8_t *piece, size_t len);
 
-/* A source is over. Returns DONE or BAD_SOURCE. */
+/* Ends a source: no piece of it is fed from now on. Returns DONE or BAD_SOURCE. */
 ZIMGASOL_API zimgasol_status zimgasol_session_end(zimgasol_session *session, size_t source);
 
 /* Reports how the load stands on what came so far: DONE, RUNNING, or the number of the fault of the
  * first round that doesn't pass. *found has the same number, with where it is. A verdict other than
- * RUNNING stays, whatever is fed. */
+ * RUNNING stays, whatever is fed.
+ *
+ * DONE needs the main stream closed, and every channel ended after as many rounds. RUNNING stays as
+ * long as any source may have more of the round, also if another one has a fault already: the fault
+ * that is reported doesn't depend on which bytes come first. To have it at once, end the sources
+ * that stall. They may be at fault then, too: the main stream's fault is reported before those of
+ * channels, and these in their order. */
 ZIMGASOL_API zimgasol_status zimgasol_session_verdict(zimgasol_session *session,
     zimgasol_fault *found);
 
-/* Returns how many bytes of a source were fed: 0 where there is no such source. */
+/* Returns how many bytes of a source were fed; 0 if there is no such source. */
 ZIMGASOL_API uint64_t zimgasol_session_fed(zimgasol_session *session, size_t source);
 
 /* Reports in *at how many of the bytes fed the main stream has, as zimgasol_loader_closed_at does
- * of a stream. Returns DONE; or RUNNING, and *at stays, where it isn't closed, or wasn't before the
- * verdict was there, and after NO_MEMORY. */
+ * of a stream. Returns DONE; or RUNNING, with *at unchanged, if it isn't closed, or was closed only
+ * after the verdict, and after NO_MEMORY. */
 ZIMGASOL_API zimgasol_status zimgasol_session_closed_at(zimgasol_session *session, uint64_t *at);
 
 /* Reports in *at how many of a source's bytes are complete items without a fault, from the first
- * byte on. If the verdict is a fault of that source (11 to 45, 46 to 49, 64), the item at fault
- * begins after them: at this byte, counted from 0. The other faults are of several sources, or of a
- * round, and of no item. Returns whether it is known: not where there is no such source, as
- * ZIMGASOL_ROUND, nor after NO_MEMORY, and then *at stays. What is fed once the verdict is there
- * isn't read, so it isn't counted. */
+ * byte on. If the verdict is a fault of that source (11 to 49, 64, 65), the item at fault begins
+ * after them: at this byte, counted from 0. The other faults are of several sources, or of a round,
+ * and of no item. Returns whether it is known: not if there is no such source, as ZIMGASOL_ROUND,
+ * nor after NO_MEMORY, and then *at is unchanged. What is fed once the verdict is there isn't read,
+ * so it isn't counted. */
 ZIMGASOL_API bool zimgasol_session_valid_up_to(zimgasol_session *session, size_t source,
     uint64_t *at);
 
-/* As those of a loader. */
+/* As those of a loader, but that _rounds counts rounds alone: START and END are none. */
 ZIMGASOL_API uint64_t zimgasol_session_rounds(zimgasol_session *session);
 ZIMGASOL_API size_t zimgasol_session_blocks(zimgasol_session *session);
 ZIMGASOL_API zimgasol_status zimgasol_session_block(zimgasol_session *session, size_t i,
@@ -669,21 +686,25 @@ ZIMGASOL_API void zimgasol_session_free(zimgasol_session *session);
  *      come
  *
  * The caller has a buffer for each block of a table, as for a zimgasol_in_place, and passes all of
- * them to each call that feeds. No second guest is held, and no round is kept: a page is written
- * when its bytes have come. So between two rounds, and at DONE, the blocks have all rounds that are
- * counted, on top of what they held at first. Within a round they may hold anything at the places
- * that the round names. After a fault that is so of the round that failed, so the guest may not run
- * then. Each call gets the blocks as the call before left them; nobody reads or writes one while a
- * call has it.
+ * them to each call that feeds. No second guest is held, and no round is kept: a page of a channel
+ * is written when its bytes have come. What is kept is a packet's head and a page of each channel,
+ * 8 bytes for each packet of the round, and the main stream's page records, which few senders
+ * write. So between two rounds, and at DONE, the blocks have all rounds that are counted, on top of
+ * what they held at first. Within a round they may hold anything at the places that the round
+ * names. After a fault that is so of the round that failed, so the guest may not run then. Each
+ * call gets the blocks as the call before left them; nobody reads or writes one while a call has
+ * it.
  *
- * A source takes bytes up to the end of the round in hand. What follows waits with the caller until
- * all sources have the round, and it was judged: a _feed that takes fewer bytes than it is passed
- * leaves the rest, which is fed again once _takes returns true for the source. So for each source
- * the caller keeps what wasn't taken, and goes round:
+ * A channel takes bytes up to the end of the current round. What follows waits with the caller
+ * until all sources have the round, and it was judged: a _feed that takes fewer bytes than it is
+ * passed leaves the rest, which is fed again once _takes returns true for the channel. The main
+ * stream takes all of a piece or nothing. So for each source the caller keeps what wasn't taken,
+ * and goes round until the verdict isn't RUNNING (examples/c/channels.c):
  *
  *     for (size_t source = 0; source <= channels; source++)
  *         if (zimgasol_in_place_session_takes(&load, source))
- *             feed what waits of it, or read more
+ *             feed what waits of it, or read more; if its connection has ended and nothing waits,
+ *             zimgasol_in_place_session_end(&load, source)
  *
  * Of a channel only the hello is taken before the main stream's table is known. Verdict and rounds
  * are those of a zimgasol_session of the bytes taken, but that a stream of another table is refused
@@ -702,33 +723,34 @@ ZIMGASOL_API zimgasol_status zimgasol_in_place_session_new_within(
     size_t uuid_len, size_t channels, const zimgasol_settings *settings);
 
 /* Takes the first bytes of a piece of a source, ZIMGASOL_MAIN or ZIMGASOL_CHANNEL(j), and writes
- * their pages into the blocks, of which there are `count`, in the table's order. *taken is how
- * many bytes it took: with DONE all, or fewer, as above; else 0. The array `blocks` stays as it
- * is. Returns DONE, also where the verdict is there and no byte is taken; BAD_SOURCE, IS_OVER,
- * TOO_LONG, or BAD_LENGTH (the blocks aren't the table's), where nothing has changed; NO_MEMORY,
- * where the verdict is NO_MEMORY and the load has failed for good, or else nothing has changed,
- * and the piece can be fed again. */
+ * their pages into the blocks, of which there are `count`, in the table's order. *taken is how many
+ * bytes it took: with DONE all, or fewer, as above; else 0. (Where the load has failed for good
+ * with NO_MEMORY, bytes of the piece may be written, and _fed counts them.) The array `blocks`
+ * stays as it is. Returns DONE, also where the verdict is there and no byte is taken; BAD_SOURCE,
+ * IS_OVER, TOO_LONG, or BAD_LENGTH (the blocks aren't the table's), where nothing has changed;
+ * NO_MEMORY, where the verdict is NO_MEMORY and the load has failed for good, or else nothing has
+ * changed, and the piece can be fed again. */
 ZIMGASOL_API zimgasol_status zimgasol_in_place_session_feed(zimgasol_in_place_session *session,
     zimgasol_buffer *blocks, size_t count, size_t source, const uint8_t *piece, size_t len,
     size_t *taken);
 
-/* Returns whether bytes of a source are taken now: not once the verdict is there, nor of a source
- * that there isn't, that has the round in hand, that is closed or has a fault. */
+/* Returns whether bytes of a source are taken now. They aren't once the verdict is there; nor if
+ * the source doesn't exist, has all of the current round, is closed or has a fault; nor of a
+ * channel after its hello, before the main stream's table is known. */
 ZIMGASOL_API bool zimgasol_in_place_session_takes(zimgasol_in_place_session *session,
     size_t source);
 
-/* A source is over, and all of its bytes were taken. Returns DONE or BAD_SOURCE. Once more changes
+/* Ends a source, all of whose bytes were taken. Returns DONE or BAD_SOURCE. A second call changes
  * nothing. */
 ZIMGASOL_API zimgasol_status zimgasol_in_place_session_end(zimgasol_in_place_session *session,
     size_t source);
 
-/* Returns how many bytes of a source were taken: 0 where there is no such source. */
+/* Returns how many bytes of a source were taken; 0 if there is no such source. */
 ZIMGASOL_API uint64_t zimgasol_in_place_session_fed(zimgasol_in_place_session *session,
     size_t source);
 
-/* Reports how the load stands on the bytes taken: DONE, RUNNING, or the number of the fault of the
- * first round that doesn't pass. *found has the same number, with where it is. A verdict other than
- * RUNNING stays. */
+/* Reports how the load stands on the bytes taken, as zimgasol_session_verdict does: DONE, RUNNING,
+ * or the number of the fault of the first round that doesn't pass. */
 ZIMGASOL_API zimgasol_status zimgasol_in_place_session_verdict(zimgasol_in_place_session *session,
     zimgasol_fault *found);
 
@@ -737,7 +759,7 @@ ZIMGASOL_API uint64_t zimgasol_in_place_session_rounds(zimgasol_in_place_session
 
 /* Reports in *at how many of the bytes taken the main stream has: those up to its end byte, or in
  * the frame MACHINE up to the footer of RAM's END. The bytes taken after them are the caller's.
- * Returns DONE; or RUNNING, and *at stays, where it isn't closed, and after NO_MEMORY. */
+ * Returns DONE; or RUNNING, with *at unchanged, if it isn't closed, and after NO_MEMORY. */
 ZIMGASOL_API zimgasol_status zimgasol_in_place_session_closed_at(
     zimgasol_in_place_session *session, uint64_t *at);
 
@@ -753,7 +775,8 @@ ZIMGASOL_API void zimgasol_in_place_session_free(zimgasol_in_place_session *sess
  *      runs on
  *
  * The pages of a round wait in memory until it is ended and drained, so a round of few pages takes
- * little: 64 to 256 pages a round cost the least time and memory. */
+ * little: 64 to 256 pages a round cost the least time and memory. A round that is begun before
+ * those ended were drained adds to them. */
 
 /* Makes a sender of a table, of which it keeps a copy. Returns DONE or NO_MEMORY. */
 ZIMGASOL_API zimgasol_status zimgasol_sender_new(zimgasol_sender *sender, zimgasol_table *table);
@@ -790,10 +813,10 @@ ZIMGASOL_API zimgasol_status zimgasol_sender_finish(zimgasol_sender *sender);
  * zimgasol_sender_finish. */
 ZIMGASOL_API zimgasol_status zimgasol_sender_finish_open(zimgasol_sender *sender);
 
-/* Copies the next bytes of the stream to `out`, at most `len`, and returns how many: 0 where none
- * waits. What it gives, piece after piece, is the stream. Where it returns 0 to a buffer with room,
+/* Copies the next bytes of the stream to `out`, at most `len`, and returns how many; 0 if none
+ * waits. What it gives, piece after piece, is the stream. If it returns 0 to a buffer with room,
  * all was given: between two rounds the opening section and all rounds that were ended, and after
- * zimgasol_sender_finish or _finish_open the whole stream, with its end byte or without. While a
+ * zimgasol_sender_finish or _finish_open the complete stream, with its end byte or without. While a
  * round is open it may return 0 though bytes of the rounds before wait, which come once that one is
  * ended or cancelled. */
 ZIMGASOL_API size_t zimgasol_sender_drain(zimgasol_sender *sender, uint8_t *out, size_t len);
@@ -806,8 +829,8 @@ ZIMGASOL_API size_t zimgasol_sender_drain(zimgasol_sender *sender, uint8_t *out,
 ZIMGASOL_API size_t zimgasol_sender_peek(zimgasol_sender *sender, uint8_t *out, size_t len);
 ZIMGASOL_API size_t zimgasol_sender_skip(zimgasol_sender *sender, size_t len);
 
-/* Returns how many bytes a _peek gives to a buffer with room for all: 0 exactly where none waits.
- * More may follow once these have gone. */
+/* Returns how many bytes a _peek gives to a buffer with room for all; 0 exactly if it gives none.
+ * More may follow once these have gone, and while a round is open once that one has ended. */
 ZIMGASOL_API size_t zimgasol_sender_waiting(zimgasol_sender *sender);
 
 /* Frees it, with what wasn't drained. */
@@ -825,8 +848,8 @@ ZIMGASOL_API void zimgasol_sender_free(zimgasol_sender *sender);
  *     zimgasol_multi_begin_round(&multi, dirty, count);
  *     for each channel: zimgasol_multi_worker(&multi, &workers[j]);
  *     on a thread for each worker:
- *         while ((status = zimgasol_worker_step(&worker, blocks, block_count)) == ZIMGASOL_RUNNING)
- *             while ((len = zimgasol_worker_drain(&worker, out, sizeof out)) > 0) send(out, len);
+ *         while ((status = zimgasol_worker_step(&workers[j], blocks, n)) == ZIMGASOL_RUNNING)
+ *             while ((len = zimgasol_worker_drain(&workers[j], out, sizeof out)) > 0) send them
  *         and drained once more
  *     for each channel, in order: zimgasol_multi_give_back(&multi, &workers[j]);
  *     zimgasol_multi_end_round(&multi);
@@ -842,7 +865,7 @@ ZIMGASOL_API void zimgasol_sender_free(zimgasol_sender *sender);
  * or come twice, but not another guest's pages. */
 
 /* Makes a sender of a table, of which it keeps a copy, on 1 to 255 channels under a UUID of 16
- * bytes, with at most `limit` pages to a packet (128 pages of 4096 bytes, 64 of 8192). Returns
+ * bytes, with at most `limit` pages to a packet (1 to 128 of 4096 bytes, 1 to 64 of 8192). Returns
  * DONE, BAD_LENGTH (of the UUID), CHANNELS, BATCH_LIMIT or NO_MEMORY. */
 ZIMGASOL_API zimgasol_status zimgasol_multi_new(zimgasol_multi *multi, zimgasol_table *table,
     const uint8_t *uuid, size_t uuid_len, size_t channels, size_t limit);
@@ -855,8 +878,8 @@ ZIMGASOL_API zimgasol_status zimgasol_multi_new_named(zimgasol_multi *multi,
     zimgasol_table *table, const uint8_t *uuid, size_t uuid_len, size_t channels, size_t limit,
     const uint8_t *name, size_t name_len);
 
-/* Begins a round of `count` dirty pages, in any order, of which each counts once. Returns DONE,
- * OUT_OF_TURN where a round is open or the streams are ended, NO_PAGE where the table lacks one of
+/* Begins a round of `count` dirty pages, 0 too, in any order, of which each counts once. Returns
+ * DONE, OUT_OF_TURN if a round is open or the streams are ended, NO_PAGE if the table lacks one of
  * them, or NO_MEMORY. */
 ZIMGASOL_API zimgasol_status zimgasol_multi_begin_round(zimgasol_multi *multi,
     const zimgasol_place *dirty, size_t count);
@@ -897,12 +920,13 @@ ZIMGASOL_API zimgasol_status zimgasol_multi_finish(zimgasol_multi *multi);
 ZIMGASOL_API zimgasol_status zimgasol_multi_finish_open(zimgasol_multi *multi);
 
 /* Copies the next bytes of the main stream to `out`, at most `len`, and returns how many, as
- * zimgasol_sender_drain does: 0 where none waits. */
+ * zimgasol_sender_drain does; 0 if none waits. There is no peek: the caller keeps what its socket
+ * didn't take. */
 ZIMGASOL_API size_t zimgasol_multi_drain(zimgasol_multi *multi, uint8_t *out, size_t len);
 
 /* Once the streams are ended, copies the next bytes that are left of a channel to `out`, and
- * returns how many: 0 where none is left. Only what no worker was drained of is left, as the
- * hellos where no round was sent. Before the end it returns 0. */
+ * returns how many; 0 if none is left. Left are those that no worker's drain gave, as the hellos if
+ * no round was sent. Before the end it returns 0. */
 ZIMGASOL_API size_t zimgasol_multi_drain_channel(zimgasol_multi *multi, size_t channel,
     uint8_t *out, size_t len);
 
@@ -919,8 +943,9 @@ ZIMGASOL_API zimgasol_status zimgasol_worker_step(zimgasol_worker *worker,
 
 /* The two calls below are zimgasol_worker_step in two halves, for a guest that runs on: the caller
  * copies the pages of one packet to a buffer of its own, between the two. Of a page that is written
- * meanwhile the copy may be torn, as above: the mark goes before the copy begins, so that the page
- * is sent again. A worker may take some packets by _step and others so. */
+ * meanwhile the copy may be torn, as above: clear its mark before the copy begins, so that a write
+ * sets it again, and the page is sent again. A worker may take some packets by _step and others
+ * so. */
 
 /* Reports in *batch which pages the next packet of the worker has. The packet isn't written yet:
  * until zimgasol_worker_pack, or a _step, has written it, each call reports the same pages. Where
@@ -933,13 +958,13 @@ ZIMGASOL_API zimgasol_status zimgasol_worker_next(zimgasol_worker *worker,
 /* Writes the packet of the batch that zimgasol_worker_next reported into the worker's channel.
  * `pages` has the contents of its pages, one after another, in the batch's order. Returns RUNNING;
  * NO_MEMORY, where nothing was written and the next call writes the packet; OUT_OF_TURN, where no
- * batch was reported, or its packet is written; or BAD_LENGTH, where `len` isn't that of as many
- * pages. */
+ * batch is drawn, or its packet is written (a _step that returned NO_MEMORY has drawn one); or
+ * BAD_LENGTH, where `len` isn't that of as many pages. */
 ZIMGASOL_API zimgasol_status zimgasol_worker_pack(zimgasol_worker *worker, const uint8_t *pages,
     size_t len);
 
-/* Copies the next bytes of the worker's channel to `out`, at most `len`, and returns how many: 0
- * where none waits. */
+/* Copies the next bytes of the worker's channel to `out`, at most `len`, and returns how many; 0 if
+ * none waits. There is no peek: the caller keeps what its socket didn't take. */
 ZIMGASOL_API size_t zimgasol_worker_drain(zimgasol_worker *worker, uint8_t *out, size_t len);
 
 /* Returns the number of the worker's channel, from 0. */

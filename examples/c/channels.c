@@ -46,28 +46,25 @@ static _Atomic bool is_running;
 static void check(zimgasol_status status, const char *call) {
     if (status == ZIMGASOL_DONE) return;
     fprintf(stderr, "%s: %s\n", call, zimgasol_status_text(status));
-    exit(3);
+    _Exit(3); /* other threads may run */
 }
 
 static void *taken(void *at, const char *what) {
     if (at != NULL) return at;
     perror(what);
-    exit(3);
+    _Exit(3);
 }
 
 static void send_all(int to, const uint8_t *bytes, size_t len) {
     while (len > 0) {
         ssize_t sent = write(to, bytes, len);
-        if (sent < 0) {
-            perror("write");
-            exit(3);
-        }
+        if (sent < 0) taken(NULL, "write");
         bytes += sent;
         len -= (size_t)sent;
     }
 }
 
-/* The guest: marks a page, and writes a word of it. */
+/* The guest: writes a word, and then marks its page. */
 static void *write_guest(void *arg) {
     uint64_t seed = 1;
     while (atomic_load(&is_running)) {
@@ -89,8 +86,8 @@ static size_t list_dirty(zimgasol_place *dirty) {
     return count;
 }
 
-/* Copies the pages of a packet. A page's mark goes before its copy begins: where it is written from
- * then on it is marked again, and so comes in the next round, too. */
+/* Copies the pages of a packet. A page's mark is cleared before its copy begins: if it is written
+ * from then on it is marked again, and so comes in the next round, too. */
 static void copy_pages(const zimgasol_batch *batch, uint64_t *copy) {
     struct ram *r = &rams[batch->block];
     for (size_t i = 0; i < batch->count; i++) {
@@ -160,7 +157,8 @@ static void send_round(zimgasol_multi *multi, const zimgasol_place *dirty, size_
     drain_main(multi);
 }
 
-/* The loader: reads whatever source has bytes that are taken now, and keeps what wasn't taken. */
+/* The loader: reads whatever source has bytes that are taken now, and keeps what wasn't taken.
+ * After a fault nothing is taken any more. */
 static void *load(void *table) {
     static uint8_t kept[1 + MOST][PIECE];
     size_t from[1 + MOST] = {0}, to[1 + MOST] = {0}, open = 1 + channels;
@@ -172,7 +170,7 @@ static void *load(void *table) {
         into[b] = (zimgasol_buffer){rams[b].loaded, rams[b].pages * PAGE};
     check(zimgasol_in_place_session_new(&session, table, uuid, 16, channels, ZIMGASOL_FRAME_RAM),
         "in_place_session_new");
-    while (open > 0) {
+    while (open > 0 && zimgasol_in_place_session_verdict(&session, &fault) == ZIMGASOL_RUNNING) {
         bool moved = false;
         for (size_t s = 0; s <= channels; s++) {
             size_t count = 0;
@@ -186,17 +184,11 @@ static void *load(void *table) {
         if (moved) continue;
         for (size_t s = 0; s <= channels; s++)
             polled[s] = (struct pollfd){from[s] == to[s] ? sockets[s][1] : -1, POLLIN, 0};
-        if (poll(polled, 1 + channels, -1) < 0) {
-            perror("poll");
-            exit(3);
-        }
+        if (poll(polled, 1 + channels, -1) < 0) taken(NULL, "poll");
         for (size_t s = 0; s <= channels; s++) {
             if (polled[s].revents == 0) continue;
             ssize_t len = read(sockets[s][1], kept[s], PIECE);
-            if (len < 0) {
-                perror("read");
-                exit(3);
-            }
+            if (len < 0) taken(NULL, "read");
             from[s] = 0;
             to[s] = (size_t)len;
             if (len > 0) continue;

@@ -13,6 +13,9 @@
  */
 #define _GNU_SOURCE
 #include "zimgasol.h"
+#include <errno.h>
+#include <fcntl.h>
+#include <poll.h>
 #include <pthread.h>
 #include <signal.h>
 #include <stdatomic.h>
@@ -47,11 +50,15 @@ static double now(void) {
     return at.tv_sec * 1e3 + at.tv_nsec / 1e6;
 }
 
+static void give_up(const char *what) {
+    perror(what);
+    _Exit(3); /* other threads may run */
+}
+
 static void *mapped(size_t len) {
     void *at = mmap(NULL, len, PROT_READ | PROT_WRITE, MAP_PRIVATE | MAP_ANONYMOUS, -1, 0);
-    if (at != MAP_FAILED) return at;
-    perror("mmap");
-    exit(3);
+    if (at == MAP_FAILED) give_up("mmap");
+    return at;
 }
 
 static uint8_t *bytes_of(const ram *r) {
@@ -121,10 +128,20 @@ static void fill_guest(machine *m) {
 
 /* ---- the sender */
 
+/* Writes some of the bytes. Waits if the socket takes none now. Returns how many, or -1. */
+static ssize_t write_some(int socket, const uint8_t *bytes, size_t len) {
+    for (;;) {
+        ssize_t count = write(socket, bytes, len);
+        if (count >= 0 || (errno != EAGAIN && errno != EINTR)) return count;
+        struct pollfd writable = {socket, POLLOUT, 0};
+        if (errno == EAGAIN) poll(&writable, 1, -1);
+    }
+}
+
 static int write_all(int socket, const uint8_t *bytes, size_t len) {
     while (len > 0) {
-        ssize_t count = write(socket, bytes, len);
-        if (count <= 0) return 0;
+        ssize_t count = write_some(socket, bytes, len);
+        if (count < 0) return 0;
         bytes += count;
         len -= (size_t)count;
     }
@@ -135,8 +152,8 @@ static int drain(zimgasol_sender *sender, int socket) {
     uint8_t out[PIECE];
     size_t len;
     while ((len = zimgasol_sender_peek(sender, out, sizeof out)) > 0) {
-        ssize_t count = write(socket, out, len);
-        if (count <= 0) return 0;
+        ssize_t count = write_some(socket, out, len);
+        if (count < 0) return 0;
         /* as many as were taken; the others come again */
         zimgasol_sender_skip(sender, (size_t)count);
     }
@@ -160,7 +177,7 @@ static long send_section(zimgasol_sender *sender, machine *m, size_t *b, uint64_
         for (; *page < r->pages; ++*page) {
             if (sent == most) return zimgasol_sender_end_round(sender) == ZIMGASOL_DONE ? sent : -1;
             if (!atomic_load_explicit(&r->dirty[*page], memory_order_relaxed)) continue;
-            /* the mark goes before the copy begins: what is written from here on sets it again */
+            /* cleared before the copy begins: what is written from here on sets it again */
             if (!atomic_exchange(&r->dirty[*page], 0)) continue;
             copy_page(r, *page, copy);
             if (zimgasol_sender_put_page(sender, *b, *page, (uint8_t *)copy, PAGE) != ZIMGASOL_DONE)
@@ -249,12 +266,13 @@ static void *receive(void *given) {
     for (size_t b = 0; b < BLOCKS; b++)
         blocks[b] = (zimgasol_buffer){bytes_of(&r->m.rams[b]), r->m.rams[b].pages * PAGE};
     r->status = zimgasol_in_place_new(&load, r->table, ZIMGASOL_FRAME_RAM);
-    if (r->status != ZIMGASOL_DONE) return NULL;
-    r->status = (r->straight ? read_pages : feed_pieces)(&load, blocks, r->socket);
-    zimgasol_in_place_end(&load);
-    if (r->status == ZIMGASOL_DONE) r->status = zimgasol_in_place_verdict(&load, &fault);
-    r->sections = zimgasol_in_place_rounds(&load);
-    zimgasol_in_place_free(&load);
+    if (r->status == ZIMGASOL_DONE) {
+        r->status = (r->straight ? read_pages : feed_pieces)(&load, blocks, r->socket);
+        zimgasol_in_place_end(&load);
+        if (r->status == ZIMGASOL_DONE) r->status = zimgasol_in_place_verdict(&load, &fault);
+        r->sections = zimgasol_in_place_rounds(&load);
+        zimgasol_in_place_free(&load);
+    }
     /* where it gave up early the sender's next write fails */
     close(r->socket);
     return NULL;
@@ -276,13 +294,14 @@ static int migrate(machine *m, receiver *r, zimgasol_table *sent_table, zimgasol
     pthread_t guest, loader;
     zimgasol_sender sender = {0};
     if (zimgasol_sender_new(&sender, sent_table) != ZIMGASOL_DONE) return 3;
-    if (socketpair(AF_UNIX, SOCK_STREAM, 0, sockets) != 0) return 3;
+    if (socketpair(AF_UNIX, SOCK_STREAM, 0, sockets) != 0) give_up("socketpair");
+    if (fcntl(sockets[0], F_SETFL, O_NONBLOCK) != 0) give_up("fcntl");
     r->socket = sockets[1];
     r->table = table;
     atomic_store(&is_running, true);
     double began = now(), stopped = began;
-    if (pthread_create(&loader, NULL, receive, r) != 0) return 3;
-    if (pthread_create(&guest, NULL, run_guest, m) != 0) return 3;
+    if (pthread_create(&loader, NULL, receive, r) != 0) give_up("thread");
+    if (pthread_create(&guest, NULL, run_guest, m) != 0) give_up("thread");
     long sent = send_guest(m, &sender, sockets[0], most, guest, &stopped);
     close(sockets[0]);
     pthread_join(loader, NULL);
@@ -337,11 +356,12 @@ static double measured(machine *m, uint64_t mib, zimgasol_table *table, zimgasol
     int sockets[2];
     pthread_t reader;
     receiver r = {.table = loaded, .straight = straight};
-    if (socketpair(AF_UNIX, SOCK_STREAM, 0, sockets) != 0) return -1;
+    if (socketpair(AF_UNIX, SOCK_STREAM, 0, sockets) != 0) give_up("socketpair");
     make_machine(&r.m, mib);
     r.socket = sockets[1];
     double began = now();
-    if (pthread_create(&reader, NULL, table == NULL ? read_plain : receive, &r) != 0) return -1;
+    if (pthread_create(&reader, NULL, table == NULL ? read_plain : receive, &r) != 0)
+        give_up("thread");
     int done =
         table == NULL ? write_plain(m, sockets[0]) : write_by_library(m, table, sockets[0], most);
     close(sockets[0]);

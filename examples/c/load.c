@@ -31,7 +31,8 @@ static long long feed_input(zimgasol_loader *loader, size_t cut) {
     }
     while ((len = fread(piece, 1, cut, stdin)) > 0) {
         uint32_t status = zimgasol_loader_feed(loader, piece, len);
-        if (status != ZIMGASOL_DONE) {
+        /* WAITS: it was taken, and the next piece asks for the guest's memory again */
+        if (status != ZIMGASOL_DONE && status != ZIMGASOL_WAITS) {
             fprintf(stderr, "a piece was refused: %s\n", zimgasol_status_text(status));
             free(piece);
             return -1;
@@ -117,7 +118,7 @@ int main(int count, char **words) {
         status = 3;
     }
     if (is_loaded && output != NULL && !write_memory(&loader, page_size, output)) {
-        perror(output);
+        fprintf(stderr, "%s: can't be written\n", output);
         status = 3;
     }
     zimgasol_loader_free(&loader);

@@ -38,7 +38,7 @@ static int read_page(const source *from, uint64_t number) {
     uint64_t left = from->len - number * from->page_size;
     size_t len = left < from->page_size ? (size_t)left : from->page_size;
     if (fread(from->page, 1, len, from->file) != len) {
-        perror("the file can't be read to its end");
+        fprintf(stderr, "the file can't be read to its end\n");
         return 0;
     }
     memset(from->page + len, 0, from->page_size - len);
