@@ -20,6 +20,7 @@ import re
 import shutil
 import subprocess
 import sys
+import tempfile
 
 TOP = pathlib.Path(__file__).resolve().parent.parent
 OUT = TOP / "out/c"
@@ -709,6 +710,16 @@ def channels():
     subprocess.run([OUT / "channels", "-m", "64", "-t"], check=True, stdout=subprocess.DEVNULL)
 
 
+def next_buffer():
+    """Pages are read from a file in memory straight into their block: the times, beside plain reads."""
+    pages = 16384
+    with tempfile.TemporaryDirectory(dir="/dev/shm") as folder:
+        memory, stream = pathlib.Path(folder, "memory"), pathlib.Path(folder, "stream")
+        memory.write_bytes(os.urandom(pages * 4096))
+        stream.write_bytes(run(OUT / "send", "-n", 64, memory))
+        return run(OUT / "next_buffer", stream, pages).decode().strip()
+
+
 def version_and_texts(library):
     """The library has the header's version, and a text for each of its statuses and no other number up to 200."""
     header = (TOP / "include/zimgasol.h").read_text()
@@ -772,6 +783,7 @@ def main():
     build("channels", "examples/c/channels.c", "-pthread")
     build("channels_asan", "examples/c/channels.c", "-pthread", "-fsanitize=address,undefined")
     build("channel_calls", "examples/c/tests/channels.c")
+    build("next_buffer", "examples/c/tests/next_buffer.c")
     build("send_failing", "examples/c/send.c", TOP / "examples/c/tests/failing_read.c", "-Wl,--wrap=fread")
     build("refused", "examples/c/tests/refused.c", REFUSING)
     build("channels_refused", "examples/c/tests/channels_refused.c", REFUSING)
@@ -795,6 +807,7 @@ def main():
     print("a guest migrated while it ran: no page differs")
     channels()
     print("a guest migrated while it ran, on several channels: no page differs")
+    print(f"64 MiB of pages read straight into their block: {next_buffer()}")
     print(from_rust())
     sys.exit(1 if rows.wrong else 0)
 
