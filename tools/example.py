@@ -720,6 +720,29 @@ def next_buffer():
         return run(OUT / "next_buffer", stream, pages).decode().strip()
 
 
+def held(library):
+    """What a load into blocks takes beside a guest of 64 MiB: of one stream, and of a main stream and 4 channels."""
+    pages, texts = 16384, Texts(library)
+    content = os.urandom(pages * 4096)
+    guest = Guest()
+    guest.blocks, guest.rounds = [(pages, b"pc.ram")], [None]
+    channels = [texts.hello(j) for j in range(4)]
+    for number, at in enumerate(range(0, pages, 128)):
+        bytes_of = content[at * 4096:(at + 128) * 4096]
+        channels[number % 4] += texts.packet(4096, number, False, b"pc.ram", [4096 * page for page in range(at, at + 128)], bytes_of, [])
+    with tempfile.TemporaryDirectory(dir="/dev/shm") as folder:
+        memory, stream, main = (pathlib.Path(folder, name) for name in ("memory", "stream", "main"))
+        memory.write_bytes(content)
+        stream.write_bytes(run(OUT / "send", "-n", 64, memory))
+        main.write_bytes(main_stream(guest))
+        files = []
+        for j, text in enumerate(channels):
+            files.append(pathlib.Path(folder, str(j)))
+            files[j].write_bytes(text + texts.packet(4096, pages // 128 + j, True, b"", [], b"", []))
+        one, several = run(OUT / "held", pages, stream), run(OUT / "held", pages, main, *files)
+        return f"{one.decode().strip()} from one stream; {several.decode().strip()} from 4 channels"
+
+
 def version_and_texts(library):
     """The library has the header's version, and a text for each of its statuses and no other number up to 200."""
     header = (TOP / "include/zimgasol.h").read_text()
@@ -784,6 +807,7 @@ def main():
     build("channels_asan", "examples/c/channels.c", "-pthread", "-fsanitize=address,undefined")
     build("channel_calls", "examples/c/tests/channels.c")
     build("next_buffer", "examples/c/tests/next_buffer.c")
+    build("held", "examples/c/tests/held.c")
     build("send_failing", "examples/c/send.c", TOP / "examples/c/tests/failing_read.c", "-Wl,--wrap=fread")
     build("refused", "examples/c/tests/refused.c", REFUSING)
     build("channels_refused", "examples/c/tests/channels_refused.c", REFUSING)
@@ -808,6 +832,7 @@ def main():
     channels()
     print("a guest migrated while it ran, on several channels: no page differs")
     print(f"64 MiB of pages read straight into their block: {next_buffer()}")
+    print(f"memory of loads into blocks of 64 MiB: {held(library)}")
     print(from_rust())
     sys.exit(1 if rows.wrong else 0)
 
