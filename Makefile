@@ -60,8 +60,8 @@ documents: header ## at once | compares header, case lists, contracts, examples 
 site: ## at once | builds the documents as HTML into out/site, and checks their links
 	@tools/site.py
 
-test: ## an hour and a half | the gate: all proofs, planted bugs, tests and programs
+test: ## 1.5 to 2.5 hours | the gate: all proofs, planted bugs, tests and programs
 	@.ci/run
 
-gate: ## an hour and a half | the gate, taking nothing from earlier runs
+gate: ## 1.5 to 2.5 hours | the gate, taking nothing from earlier runs
 	@.ci/run --anew
