@@ -199,6 +199,8 @@ static void *load(void *table) {
         }
     }
     check(zimgasol_in_place_session_verdict(&session, &fault), "verdict");
+    for (size_t s = 0; s <= channels; s++)
+        if (sockets[s][1] >= 0) close(sockets[s][1]);
     zimgasol_in_place_session_free(&session);
     return NULL;
 }
