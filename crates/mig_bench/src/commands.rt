@@ -1,5 +1,5 @@
-//! Measures the COMMANDs of a machine's stream, which a reader passes over: many without bytes, some
-//! with as many bytes as one may have, and one before each section.
+//! Measures the COMMANDs of a machine's stream, which a reader passes over: many without bytes,
+//! some with as many bytes as one may have, and one before each section.
 
 ghost use Rattle.std.specs.Prelude.{◌≡◌, ◌≤◌, ◌^◌};
 
@@ -71,7 +71,8 @@ fn settings() -> LoadSettings
     LoadSettings::new(PAGE_SIZE_4K, MAX_TOTAL).with_frame(Frame::Machine)
 }
 
-// Loads a machine's stream. Returns the number of rounds that were applied, and 0 if it has a fault.
+// Loads a machine's stream. Returns the number of rounds that were applied, and 0 if it has a
+// fault.
 fn rounds_loaded(alloc: Global, text: &[u8]) -> usize {
     let loaded = load_single_in(alloc, settings(), text);
     match loaded.verdict {

@@ -68,8 +68,8 @@ impl Feeding {
     }
 }
 
-/// The piece `at` of a text; None after its end. (`chunks(..).nth(..)` goes through all pieces before
-/// it.)
+/// The piece `at` of a text; None after its end. (`chunks(..).nth(..)` goes through all pieces
+/// before it.)
 pub fn piece_at(text: &[u8], at: usize) -> Option<&[u8]> {
     let rest = text.get(at.saturating_mul(PIECE)..)?;
     if rest.is_empty() {
@@ -81,7 +81,8 @@ pub fn piece_at(text: &[u8], at: usize) -> Option<&[u8]> {
     }
 }
 
-/// A session that was fed the main stream and then pieces of the channels in turn, all of which are over; None where an allocation is refused.
+/// A session that was fed the main stream and then pieces of the channels in turn, all of which are
+/// over; None where an allocation is refused.
 pub fn fed(alloc: Global, texts: &Sent) -> Option<Session> {
     let mut feeding = Feeding::new(alloc, texts.channels.len())?;
     feeding.feed(Source::Main, &texts.main)?;

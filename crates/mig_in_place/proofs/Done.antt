@@ -108,8 +108,8 @@ channels_of_sources k n (c ∷ channels) =
 all_of_sources : (k : ℕ) (readings : Readings) → All IsOfSource (sources_at k readings)
 all_of_sources k readings = All-cons IsOfSource (main_at k readings) (channels_at k readings) (λ e. absurd cc) (channels_of_sources k 0 readings.channels)
 
--- no verdict at round k is this one, where neither running is it, nor a failure of a source, nor one
--- with another fault than NoMemory
+-- no verdict at round k is this one, where neither running is it, nor a failure of a source, nor
+-- one with another fault than NoMemory
 module _ (that : Verdict) (k : ℕ) (running : Running ≢ that) (fails : (from : Origin) (f : Fault) → (from ≢ origin.Round) ⊎ (f ≢ fault.NoMemory) → failed k from f ≢ that) where
   abbrev IsOther : Option Verdict → Type 0
   IsOther o = (v : Verdict) → o ≡ Some v → v ≢ that

@@ -1,5 +1,5 @@
--- The readers of a load in place took the bytes of the texts, whatever its verdict is: while it runs,
--- and once a source has ended. So they say up to where the sources are valid.
+-- The readers of a load in place took the bytes of the texts, whatever its verdict is: while it
+-- runs, and once a source has ended. So they say up to where the sources are valid.
 use Rattle.std.proofs.Common.{ℕ, zero, suc, ◌≡◌, true, List, [], ◌∷◌, length, get_or, set, Some, sym, subst, arith}
 use Rattle.std.specs.Prelude.{zip, slice_get}
 use Rattle.std.specs.List.{AllZip}

@@ -667,11 +667,11 @@ impl<A: Allocator> InPlaceSession<A> {
 
     /// Returns how many of the bytes taken of `source` are complete items without a fault, from the
     /// first byte on. If the verdict is a fault of that source (`Fault::Stream`, `Fault::Channel`),
-    /// the item at fault begins after them. `OtherTable`, `HelloTwice`, `Extra` and `Short` belong to
-    /// no item, nor do the faults 54 to 59 of a round.
+    /// the item at fault begins after them. `OtherTable`, `HelloTwice`, `Extra` and `Short` belong
+    /// to no item, nor do the faults 54 to 59 of a round.
     ///
-    /// A channel's page counts with its packet, once all its pages were taken: it was written before.
-    /// None after a refused allocation.
+    /// A channel's page counts with its packet, once all its pages were taken: it was written
+    /// before. None after a refused allocation.
     pub fn valid_up_to(&self, source: Source) -> Option<u64>
         requires { HasSource (counts_of self.now.sources) source }
         ensures stands { (memory : Image) → Tells memory self.now (λ given uuid first texts. IsSourceValidUpTo (for_table first.table given) uuid texts source result) }

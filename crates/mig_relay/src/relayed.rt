@@ -245,8 +245,8 @@ pub fn load_relayed<'a, R: Wait, A: Allocator + Copy>(
 }
 
 /// Loads a guest from a complete main stream, read with `settings`, and from the channels of a
-/// relay, as `load_relayed` does. Of `settings` the frame and the limit on bytes count: the page size
-/// and what may wait in a round are the relay's.
+/// relay, as `load_relayed` does. Of `settings` the frame and the limit on bytes count: the page
+/// size and what may wait in a round are the relay's.
 ///
 /// # Errors
 ///

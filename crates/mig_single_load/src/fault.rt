@@ -169,8 +169,8 @@ impl Display for FeedFault {
 
 impl Error for FeedFault {}
 
-/// Why a piece wasn't loaded into the memory that it was passed with. After `OtherTable` nothing has
-/// changed. After `NoMemory` the load has failed for good.
+/// Why a piece wasn't loaded into the memory that it was passed with. After `OtherTable` nothing
+/// has changed. After `NoMemory` the load has failed for good.
 #[derive(Clone, Copy, Debug, PartialEq, Eq)]
 pub enum InPlaceFault {
     /// The memory is of another table than the load.

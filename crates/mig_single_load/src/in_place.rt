@@ -18,12 +18,13 @@ use std::marker::Model;
 
 /// Loads a guest from the pieces of a single stream into memory that is there already. That may be
 /// the blocks of a machine that is to run it (`LentMemoryMut`). It is an `InPlaceState` with its
-/// memory: each page is written once, when its bytes have come, on top of what the memory holds, and
-/// no section is kept.
+/// memory: each page is written once, when its bytes have come, on top of what the memory holds,
+/// and no section is kept.
 ///
 /// The records of a section that isn't complete are in the memory, too. They stay there if the
 /// stream turns out to be bad or cut. The stream must have the memory's table: the same blocks in
-/// the same order. Of a stream of another table nothing is written, and the verdict is `OtherTable`.
+/// the same order. Of a stream of another table nothing is written, and the verdict is
+/// `OtherTable`.
 ///
 /// # Examples
 ///
@@ -101,9 +102,9 @@ impl<A: Allocator + Copy, M: GuestTarget> InPlaceLoader<A, M> {
         Ok(InPlaceLoader { state, memory })
     }
 
-    /// Reads the next piece of the stream, and writes its page records. After the end byte, a fault,
-    /// another table or a refused allocation nothing more is read: the bytes are only counted, and
-    /// the call never fails.
+    /// Reads the next piece of the stream, and writes its page records. After the end byte, a
+    /// fault, another table or a refused allocation nothing more is read: the bytes are only
+    /// counted, and the call never fails.
     ///
     /// # Errors
     ///

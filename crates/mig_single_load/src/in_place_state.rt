@@ -328,8 +328,8 @@ impl<A: Allocator + Copy> InPlaceState<A> {
         }
     }
 
-    /// Takes the content of the page that is wanted, all of it, as the next bytes of the stream. The
-    /// caller has read them into that page of the memory. They aren't looked at and not kept.
+    /// Takes the content of the page that is wanted, all of it, as the next bytes of the stream.
+    /// The caller has read them into that page of the memory. They aren't looked at and not kept.
     ///
     /// It allocates nothing, and can't fail.
     pub fn take_page(&mut self, content: &[u8])
@@ -443,14 +443,14 @@ impl<A: Allocator> InPlaceState<A> {
     }
 }
 
-/// A load in place writes no page but those that the stream has a record of: a place without a record
-/// in the section that isn't complete holds what the complete sections left there.
+/// A load in place writes no page but those that the stream has a record of: a place without a
+/// record in the section that isn't complete holds what the complete sections left there.
 pub fn in_place_keeps_other_places()
     ensures { InPlaceKeepsOtherPlaces }
 {}
 
-/// A load in place whose verdict is Ok gives the complete sections of the stream, on top of what the
-/// memory held first, and nothing else.
+/// A load in place whose verdict is Ok gives the complete sections of the stream, on top of what
+/// the memory held first, and nothing else.
 pub fn in_place_ok_is_whole()
     ensures { InPlaceOkIsWhole }
 {}

@@ -6,9 +6,9 @@
 //! section is applied. No sender is needed here.
 //!
 //! `load_single` loads a complete stream. `SingleLoader` loads one that is fed in pieces. Loads in
-//! place write into memory that exists already, each page when its bytes have come: `InPlaceState`, and
-//! `InPlaceLoader`, which keeps the memory too. Each has a constructor for RAM's sections alone, and one for any settings, whose
-//! name ends with `_in`.
+//! place write into memory that exists already, each page when its bytes have come: `InPlaceState`,
+//! and `InPlaceLoader`, which keeps the memory too. Each has a constructor for RAM's sections
+//! alone, and one for any settings, whose name ends with `_in`.
 //!
 //! `LoadFault` and `Loaded` are those of every load, also on several channels: those crates use
 //! this one.

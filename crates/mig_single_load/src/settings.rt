@@ -60,8 +60,8 @@ impl LoadSettings {
         LoadSettings { frame, ..self }
     }
 
-    /// Returns the settings with at most `waiting` page records in a section or a round, and as many
-    /// pages and packets in a round of a channel.
+    /// Returns the settings with at most `waiting` page records in a section or a round, and as
+    /// many pages and packets in a round of a channel.
     pub fn with_waiting(self, waiting: Option<u64>) -> LoadSettings
         ensures { result ≡ record self { waiting = waiting } }
     {

@@ -223,8 +223,8 @@
 //! state.feed(memory, piece)
 //! ```
 //!
-//! Before each read of a socket it says what comes next, so that a page is read straight to where it
-//! belongs (`docs/EMBEDDING.md`, "Copies of a page"):
+//! Before each read of a socket it says what comes next, so that a page is read straight to where
+//! it belongs (`docs/EMBEDDING.md`, "Copies of a page"):
 //!
 //! <!-- quoted from crates/mig_tests/src/wanted_in_place.rt -->
 //! ```rust

@@ -1,4 +1,5 @@
-//! Writes the fault of a main stream and its channels, with its place and what a user may do about it.
+//! Writes the fault of a main stream and its channels, with its place and what a user may do about
+//! it.
 
 ghost use Rattle.std.specs.Prelude.{◌≤◌};
 

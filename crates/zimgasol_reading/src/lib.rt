@@ -1,5 +1,5 @@
-//! Reads a saved guest in pieces, for the program `zimgasol`: a single stream, or a main stream with
-//! its channels.
+//! Reads a saved guest in pieces, for the program `zimgasol`: a single stream, or a main stream
+//! with its channels.
 //!
 //! Pages are passed to a `PageSink` as they come, so that no guest is kept. The libraries read the
 //! bytes, and define their faults (`mig_stream`, `mig_packet`); here is what a person wants to know
