@@ -28,10 +28,10 @@ TOP = Path(__file__).resolve().parent.parent
 BUILT = TOP / "crates" / "zimgasol_cli" / "out" / "zimgasol_cli"
 DATA = TOP / "crates" / "zimgasol_runs" / "data"
 SECONDS = 60
-WHOLE = ("guest.sav: whole: sections 3, blocks 1, memory 131072 bytes, RAM ends at byte 86395, "
+WHOLE = ("guest.sav: complete: sections 3, blocks 1, memory 131072 bytes, RAM ends at byte 86395, "
          "1011 bytes follow\n")
 PIPED = WHOLE.replace("guest.sav", "-")
-CUT = ("byte 40000 (section 2, PART, block \"ram\"): fault 34: the text was over before its end byte; "
+CUT = ("byte 40000 (section 2, PART, block \"ram\"): fault 34: the stream ends early; "
        "the file was cut, or the save didn't come to its end\n")
 BAD_NUMBER = "Bad file descriptor (os error 9)\n"
 FULL = "No space left on device (os error 28)\n"
@@ -77,7 +77,7 @@ STREAMS = (
      " zimgasol extract sparse.sav plain --quiet; cmp quiet/ram.bin plain/ram.bin && echo same",
      "0\nsame\n", 0),
     ("closed output, a file", f"{SAVE} closed.sav >&-; echo $?; zimgasol verify --frame ram closed.sav",
-     f"{OUTPUT}{BAD_NUMBER}3\nclosed.sav: whole: sections 3, blocks 1, memory 131072 bytes, "
+     f"{OUTPUT}{BAD_NUMBER}3\nclosed.sav: complete: sections 3, blocks 1, memory 131072 bytes, "
      "the stream ends at byte 86382, 0 bytes follow\n", 0),
     ("input that ends early", "head -c 40000 guest.sav | zimgasol verify -", f"-: {CUT}", 1),
     ("", "head -c 40000 guest.sav | zimgasol extract - early; echo $?; ls early",
@@ -107,7 +107,7 @@ IDENTS = (
      'zimgasol: --block "%1B": the id isn\'t 1 to 255 characters of printable ASCII\n', 2),
     ("names", "zimgasol verify $'\\e[2J\\n\"'", f"%1B[2J%0A%22: {NOTHING}", 3),
     ("", "zimgasol verify $'gr\\xc3\\xbcn'", f"gr%C3%BCn: {NOTHING}", 3),
-    ("", "zimgasol verify $'\\xff'", "zimgasol: a word isn't UTF-8\n", 2),
+    ("", "zimgasol verify $'\\xff'", "zimgasol: an argument isn't UTF-8\n", 2),
     ("", "zimgasol verify ''", f'"": {NOTHING}', 3),
     ("", "zimgasol extract guest.sav ''", f'"": {NOTHING}', 3),
     ("", "cp guest.sav ./-x; zimgasol verify -- -x", WHOLE.replace("guest", "-x", 1).replace("-x.sav", "-x"), 0),

@@ -88,7 +88,7 @@ def whole_line(name, found, capture):
     else:
         counts, ident = f"sections {found['sections']}", ""
     after = found["bytes"] - found["end"]
-    return (f"{name}: whole: {counts}, blocks {len(found['memory'])}, memory {memory} bytes{ident}, "
+    return (f"{name}: complete: {counts}, blocks {len(found['memory'])}, memory {memory} bytes{ident}, "
             f"RAM ends at byte {found['end']}, {after} bytes follow\n")
 
 
@@ -100,7 +100,7 @@ def listing(name, found, capture):
               for it, memory in found["memory"].items()]
     listed = {"file": name, "bytes": found["bytes"], "page_size": 4096, "blocks": blocks,
               "notes": [note_value(it) for it in found["notes"]], "end": found["end"],
-              "whole": True, "fault": None}
+              "complete": True, "fault": None}
     if capture.channels:
         listed.update(rounds=found["rounds"], uuid=str(uuid.UUID(bytes=found["uuid"])))
     else:
@@ -179,7 +179,7 @@ class Run:
                 raise Differs(f"{command}: expected byte {byte}, came {error!r}")
             if command == "inspect":
                 came = json.loads(printed)
-                expect("inspect", (self.capture.fault, False), (came["fault"]["number"], came["whole"]))
+                expect("inspect", (self.capture.fault, False), (came["fault"]["number"], came["complete"]))
             else:
                 expect(f"{command}, output", "", printed)
         if (self.room / "out").exists():

@@ -25,7 +25,7 @@ RUNS = TOP / "crates" / "zimgasol_runs"
 COMMANDS = {11: "SWITCHOVER_START"}
 SIX = " ".join(f"--block {it}=half.bin" for it in "abcdef")
 EXISTS = "is there already; `--replace` replaces it"
-CUT = "fault 34: the text was over before its end byte; the file was cut, or the save didn't come to its end"
+CUT = "fault 34: the stream ends early; the file was cut, or the save didn't come to its end"
 UUID = "00112233-4455-6677-8899-aabbccddeeff"
 THREE = "".join(f" --channel three.sav.{i}" for i in (2, 0, 1))
 # After those of the pages: commands, and what each prints and its status. None: as it is made here.
@@ -95,19 +95,19 @@ CASES = [
     ("zimgasol extract one.sav both --frame ram --channel one.sav.0 --since day --replace", None),
     ("zimgasol compare both over", None),
     ("zimgasol verify multi.sav", (
-        ["multi.sav: byte 72 (section 2, PART): fault 32: a FLUSH stands in a single stream; "
+        ["multi.sav: byte 72 (section 2, PART): fault 32: FLUSH in a single stream; "
          "the pages of this stream went over multifd's channels; name each by `--channel`"], 1)),
     ("zimgasol verify multi.sav --channel multi.sav.0", (
         ["multi.sav: round 2: fault 56: packet 1 is missing; "
          "each channel is named by `--channel`, and one may lack or be another migration's"], 1)),
     ("zimgasol verify multi.sav --channel multi.sav.1", (
-        ["multi.sav.1: byte 0 (hello): fault 38: the hello's id isn't below the number of channels; "
+        ["multi.sav.1: byte 0 (hello): fault 38: hello id out of range; "
          "each channel is named by `--channel`, and one may lack"], 1)),
     ("zimgasol verify multi.sav --channel multi.sav.0 --channel multi.sav.0", (
-        ["multi.sav.0: byte 0 (hello): fault 51: the hello names an earlier channel's id; "
+        ["multi.sav.0: byte 0 (hello): fault 51: hello id of an earlier channel; "
          "two of the files are one channel's"], 1)),
     ("zimgasol verify multi.sav --channel multi.sav.0 --channel multi.sav.1 --uuid " + UUID, (
-        ["multi.sav.0: byte 0 (hello): fault 37: the hello is of another UUID; "
+        ["multi.sav.0: byte 0 (hello): fault 37: hello of another UUID; "
          "the channel is of another migration; `--uuid` names the one that is meant"], 1)),
     ("zimgasol inspect command.sav --channel multi.sav.0 --channel multi.sav.1", None),
     ("zimgasol inspect command.sav --json --channel multi.sav.0 --channel multi.sav.1", None),
@@ -119,7 +119,7 @@ CASES = [
         [f"cut.main: byte 95 (round 2, after section 2): {CUT}"], 1)),
     ("head -c 1408 multi.sav.1 > cut.1", None),
     ("zimgasol verify multi.sav --channel multi.sav.0 --channel cut.1", (
-        ["cut.1: byte 1408 (round 2, whole packets 1): fault 53: the channel is over where the main stream goes on; "
+        ["cut.1: byte 1408 (round 2, complete packets 1): fault 53: the channel ends before the main stream; "
          "the files may be of different migrations"], 1)),
     ("head -c 88 multi.sav > cut.main", None),
     ("zimgasol extract cut.main cut --channel multi.sav.0 --channel multi.sav.1", (
@@ -294,8 +294,8 @@ class Shell:
             except (AssertionError, struct.error):
                 self.status = 1
                 packets, syncs = channel_facts.whole_before_cut(self.files[name])
-                return (f"{name}: byte {len(self.files[name])} (round {syncs + 1}, whole packets {packets}): fault 44: "
-                        "the text ends inside the hello or a packet; the file was cut, or the migration didn't come to its end")
+                return (f"{name}: byte {len(self.files[name])} (round {syncs + 1}, complete packets {packets}): fault 44: "
+                        "the channel ends inside a hello or packet; the file was cut, or the migration didn't come to its end")
         return None
 
     def verify_several(self, name, words):
@@ -304,7 +304,7 @@ class Shell:
             return [cut]
         found = self.several(name, words)
         memory = sum(map(len, found["memory"].values()))
-        line = (f"{name}: whole: rounds {found['rounds']}, channels {len(found['channels'])}, packets {found['packets']}, "
+        line = (f"{name}: complete: rounds {found['rounds']}, channels {len(found['channels'])}, packets {found['packets']}, "
                 f"blocks {len(found['memory'])}, memory {memory} bytes, UUID {found['uuid']}, {self.ends(name, found, words)}")
         return [line] + ([] if "--since" in words else self.notes(name, found, True))
 
@@ -321,7 +321,7 @@ class Shell:
         for block, memory in found["memory"].items():
             pages, zeros = found["counts"][block]
             lines.append(f'block "{block}" {len(memory)} bytes, {pages} pages, {zeros} zero pages')
-        return lines + [f"rounds {found['rounds']}", self.ends(name, found, words), "whole"]
+        return lines + [f"rounds {found['rounds']}", self.ends(name, found, words), "complete"]
 
     def several_json(self, name, found):
         channels = [{"file": it["name"], "bytes": it["bytes"], "id": it["id"], "packets": len(it["numbers"]),
@@ -329,7 +329,7 @@ class Shell:
                      "zero_pages": it["zeros"], "end": it["bytes"]} for it in found["channels"]]
         said = {"file": name, "bytes": len(self.files[name]), "page_size": 4096, "uuid": found["uuid"], "channels": channels,
                 "notes": [self.note_value(it) for it in found["notes"]], "blocks": self.block_values(found),
-                "rounds": found["rounds"], "end": found["end"], "whole": True, "fault": None}
+                "rounds": found["rounds"], "end": found["end"], "complete": True, "fault": None}
         return json.dumps(said, indent=2, sort_keys=True).splitlines()
 
     def extract_several(self, name, words):
@@ -366,7 +366,7 @@ class Shell:
         self.status = 0
         memory = sum(map(len, found["memory"].values()))
         what, end = ("the stream", found["end"] + 1) if "ram" in words[3:] else ("RAM", found["end"])
-        return [f"{name}: whole: sections {found['sections']}, blocks {len(found['memory'])}, memory {memory} bytes, "
+        return [f"{name}: complete: sections {found['sections']}, blocks {len(found['memory'])}, memory {memory} bytes, "
                 f"{what} ends at byte {end}, {len(data) - end} bytes follow", *([] if "--since" in words else self.notes(name, found, "ram" in words[3:]))]
 
     def notes(self, name, found, is_ram):
@@ -444,7 +444,7 @@ class Shell:
             pages, zeros = found["counts"][block]
             lines.append(f'block "{block}" {len(memory)} bytes, {pages} pages, {zeros} zero pages')
         return lines + [f"sections {found['sections']}",
-                        f"RAM ends at byte {found['end']}, {len(data) - found['end']} bytes follow", "whole"]
+                        f"RAM ends at byte {found['end']}, {len(data) - found['end']} bytes follow", "complete"]
 
     @staticmethod
     def note_line(note):
@@ -468,7 +468,7 @@ class Shell:
         blocks = self.block_values(found)
         notes = [self.note_value(note) for note in found["notes"]]
         said = {"file": name, "bytes": len(data), "libvirt": None, "notes": notes, "page_size": 4096, "blocks": blocks,
-                "sections": found["sections"], "end": found["end"], "whole": True, "fault": None}
+                "sections": found["sections"], "end": found["end"], "complete": True, "fault": None}
         return json.dumps(said, indent=2, sort_keys=True).splitlines()
 
     def extract(self, name, data, words):

@@ -68,13 +68,10 @@ impl Display for RoundFault {
             RoundFault::Foreign(number) => write!(f, "packet {number} is of an earlier round"),
             RoundFault::Doubled(number) => write!(f, "packet {number} comes twice"),
             RoundFault::Missing(number) => write!(f, "packet {number} is missing"),
-            RoundFault::UnknownBlock(number) => write!(
-                f,
-                "packet {number} names a block that the table hasn't"
-            ),
+            RoundFault::UnknownBlock(number) => write!(f, "packet {number} names an unknown block"),
             RoundFault::Offset(number, i) => write!(
                 f,
-                "offset {i} of packet {number} is of no page of its block"
+                "offset {i} of packet {number} is outside its block"
             ),
             RoundFault::DoublePage(place) => write!(
                 f,

@@ -63,18 +63,18 @@ impl ChannelFault {
     // Returns the fault's message.
     fn words(self) -> &'static str {
         match self {
-            ChannelFault::HelloMagic => "the hello doesn't begin with MULTIFD_MAGIC",
-            ChannelFault::HelloVersion => "the hello's version isn't MULTIFD_VERSION",
-            ChannelFault::HelloUuid => "the hello is of another UUID",
-            ChannelFault::HelloId => "the hello's id isn't below the number of channels",
-            ChannelFault::PacketMagic => "the packet doesn't begin with MULTIFD_MAGIC",
-            ChannelFault::PacketVersion => "the packet's version isn't MULTIFD_VERSION",
-            ChannelFault::PacketFlags(_) => "the packet has flags beside MULTIFD_FLAG_SYNC",
-            ChannelFault::PageCount => "the packet has more pages than a packet may have",
-            ChannelFault::PacketSize => "next_packet_size isn't that of the normal pages",
-            ChannelFault::Truncated => "the text ends inside the hello or a packet",
-            ChannelFault::Unsynced => "the text ends after a packet without SYNC",
-            ChannelFault::Waiting => "more pages and packets than may wait for their round's end",
+            ChannelFault::HelloMagic => "bad hello magic",
+            ChannelFault::HelloVersion => "bad hello version",
+            ChannelFault::HelloUuid => "hello of another UUID",
+            ChannelFault::HelloId => "hello id out of range",
+            ChannelFault::PacketMagic => "bad packet magic",
+            ChannelFault::PacketVersion => "bad packet version",
+            ChannelFault::PacketFlags(_) => "unexpected packet flags",
+            ChannelFault::PageCount => "too many pages in a packet",
+            ChannelFault::PacketSize => "wrong next_packet_size",
+            ChannelFault::Truncated => "the channel ends inside a hello or packet",
+            ChannelFault::Unsynced => "the channel ends without SYNC",
+            ChannelFault::Waiting => "too many pages and packets wait",
         }
     }
 }

@@ -48,19 +48,15 @@ impl From<NoMemory> for SendFault {
 impl Display for SendFault {
     fn fmt<W: fmt::Write>(&self, f: &mut Formatter<W>) -> fmt::Result {
         match self {
-            SendFault::Channels => write!(
-                f,
-                "{}: there is no channel, or there are more than 255",
-                self.number()
-            ),
+            SendFault::Channels => write!(f, "{}: no channel, or more than 255", self.number()),
             SendFault::Limit => write!(
                 f,
-                "{}: the batch limit is 0, or above the pages of a packet",
+                "{}: batch limit is 0 or above the pages of a packet",
                 self.number()
             ),
             SendFault::OtherTable => write!(
                 f,
-                "{}: the image or the dirty set is of another table",
+                "{}: memory or dirty set of another table",
                 self.number()
             ),
             SendFault::NoMemory => Display::fmt(&NoMemory, f),

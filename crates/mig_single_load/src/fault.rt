@@ -92,26 +92,18 @@ impl Display for Fault {
             Fault::Channel(fault) => Display::fmt(fault, f),
             Fault::Round(fault) => Display::fmt(fault, f),
             Fault::NoMemory => Display::fmt(&NoMemory, f),
-            Fault::HelloTwice => write!(
-                f,
-                "{}: the hello names an earlier channel's id",
-                self.number()
-            ),
+            Fault::HelloTwice => write!(f, "{}: hello id of an earlier channel", self.number()),
             Fault::Extra => write!(
                 f,
-                "{}: the channel goes on where the main stream is over",
+                "{}: the channel continues after the main stream",
                 self.number()
             ),
             Fault::Short => write!(
                 f,
-                "{}: the channel is over where the main stream goes on",
+                "{}: the channel ends before the main stream",
                 self.number()
             ),
-            Fault::OtherTable => write!(
-                f,
-                "{}: the stream is of another table than the memory",
-                self.number()
-            ),
+            Fault::OtherTable => write!(f, "{}: stream of another table", self.number()),
         }
     }
 }
@@ -158,11 +150,7 @@ impl Display for FeedFault {
     fn fmt<W: fmt::Write>(&self, f: &mut Formatter<W>) -> fmt::Result {
         match self {
             FeedFault::NoMemory => Display::fmt(&NoMemory, f),
-            FeedFault::NoGuestMemory => write!(
-                f,
-                "{}: no memory was found for the guest",
-                self.number()
-            ),
+            FeedFault::NoGuestMemory => write!(f, "{}: no memory for the guest", self.number()),
         }
     }
 }
@@ -195,11 +183,7 @@ impl InPlaceFault {
 impl Display for InPlaceFault {
     fn fmt<W: fmt::Write>(&self, f: &mut Formatter<W>) -> fmt::Result {
         match self {
-            InPlaceFault::OtherTable => write!(
-                f,
-                "{}: the memory is of another table than the load",
-                self.number()
-            ),
+            InPlaceFault::OtherTable => write!(f, "{}: memory of another table", self.number()),
             InPlaceFault::NoMemory => Display::fmt(&NoMemory, f),
         }
     }

@@ -31,44 +31,44 @@ fn texts_of_faults(rt: HostRuntime) {
         &rt,
         alloc,
         StreamFault::Fill(9),
-        "31: the byte of a zero page isn't 0: 0x9",
+        "31: fill byte of a zero page isn't 0: 0x9",
     );
     assert_text(
         &rt,
         alloc,
         ChannelFault::HelloUuid,
-        "37: the hello is of another UUID",
+        "37: hello of another UUID",
     );
     assert_text(
         &rt,
         alloc,
         SendFault::Channels,
-        "61: there is no channel, or there are more than 255",
+        "61: no channel, or more than 255",
     );
     assert_text(
         &rt,
         alloc,
         SendFault::Limit,
-        "62: the batch limit is 0, or above the pages of a packet",
+        "62: batch limit is 0 or above the pages of a packet",
     );
     assert_text(
         &rt,
         alloc,
         SendFault::OtherTable,
-        "63: the image or the dirty set is of another table",
+        "63: memory or dirty set of another table",
     );
     assert_text(
         &rt,
         alloc,
         FeedFault::NoGuestMemory,
-        "60: no memory was found for the guest",
+        "60: no memory for the guest",
     );
     assert_text(&rt, alloc, double, "59: page 2 of block 1 comes twice");
     assert_text(
         &rt,
         alloc,
         load,
-        "round 3, in the stream: 12: the version of the stream isn't 3",
+        "round 3, in the stream: 12: the stream's version isn't 3",
     );
     let extra = LoadFault {
         round: 0,
@@ -79,6 +79,6 @@ fn texts_of_faults(rt: HostRuntime) {
         &rt,
         alloc,
         extra,
-        "round 0, in channel 7: 52: the channel goes on where the main stream is over",
+        "round 0, in channel 7: 52: the channel continues after the main stream",
     );
 }

@@ -49,7 +49,7 @@ mod tests {
         assert!(rt; notice.number == 11 && notice.rounds == 0 && notice.source == Origin::Main);
         assert_eq!(rt;
             notice.words.as_str(),
-            "round 0, in the stream: 11: the text doesn't begin with QEVM"
+            "round 0, in the stream: 11: the stream doesn't begin with QEVM"
         );
     }
 }

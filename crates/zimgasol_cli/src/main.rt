@@ -22,7 +22,7 @@ fn words_given(rt: &HostRuntime) -> io::Result<Vec<String>> {
 // Prints why the arguments can't be read, and returns the exit status.
 fn put_unread<E: Write>(errors: &mut E, error: &io::Error) -> u8 {
     if error.kind() == ErrorKind::InvalidData {
-        let _ = writeln!(errors, "zimgasol: a word isn't UTF-8");
+        let _ = writeln!(errors, "zimgasol: an argument isn't UTF-8");
         return WORDS;
     }
     let _ = writeln!(errors, "zimgasol: no memory");

@@ -126,19 +126,19 @@ fn file_arg<'a>(alloc: Global) -> Arg<'a> {
 }
 
 fn quiet_flag<'a>(alloc: Global) -> Arg<'a> {
-    flag(alloc, "quiet", "Prints no line where all is well")
+    flag(alloc, "quiet", "Prints nothing on success")
 }
 
 fn progress_flag<'a>(alloc: Global) -> Arg<'a> {
     flag(
         alloc,
         "progress",
-        "Prints once a second to the error output how far it is",
+        "Prints progress to the error output once a second",
     )
 }
 
 fn replace_flag<'a>(alloc: Global) -> Arg<'a> {
-    flag(alloc, "replace", "Replaces files that are there already")
+    flag(alloc, "replace", "Replaces existing files")
 }
 
 fn page_option<'a>(alloc: Global) -> Arg<'a> {
@@ -171,7 +171,7 @@ fn channel_option<'a>(alloc: Global) -> Arg<'a> {
         .long("channel")
         .value_name("FILE")
         .action(ArgAction::Append)
-        .help("A channel that the pages went over (multifd); once for each channel")
+        .help("A file with a channel's bytes (multifd); once for each channel")
 }
 
 fn uuid_option<'a>(alloc: Global, help: &'a str) -> Arg<'a> {
@@ -204,7 +204,7 @@ fn verify_command<'a>(alloc: Global) -> Result<Command<'a>, AllocError> {
     stream_command(
         alloc,
         "verify",
-        "Tells whether a saved guest is whole, or where it has a fault",
+        "Reports whether a saved guest is complete, or where it has a fault",
     )?
     .arg(quiet_flag(alloc))
 }
@@ -218,7 +218,7 @@ fn extract_command<'a>(alloc: Global) -> Result<Command<'a>, AllocError> {
     .arg(
         Arg::new(alloc, "DIR")
             .required(true)
-            .help("The folder; it is made where there is none"),
+            .help("The folder; it is created if it isn't there"),
     )?
     .arg(
         Arg::new(alloc, "block")
@@ -231,7 +231,7 @@ fn extract_command<'a>(alloc: Global) -> Result<Command<'a>, AllocError> {
             .long("since")
             .value_name("DIR")
             .help(
-                "Lays the stream over the memory in a folder that `extract` made: what `save --since` saved",
+                "Applies the stream to the memory in a folder that `extract` made: what `save --since` saved",
             ),
     )?
     .arg(replace_flag(alloc))?
@@ -239,7 +239,7 @@ fn extract_command<'a>(alloc: Global) -> Result<Command<'a>, AllocError> {
     .arg(flag(
         alloc,
         "no-digest",
-        "Leaves each file's SHA-256 out of blocks.json, which takes most of the time",
+        "Leaves each file's SHA-256 out of blocks.json: it takes most of the time",
     ))
 }
 
@@ -277,7 +277,7 @@ fn save_command<'a>(alloc: Global) -> Result<Command<'a>, AllocError> {
     save_sources(alloc)?
         .arg(
             Arg::new(alloc, "OUT").required(true).help(
-                "The file that the stream goes into; - for the standard output",
+                "The file to write the stream to; - for the standard output",
             ),
         )?
         .arg(page_option(alloc))?
@@ -325,10 +325,10 @@ fn program<'a>(alloc: Global) -> Result<Command<'a>, AllocError> {
         .no_binary_name(true)
         .version(VERSION)
         .about(
-            "Looks into guests that QEMU or libvirt saved in a file, verifies them, takes their memory out, and saves it",
+            "Inspects and verifies guests that QEMU or libvirt saved in a file, extracts their memory, and saves it",
         )
         .after_help(
-            "Exit status: 0 well; 1 refused, or different; 2 the words are wrong; 3 a file can't be read or written.",
+            "Exit status: 0 success; 1 refused, or different; 2 wrong arguments; 3 a file can't be read or written.",
         )
         .arg_required_else_help(true)
         .subcommand_required(true)

@@ -9,7 +9,7 @@ pub(crate) fn advice(fault: StreamFault) -> Option<&'static str> {
             "this is no migration stream of QEMU's; if it is compressed, pipe it through its unpacker into `-`",
         ),
         StreamFault::SectionType => Some(
-            "a section of another kind stands there: a device that saves its state before RAM, or an end without RAM; with `--frame ram`, a machine's stream",
+            "a device that saves its state before RAM, or an end without RAM; with `--frame ram`, a machine's stream",
         ),
         StreamFault::Flags(_) => Some(
             "the page size may be the other one (`--page`), or the save used xbzrle or mapped-ram",
@@ -23,7 +23,7 @@ pub(crate) fn advice(fault: StreamFault) -> Option<&'static str> {
         StreamFault::Truncated => Some("the file was cut, or the save didn't come to its end"),
         StreamFault::Capability => Some("save without x-ignore-shared and mapped-ram"),
         StreamFault::Command => Some(
-            "a migration that went over to postcopy isn't whole in a file",
+            "a migration that went over to postcopy isn't complete in a file",
         ),
         _ => None,
     }

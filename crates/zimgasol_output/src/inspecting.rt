@@ -136,7 +136,7 @@ fn put_end<W: Write>(output: &mut W, survey: &Survey) -> io::Result<()> {
     }
     let what = end_name(survey.frame);
     writeln!(output, "{what} ends at byte {end}, {after} bytes follow")?;
-    writeln!(output, "whole")
+    writeln!(output, "complete")
 }
 
 /// Writes what a stream has, in lines. `name` is the file's, as it is printed.
@@ -233,7 +233,7 @@ fn fault_value(alloc: Global, survey: &Survey) -> Result<Value, AllocError> {
         "name": &name,
         "text": &text,
         "byte": place.byte,
-        "whole_sections": place.sections,
+        "complete_sections": place.sections,
         "section": kind,
         "block": block
     })
@@ -271,7 +271,7 @@ fn survey_value(alloc: Global, name: &str, survey: &Survey) -> Result<Value, All
         "blocks": blocks,
         "sections": survey.sections,
         "end": end,
-        "whole": fault_of(survey).is_none(),
+        "complete": fault_of(survey).is_none(),
         "fault": fault
     })
 }

@@ -60,7 +60,7 @@ fn put_within<W: Write>(
     let round = round.saturating_add(1);
     match within {
         Within::Hello => write!(output, "hello"),
-        Within::Channel(packets) => write!(output, "round {round}, whole packets {packets}"),
+        Within::Channel(packets) => write!(output, "round {round}, complete packets {packets}"),
         Within::Main(sections, kind) => {
             write!(output, "round {round}, ")?;
             put_section(output, sections, kind, block)

@@ -108,9 +108,9 @@ fn value_of<F: Read + OpenFile + Drop>(
         "text": &text,
         "source": source,
         "byte": byte,
-        "whole_rounds": fault.round,
-        "whole_sections": sections,
-        "whole_packets": packets
+        "complete_rounds": fault.round,
+        "complete_sections": sections,
+        "complete_packets": packets
     })
 }
 
@@ -143,7 +143,7 @@ pub fn put_several_json<F: Read + OpenFile + Drop, W: Write>(
         "blocks": blocks,
         "rounds": several.rounds,
         "end": several.main.valid(),
-        "whole": several.fault().is_none(),
+        "complete": several.fault().is_none(),
         "fault": fault
     })?;
     let text = value.to_string_pretty(alloc)?;

@@ -33,7 +33,7 @@ fn source_name<'a, F: Drop>(several: &'a Several<F>, name: &'a str, fault: LoadF
 }
 
 // Writes the line of complete sources.
-fn put_whole<F: Read + OpenFile + Drop, W: Write>(
+fn put_complete<F: Read + OpenFile + Drop, W: Write>(
     output: &mut W,
     name: &str,
     several: &Several<F>,
@@ -43,7 +43,7 @@ fn put_whole<F: Read + OpenFile + Drop, W: Write>(
     let packets = several.packets();
     write!(
         output,
-        "{name}: whole: rounds {rounds}, channels {channels}, packets {packets}, "
+        "{name}: complete: rounds {rounds}, channels {channels}, packets {packets}, "
     )?;
     if let Some(guest) = &several.guest {
         let count = guest.blocks.table.len();
@@ -113,7 +113,7 @@ pub fn put_several_judgement<F: Read + OpenFile + Drop, W: Write, E: Write>(
     ensures verdict { IfOk result (λ is_complete. IsTrue is_complete ↔ (several.now.verdict ≡ verdict.Done)) }
 {
     if several.fault().is_none() && !talk.quiet {
-        put_whole(output, name, several).map_err(output_failed)?;
+        put_complete(output, name, several).map_err(output_failed)?;
     }
     put_several_wrongs(alloc, errors, name, several)
 }
@@ -169,7 +169,7 @@ fn put_last<F: Read + OpenFile + Drop, W: Write>(
         return writeln!(output, "read up to byte {end}");
     }
     put_end(output, several)?;
-    writeln!(output, "whole")
+    writeln!(output, "complete")
 }
 
 // Writes the line on a channel.

@@ -58,9 +58,9 @@ pub(crate) fn put_fault<W: Write>(
 }
 
 // Writes the line on a complete stream.
-fn put_whole<W: Write>(output: &mut W, name: &str, survey: &Survey) -> io::Result<()> {
+fn put_complete<W: Write>(output: &mut W, name: &str, survey: &Survey) -> io::Result<()> {
     let sections = survey.sections;
-    write!(output, "{name}: whole: sections {sections}, ")?;
+    write!(output, "{name}: complete: sections {sections}, ")?;
     if let Some(blocks) = &survey.blocks {
         let count = blocks.table.len();
         let total = blocks.total();
@@ -124,7 +124,7 @@ pub fn put_judgement<W: Write, E: Write>(
     ensures verdict { IfOk result (λ is_complete. IsTrue is_complete ↔ (survey.now.state ≡ state.Closed)) }
 {
     if fault_of(survey).is_none() && !talk.quiet {
-        put_whole(output, name, survey).map_err(Trouble::Output)?;
+        put_complete(output, name, survey).map_err(Trouble::Output)?;
     }
     put_wrongs(alloc, errors, name, survey)
 }
