@@ -99,7 +99,7 @@ CASES = [
          "the pages of this stream went over multifd's channels; name each by `--channel`"], 1)),
     ("zimgasol verify multi.sav --channel multi.sav.0", (
         ["multi.sav: round 2: fault 56: packet 1 is missing; "
-         "each channel is named by `--channel`, and one may lack or be another migration's"], 1)),
+         "each channel is named by `--channel`, and one may be missing or another migration's"], 1)),
     ("zimgasol verify multi.sav --channel multi.sav.1", (
         ["multi.sav.1: byte 0 (hello): fault 38: hello id out of range; "
          "each channel is named by `--channel`, and one may lack"], 1)),

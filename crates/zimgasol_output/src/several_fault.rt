@@ -43,7 +43,7 @@ fn advice_of(fault: Fault) -> Option<&'static str> {
         Fault::Channel(fault) => channel_advice(fault),
         Fault::HelloTwice => Some("two of the files are one channel's"),
         Fault::Round(RoundFault::Missing(_)) => Some(
-            "each channel is named by `--channel`, and one may lack or be another migration's",
+            "each channel is named by `--channel`, and one may be missing or another migration's",
         ),
         Fault::Extra | Fault::Short => Some("the files may be of different migrations"),
         _ => None,
