@@ -68,7 +68,7 @@ impl Feeding {
     }
 }
 
-/// The piece `at` of a text; None after its end. (`chunks(..).nth(..)` goes through all pieces
+/// Returns the piece `at` of a stream; None after its end. (`chunks(..).nth(..)` goes through all pieces
 /// before it.)
 pub fn piece_at(text: &[u8], at: usize) -> Option<&[u8]> {
     let rest = text.get(at.saturating_mul(PIECE)..)?;

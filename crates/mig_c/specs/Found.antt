@@ -83,7 +83,7 @@ seen_of_verdict rounds verdict.Done = no_fault
 seen_of_verdict rounds verdict.Running = goes_on rounds
 seen_of_verdict rounds (verdict.Failed f) = found_of f
 
--- a number that C is told, or that it isn't: a call says which
+-- a number that is reported to C, or isn't: a call says which
 abbrev pub if_told : Bool → ℕ → Option ℕ
 if_told true number = Some number
 if_told false number = None

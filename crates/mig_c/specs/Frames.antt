@@ -16,6 +16,6 @@ waiting_of count = if count == 0 then None else Some count
 abbrev pub load_settings : ℕ → ℕ → Option ℕ → Frame → LoadSettings
 load_settings page_size limit waiting frame = record { page_size = page_size; limit = limit; frame = frame; waiting = waiting }
 
--- the settings that C asks for, where there is such a frame
+-- the settings that C asks for, if there is such a frame
 abbrev pub asked_settings : ℕ → ℕ → ℕ → Option ℕ → Option LoadSettings
 asked_settings page_size limit frame waiting = option_map (load_settings page_size limit waiting) (frame_of frame)

@@ -114,7 +114,7 @@ pub record TellsClosedAt (status before after : ℕ) (s : LoadInPlace) : Type 0 
   pub same : status ≢ done → after ≡ before
 
 -- C sees how many of the bytes that were fed are complete items without a fault: a fault's item begins
--- after them. It isn't told so of a stream of another table, nor after a refused allocation.
+-- after them. It isn't reported of a stream of another table, nor after a refused allocation.
 pub record TellsValidUpTo (told : Bool) (before after : ℕ) (s : LoadInPlace) : Type 0 where
   pub loads : (memory : Image) (given : LoadSettings) (first : Image) (text : List ℕ) (ended : Bool) → LoadsInPlace memory given first s text ended
       → IsValidUpToOnto given first text (if_told told after)

@@ -135,7 +135,7 @@ pub record TellsClosedAt (status before after : ℕ) (s : InPlaceLoad) : Type 0 
   pub same : status ≢ done → after ≡ before
 
 -- C sees how many of a source's bytes that were taken are complete items without a fault: a fault's
--- item begins after them. It isn't told so where there is no such source, nor after a refused
+-- item begins after them. It isn't reported if there is no such source, nor after a refused
 -- allocation.
 pub record TellsValidUpTo (from : Source) (told : Bool) (before after : ℕ) (s : InPlaceLoad) : Type 0 where
   pub stands : HasSource (counts_of s.sources) from → (memory : Image)

@@ -21,7 +21,7 @@ Opens None made = ⊥
 Opens (Some given) None = ⊥
 Opens (Some given) (Some l) = IsFresh given l
 
--- What `new` does: the first thing that is wrong with what it is given is told.
+-- What `new` does: it reports the first argument that is wrong.
 pub record OpensLoader (page_size limit frame : ℕ) (waiting : Option ℕ) (status : ℕ) (made : Option Loader) : Type 0 where
   pub is_named : IsOneOf (done ∷ no_memory ∷ bad_page_size ∷ bad_limit ∷ bad_frame ∷ []) status
   pub opens : status ≡ done → Opens (asked_settings page_size limit frame waiting) made

@@ -19,7 +19,7 @@ abbrev pub seen_next : ℕ → Wanted → NextBytes
 seen_next page_size (wanted.Page place) = record { len = page_size; is_page = 1; block = place.block; offset = place.page * page_size }
 seen_next page_size (wanted.Bytes n) = record { len = n; is_page = 0; block = 0; offset = 0 }
 
--- C is told what comes next, if anything does; otherwise what it passed stays.
+-- What comes next is reported to C, if anything does; otherwise what it passed is unchanged.
 abbrev pub SeesNext : ℕ → Bool → (before after : NextBytes) → Option Wanted → Type 0
 SeesNext page_size told before after None = IsFalse told × (after ≡ before)
 SeesNext page_size told before after (Some next) = IsTrue told × (after ≡ seen_next page_size next)

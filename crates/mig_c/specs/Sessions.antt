@@ -20,7 +20,7 @@ Opens None uuid channels made = ⊥
 Opens (Some given) uuid channels None = ⊥
 Opens (Some given) uuid channels (Some s) = StandsFor given uuid (no_texts channels) s
 
--- What `new` does: the first thing that is wrong with what it is given is told.
+-- What `new` does: it reports the first argument that is wrong.
 pub record OpensSession (page_size : ℕ) (uuid : List ℕ) (channels limit frame : ℕ) (waiting : Option ℕ) (status : ℕ) (made : Option LoadSession) : Type 0 where
   pub is_named : IsOneOf (done ∷ no_memory ∷ bad_page_size ∷ bad_limit ∷ bad_channels ∷ bad_length ∷ bad_frame ∷ []) status
   pub opens : status ≡ done → Opens (asked_settings page_size limit frame waiting) uuid channels made
@@ -76,7 +76,7 @@ pub record TellsClosedAt (status before after : ℕ) (s : LoadSession) : Type 0 
   pub same : status ≢ done → after ≡ before
 
 -- C sees how many of a source's bytes are complete items without a fault, as far as they were read: a
--- fault's item begins after them. It isn't told so where there is no such source, nor after a
+-- fault's item begins after them. It isn't reported if there is no such source, nor after a
 -- refused allocation.
 pub record TellsValidUpTo (from : Source) (told : Bool) (before after : ℕ) (s : LoadSession) : Type 0 where
   pub stands : HasSource s.counts from → (given : LoadSettings) (uuid : List ℕ) (texts : Texts) → StandsFor given uuid texts s

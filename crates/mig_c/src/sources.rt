@@ -89,7 +89,7 @@ pub(crate) fn valid_up_to_of(session: &Session<Global>, source: Source, at: &mut
     }
 }
 
-/// The text of a source is over.
+/// Ends a source.
 pub(crate) fn end_source(session: &mut Session<Global>, source: Source) -> u32
     ensures { EndsSource source result session.old session.new }
 {

@@ -46,7 +46,7 @@ pub record HasBatch (table : RamTable) (pages bytes : List ℕ) (batch : BatchOf
 
 -- ---- the calls
 
--- C is told this batch: its block, how many pages it has, and which.
+-- This batch is reported to C: its block, how many pages it has, and which.
 pub record ListsPages (named : NamedBatch) (batch : BatchOfPages) : Type 0 where
   pub same_block : named.block ≡ batch.block
   pub as_many : named.count ≡ length batch.pages

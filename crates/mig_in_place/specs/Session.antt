@@ -98,7 +98,7 @@ pub record IsRunning (given : LoadSettings) (uuid : List ℕ) (first : Image) (t
   pub is_unwritten : readings.main.table ≡ None → All (λ kept. kept.block ≡ None) s.sources.channels
   pub awaited : readings.main.table ≡ None → readings.main.state ≡ stream_state.Reading → All HasHelloAlone gave
 
--- The readers took the bytes of the texts, whatever the verdict is, and some rounds were taken of
+-- The readers took the bytes of the streams, whatever the verdict is, and some rounds were taken of
 -- the main stream's.
 pub record HaveTaken (given : LoadSettings) (uuid : List ℕ) (texts : Texts) (s : KeptSources) : Type 0 where
   pub rounds : ℕ
@@ -134,7 +134,7 @@ StillLacks step before old after new = (given : LoadSettings) (uuid : List ℕ) 
     → LacksMemory given uuid first texts before old → LacksMemory given uuid first (step texts) after new
 
 -- An allocation was refused as a piece of a source was fed, of which some bytes were taken: as many
--- as are counted more. The load lacks memory on the texts with these, or with some of them: the
+-- as are counted more. The load lacks memory on the streams with these, or with some of them: the
 -- last ones may be those of a packet's head for which there was no room.
 pub record RunsOut (from : Source) (piece : List ℕ) (before : Image) (old : InPlaceLoad) (after : Image) (new : InPlaceLoad) : Type 0 where
   pub taken : ℕ

@@ -201,7 +201,7 @@ impl<A: Allocator, M: GuestTarget> InPlaceLoader<A, M> {
     ///
     /// # Errors
     ///
-    /// - the stream's first fault; `Truncated` where there is none, and the end byte is missing;
+    /// - the stream's first fault; `Truncated` if it has none, and the end byte is missing;
     /// - `OtherTable` if the size list is complete and names another table than the memory's;
     /// - `NoMemory` if an allocation was refused in a `feed`.
     pub fn verdict(&self) -> Result<(), LoadFault>
