@@ -68,8 +68,8 @@ impl Feeding {
     }
 }
 
-/// Returns the piece `at` of a stream; None after its end. (`chunks(..).nth(..)` goes through all pieces
-/// before it.)
+/// Returns the piece `at` of a stream; None after its end. (`chunks(..).nth(..)` goes through all
+/// pieces before it.)
 pub fn piece_at(text: &[u8], at: usize) -> Option<&[u8]> {
     let rest = text.get(at.saturating_mul(PIECE)..)?;
     if rest.is_empty() {

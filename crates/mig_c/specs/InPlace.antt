@@ -17,8 +17,8 @@ use Rattle.mig_c.specs.Found.{seen_so_far, if_told}
 
 -- ---- the calls
 
--- The settings of a load into blocks of this table. The limit of its stream is the largest one: what
--- the table has is known, and another table is refused.
+-- The settings of a load into blocks of this table. The limit of its stream is the largest one:
+-- what the table has is known, and another table is refused.
 abbrev pub settings_into : RamTable → Frame → Option ℕ → LoadSettings
 settings_into table frame waiting = load_settings table.page_size (2 ^ 40) waiting frame
 
@@ -93,8 +93,8 @@ pub record EndsInPlace (old new : LoadInPlace) : Type 0 where
   pub has_failed : (memory : Image) (given : LoadSettings) (first : Image) (text : List ℕ) (ended : Bool) → LacksMemory memory given first old text ended
       → LacksMemory memory given first new text true
 
--- C sees the verdict on the stream so far; where it isn't over and has no fault so far, that more of
--- it is needed. After a refused allocation that is the verdict.
+-- C sees the verdict on the stream so far; where it isn't over and has no fault so far, that more
+-- of it is needed. After a refused allocation that is the verdict.
 pub record TellsVerdict (found : FoundFault) (s : LoadInPlace) : Type 0 where
   pub loads : (memory : Image) (given : LoadSettings) (first : Image) (text : List ℕ) (ended : Bool) → LoadsInPlace memory given first s text ended
       → (verdict : Result ⊤ LoadFault) × HasVerdictOnto given first text verdict × (found ≡ seen_so_far ended verdict)
@@ -113,8 +113,9 @@ pub record TellsClosedAt (status before after : ℕ) (s : LoadInPlace) : Type 0 
       → status ≡ running
   pub same : status ≢ done → after ≡ before
 
--- C sees how many of the bytes that were fed are complete items without a fault: a fault's item begins
--- after them. It isn't reported of a stream of another table, nor after a refused allocation.
+-- C sees how many of the bytes that were fed are complete items without a fault: a fault's item
+-- begins after them. It isn't reported of a stream of another table, nor after a refused
+-- allocation.
 pub record TellsValidUpTo (told : Bool) (before after : ℕ) (s : LoadInPlace) : Type 0 where
   pub loads : (memory : Image) (given : LoadSettings) (first : Image) (text : List ℕ) (ended : Bool) → LoadsInPlace memory given first s text ended
       → IsValidUpToOnto given first text (if_told told after)

@@ -83,7 +83,7 @@ pub record TellsClosedAt (status before after : ℕ) (l : Loader) : Type 0 where
   pub not_closed : status ≡ running → (given : LoadSettings) (text : List ℕ) (ended : Bool) → Loads given l text ended → HasClosedAt (single_of given) text None
   pub same : status ≢ done → after ≡ before
 
--- C sees how many of the bytes that were fed are complete items without a fault: a fault's item begins
--- after them.
+-- C sees how many of the bytes that were fed are complete items without a fault: a fault's item
+-- begins after them.
 abbrev pub TellsValidUpTo : ℕ → Loader → Type 0
 TellsValidUpTo number l = (given : LoadSettings) (text : List ℕ) (ended : Bool) → Loads given l text ended → IsValidUpTo (single_of given) text number

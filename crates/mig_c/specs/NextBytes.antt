@@ -1,4 +1,5 @@
--- What the next bytes of one stream are as C sees it, and a page that C reads into its block itself.
+-- What the next bytes of one stream are as C sees it, and a page that C reads into its block
+-- itself.
 use Rattle.std.specs.Prelude.{◌≡◌, ◌≢◌, ◌<◌, ◌≤◌, ◌+◌, ◌*◌, ◌^◌, ◌++◌, ℕ, Bool, List, [], ◌∷◌, Option, None, Some, IfSome, IsTrue, IsFalse, false}
 use Rattle.mig_mem.specs.declared.place.Place.{Place}
 use Rattle.mig_mem.specs.Place.{IsPlace}
@@ -24,8 +25,8 @@ abbrev pub SeesNext : ℕ → Bool → (before after : NextBytes) → Option Wan
 SeesNext page_size told before after None = IsFalse told × (after ≡ before)
 SeesNext page_size told before after (Some next) = IsTrue told × (after ≡ seen_next page_size next)
 
--- C sees what the next bytes of the stream are. A page is one of the blocks. Nothing comes next once
--- no more of the stream is read, nor after a refused allocation.
+-- C sees what the next bytes of the stream are. A page is one of the blocks. Nothing comes next
+-- once no more of the stream is read, nor after a refused allocation.
 pub record TellsNext (told : Bool) (before after : NextBytes) (s : LoadInPlace) : Type 0 where
   pub next : Option Wanted
   pub sees : SeesNext s.table.page_size told before after next

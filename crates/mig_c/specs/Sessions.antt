@@ -75,8 +75,8 @@ pub record TellsClosedAt (status before after : ℕ) (s : LoadSession) : Type 0 
   pub lacking : (given : LoadSettings) (uuid : List ℕ) (texts : Texts) → LacksMemory given uuid texts s → status ≡ running
   pub same : status ≢ done → after ≡ before
 
--- C sees how many of a source's bytes are complete items without a fault, as far as they were read: a
--- fault's item begins after them. It isn't reported if there is no such source, nor after a
+-- C sees how many of a source's bytes are complete items without a fault, as far as they were read:
+-- a fault's item begins after them. It isn't reported if there is no such source, nor after a
 -- refused allocation.
 pub record TellsValidUpTo (from : Source) (told : Bool) (before after : ℕ) (s : LoadSession) : Type 0 where
   pub stands : HasSource s.counts from → (given : LoadSettings) (uuid : List ℕ) (texts : Texts) → StandsFor given uuid texts s

@@ -181,8 +181,8 @@ impl HeldLoad {
         }
     }
 
-    /// Returns whether it is known how many of the bytes fed are complete items without a fault, and
-    /// reports how many.
+    /// Returns whether it is known how many of the bytes fed are complete items without a fault,
+    /// and reports how many.
     pub(crate) fn valid_up_to(&self, at: &mut u64) -> bool
         ensures { TellsValidUpTo result at.old at.new self.now }
     {

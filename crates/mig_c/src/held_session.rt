@@ -237,8 +237,8 @@ impl HeldSession {
         closed_at(&self.session, at)
     }
 
-    /// Returns whether it is known how many of the bytes taken of a source are complete items without
-    /// a fault, and reports how many.
+    /// Returns whether it is known how many of the bytes taken of a source are complete items
+    /// without a fault, and reports how many.
     pub(crate) fn valid_up_to(&self, source: Source, at: &mut u64) -> bool
         ensures { TellsValidUpTo source result at.old at.new self.now }
     {

@@ -64,13 +64,14 @@ left_of e channel = drop (get_or e.given.items channel 0) (get_or (texts_of e.se
 abbrev pub all_channels : ℕ → Drained → EndedStreams → List (List ℕ)
 all_channels channels drained e = map (λ channel. drained.channel channel ++ left_of e channel) (range_with_len 0 channels)
 
--- The streams of some rounds, whose main stream is ended with its end byte, or left open without it.
+-- The streams of some rounds, whose main stream is ended with its end byte, or left open without
+-- it.
 abbrev pub AreEnded : Bool → RamTable → List ℕ → ℕ → ℕ → List DealtRound → List ℕ → List (List ℕ) → Type 0
 AreEnded false table uuid limit channels rounds main_text texts = IsSending table uuid limit channels rounds main_text texts
 AreEnded true table uuid limit channels rounds main_text texts = IsMachineSending None table uuid limit channels rounds main_text texts
 
--- No round is open, the sender has sent these rounds, and these bytes were drained of it: of the main
--- stream those without a name. Where it is ended, the rest of its streams is there.
+-- No round is open, the sender has sent these rounds, and these bytes were drained of it: of the
+-- main stream those without a name. Where it is ended, the rest of its streams is there.
 abbrev pub SendsTo : MultiSetting → Drained → List DealtRound → MultiState → Type 0
 SendsTo setting drained rounds (Idle s) = IsSenderOf setting s × HasSentRounds drained s rounds
 SendsTo setting drained rounds (Round r) = ⊥
@@ -198,8 +199,8 @@ abbrev pub OfTable : (RamTable → Type 0) → Option RamTable → Type 0
 OfTable IsSo None = ⊤
 OfTable IsSo (Some table) = IsSo table
 
--- What `new` does, with a table, and with a machine's name or none: the first thing that is wrong with
--- what it is given is returned.
+-- What `new` does, with a table, and with a machine's name or none: the first thing that is wrong
+-- with what it is given is returned.
 pub record OpensMulti (table : Option RamTable) (uuid : List ℕ) (channels limit : ℕ) (name : Option (List ℕ)) (status : ℕ) (made : Option Multi) : Type 0 where
   pub is_named : IsOneOf (done ∷ no_memory ∷ bad_length ∷ no_channels ∷ bad_batch_limit ∷ []) status
   pub starts : status ≡ done → StartsOf table uuid channels limit name made
@@ -423,8 +424,8 @@ pub record RefillsMain (old new : Multi) : Type 0 where
   pub all : IsOver old.state → waiting_in new.main ≡ [] → (setting : MultiSetting) (given : Drained) (rounds : List DealtRound)
       → Sends setting given rounds old → given.main ≡ ended_main (is_left_open old.state) setting.name setting.table (length rounds)
 
--- What `drain_channel` does: of streams that are ended it copies out what is left of a channel, and of
--- streams that were given up nothing.
+-- What `drain_channel` does: of streams that are ended it copies out what is left of a channel, and
+-- of streams that were given up nothing.
 pub record DrainsChannel (channel count : ℕ) (out : List ℕ) (old new : MultiState) : Type 0 where
   pub fits : count ≤ length out
   pub hands : IsOver old → (setting : MultiSetting) (drained : Drained) (rounds : List DealtRound) → SendsTo setting drained rounds old

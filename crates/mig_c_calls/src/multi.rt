@@ -455,8 +455,8 @@ impl Multi {
         status
     }
 
-    /// Ends the streams, where no round is open, and leaves the main stream open after the footer of
-    /// RAM's END: the caller goes on with the sections of devices and the end byte. Returns the
+    /// Ends the streams, where no round is open, and leaves the main stream open after the footer
+    /// of RAM's END: the caller goes on with the sections of devices and the end byte. Returns the
     /// status: `DONE`, `NO_MEMORY` or `OUT_OF_TURN`.
     pub fn finish_open(&mut self, alloc: Global) -> u32
         ensures { ChangesMulti (Finishes true result) self.old self.new }

@@ -16,8 +16,8 @@ const BLOCKS: [(&str, u64); 2] = [("a", 40_000), ("b", 5)];
 // How many pages a round has: enough for four threads.
 const PAGES: u64 = 4100;
 
-// Returns the place of a page of a round by its number: of pages of the large block in no order, and
-// of those of the small one, which come more than once.
+// Returns the place of a page of a round by its number: of pages of the large block in no order,
+// and of those of the small one, which come more than once.
 fn place_of(i: u64) -> Place {
     if i % 8 == 7 {
         at(1, i % 5)

@@ -38,7 +38,8 @@ pub record PutsPages (size block first : ℕ) (old new : BlockPages) (pages : Li
   pub same_count : length new.pages ≡ length old.pages
   pub each : (q : ℕ) → q < length old.pages → page_at new q ≡ given size (place_at block (first + q)) pages (page_at old q)
 
--- and each page of some regions of a block, of `per` pages, of which the first begins at page `first`
+-- and each page of some regions of a block, of `per` pages, of which the first begins at page
+-- `first`
 pub record PutsRegions (size per block first : ℕ) (old new : List BlockPages) (pages : List RoundPage) : Type 0 where
   pub same_len : length new ≡ length old
   pub each : (i : ℕ) → i < length old → PutsPages size block (first + i * per) (region_of old i) (region_of new i) pages

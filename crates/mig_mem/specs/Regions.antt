@@ -1,5 +1,5 @@
--- The pages of a block in regions, one after another: a region has `per` pages, and the last one may
--- have fewer.
+-- The pages of a block in regions, one after another: a region has `per` pages, and the last one
+-- may have fewer.
 use Rattle.std.specs.Prelude.{ℕ, ◌≡◌, ◌-◌, ◌*◌, ◌/◌, ◌%◌, ◌^◌, ◌<◌, ◌≤◌, List, length, map, min, replicate, All, slice_index_or}
 use Rattle.std.specs.List.{range_with_len}
 use Rattle.mig_mem.specs.Image.{zero_page}

@@ -102,8 +102,8 @@ fn regions_each(regions: usize, round: u64, threads: u64) -> usize
     regions.div_ceil(useful as usize).max(1)
 }
 
-/// Writes the pages that lie in the regions of a block, which have `per` pages of `size` bytes each,
-/// by at most `threads` threads.
+/// Writes the pages that lie in the regions of a block, which have `per` pages of `size` bytes
+/// each, by at most `threads` threads.
 pub(crate) fn put_regions<R: Threads + Sync, A: Allocator + Send>(
     rt: &R,
     regions: &mut [Pages<A>],

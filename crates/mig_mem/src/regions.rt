@@ -1,5 +1,5 @@
-//! The pages of a block in regions, each of which has slots and bytes of its own. So several threads
-//! can write the pages of one block. `Memory` keeps one such value for each block.
+//! The pages of a block in regions, each of which has slots and bytes of its own. So several
+//! threads can write the pages of one block. `Memory` keeps one such value for each block.
 
 ghost use Rattle.std.specs.Prelude.{ℕ, ◌≡◌, ◌+◌, ◌*◌, ◌/◌, ◌^◌, ◌<◌, ◌≤◌, length, map, min, ◌%◌, replicate, slice_set, All, IfOk, IsTrue};
 ghost use Rattle.std.specs.List.{range_with_len};

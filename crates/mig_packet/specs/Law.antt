@@ -106,8 +106,8 @@ pub record HasFaultAt (given : Settings) (text : List ℕ) (n : ℕ) (fault : Ch
   pub leads : Front (start given.page_size given.uuid given.channels given.waiting) front to
   pub has_fault : due_fault to rest ≡ Some fault
 
--- A limit refuses no packet that has room: the one at fault, together with those of its round before
--- it, counts more than the limit.
+-- A limit refuses no packet that has room: the one at fault, together with those of its round
+-- before it, counts more than the limit.
 abbrev pub RefusedIsOver : Type 0
 RefusedIsOver = (given : Settings) (text : List ℕ) (n : ℕ) → (at : HasFaultAt given text n Waiting)
     → (waiting : ℕ) × (given.waiting ≡ Some waiting) × (waiting < weight_of_all at.to.packets + weight at.rest)

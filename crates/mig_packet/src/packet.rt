@@ -153,7 +153,8 @@ pub(crate) fn offset_of(head: &[u8], i: usize) -> u64
     be64(head, FIELDS_LEN + 8 * i)
 }
 
-/// Returns how much a packet counts of what may wait: one for itself, and one for each of its pages.
+/// Returns how much a packet counts of what may wait: one for itself, and one for each of its
+/// pages.
 pub(crate) fn weight_of(head: &[u8]) -> u64
     requires { 320 ≤ length head.now }
     ensures { result ≡ weight head.now }

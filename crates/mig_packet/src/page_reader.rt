@@ -189,8 +189,9 @@ impl<A: Allocator + Copy> PageReader<A> {
         PageReader::new_within(alloc, page_size, uuid, channels, None)
     }
 
-    /// Creates the reader as `new` does, with the limit that `ChannelReader::new_within` takes. This
-    /// reader keeps no packets; it judges the limit all the same, so that both report one fault.
+    /// Creates the reader as `new` does, with the limit that `ChannelReader::new_within` takes.
+    /// This reader keeps no packets; it judges the limit all the same, so that both report one
+    /// fault.
     ///
     /// # Errors
     ///

@@ -67,7 +67,8 @@ fn order_of_reading_faulty_streams(rt: HostRuntime) {
     assert_order(&rt, Plan::good(SCENARIO), &faulty);
 }
 
-// Returns the file `name` that the tool writes when it sends the scenario, in a folder of that name.
+// Returns the file `name` that the tool writes when it sends the scenario, in a folder of that
+// name.
 fn sent<H: AllocGlobal + Files + Threads + Wait + Sync + Abort>(
     rt: &H,
     name: &str,

@@ -14,8 +14,8 @@
 //!   message.
 #![tactic(auto)]
 
-// The gate proves what is built without tests, and then again with all that is built with them. So a
-// use is built with its tests only, unless the definitions in `specs/` name its types.
+// The gate proves what is built without tests, and then again with all that is built with them. So
+// a use is built with its tests only, unless the definitions in `specs/` name its types.
 #[cfg(test)]
 mod backup;
 #[cfg(test)]
