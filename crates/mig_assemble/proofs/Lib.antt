@@ -9,6 +9,7 @@ pub mod Misplaced
 pub mod Marked
 pub mod Samples
 pub mod Putting
+pub mod RoundLists
 pub mod PacketParts
 pub mod Lawful
 pub mod Runs

@@ -9,4 +9,5 @@ pub mod RoundFaultNumber
 pub mod Sorted
 pub mod Seen
 pub mod PacketPages
+pub mod RoundList
 pub mod Arrivals

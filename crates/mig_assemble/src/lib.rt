@@ -22,6 +22,7 @@ mod laws;
 mod numbers;
 mod places;
 mod put;
+mod round_list;
 mod target;
 
 pub use arrivals::{Arrivals, arrivals_make_the_round, heads_are_judged, other_places_stay};

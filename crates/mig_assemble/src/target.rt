@@ -10,12 +10,18 @@ ghost use Rattle.mig_assemble.specs.Target.{new_target, target_over, pages_of_ro
 
 use crate::judge::judge;
 use crate::put::{put_packets, put_records};
+use crate::round_list::{page_total, round_list};
 use crate::{Gathered, RoundFault};
 use mig_mem::{Dirty, GuestTarget, Memory, NoMemory, Table};
 use mig_stream::StreamRound;
 use std::alloc::{Allocator, Global};
 use std::fmt;
 use std::marker::Model;
+use std::thread::Threads;
+
+// For fewer pages than these a round isn't put by threads: their list and the threads' start take
+// longer than they save.
+const FEWEST: usize = 4096;
 
 /// The memory of a guest that is being loaded: its first contents, which are zeros if `new` creates
 /// it, with the rounds so far applied.
@@ -113,6 +119,47 @@ impl<A: Allocator + Copy, M: GuestTarget> Target<A, M> {
         self.section(round);
         put_packets(&mut self.memory, packets);
         self.base += packets.len() as u64;
+        Ok(())
+    }
+}
+
+impl<A: Allocator + Copy + Send> Target<A> {
+    /// Judges a round and applies it, as `round` does, and writes its pages by at most `threads`
+    /// threads, the caller's thread among them. All others have ended when the call returns. A
+    /// round of fewer than 4,096 pages is written by the caller's thread.
+    ///
+    /// # Errors
+    ///
+    /// The first refusal that applies, in the order of `RoundFault`. `NoMemory` may take the place
+    /// of any: an allocation was refused. Nothing changes.
+    pub fn round_by<R: Threads + Sync, B: Allocator, C: Allocator>(
+        &mut self,
+        rt: &R,
+        threads: u64,
+        round: &StreamRound<B>,
+        gathered: &Gathered<'_, C>,
+    ) -> Result<(), RoundFault>
+        requires threads { 0 < threads }
+        requires fits { FitsTable self.old.memory.table round.now }
+        requires page_sizes { All (λ p. p.page_size ≡ self.old.memory.table.page_size) gathered.now }
+        requires room { self.old.base + length gathered.now ≤ 2 ^ 63 }
+        requires rounds { self.old.rounds < 2 ^ 63 }
+        ensures lawful { OnOk result (refusal self.old.memory.table self.old.base (pages_of_round round.now) (map fields gathered.now) ≡ None) }
+        ensures ok { OnOk result (self.new ≡ after_round self.old round.now (map fields gathered.now)) }
+        ensures refused { IfErr result (λ fault. (fault ≡ fault_no_memory)
+            ⊎ (refusal self.old.memory.table self.old.base (pages_of_round round.now) (map fields gathered.now) ≡ Some fault)) }
+        ensures err { OnErr result (self.new ≡ self.old) }
+    {
+        let packets = gathered.packets();
+        if threads == 1 || page_total(round, packets) < FEWEST {
+            return self.round(round, gathered);
+        }
+        let (rounds, base) = (self.rounds, self.base);
+        judge(self.alloc, &mut self.seen, base, round, packets)?;
+        let pages = round_list(self.alloc, self.memory.table(), round, packets)?;
+        self.memory.put_pages(rt, threads, pages.as_slice());
+        self.rounds = rounds + 1;
+        self.base = base + packets.len() as u64;
         Ok(())
     }
 }

@@ -1,0 +1,10 @@
+use Rattle.std.proofs.Common.{map}
+use Rattle.std.specs.List.{range_with_len}
+use Rattle.mig_assemble.specs.RoundList.{Adds}
+use Rattle.mig_assemble.proofs.PacketParts.{zero_page_at}
+use Rattle.mig_assemble.proofs.round_list.add_zeros.Given as goal
+
+abbrev pub invariant-loop-i : goal.invariant-loop-i
+invariant-loop-i g l =
+    Adds l.table.page_size l.fn.list.items l.list.items
+    (map (zero_page_at l.table l.block l.packet.bytes.now) (range_with_len l.normal_count l.i))
