@@ -28,4 +28,6 @@ mod threaded;
 #[cfg(test)]
 mod threaded_memory;
 #[cfg(test)]
+mod threaded_rounds;
+#[cfg(test)]
 mod waiting;

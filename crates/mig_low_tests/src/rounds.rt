@@ -5,7 +5,7 @@ ghost use Rattle.std.specs.Prelude.{◌≡◌, All};
 
 use mig_assemble::{Gathered, RoundFault, Target};
 use mig_fixtures::{at, places_of, table, zeroed};
-use mig_mem::{MAX_TOTAL, PAGE_SIZE_4K};
+use mig_mem::{Dirty, MAX_TOTAL, Memory, PAGE_SIZE_4K};
 use mig_packet::{Packet, PacketRead, put_packet, read_packet};
 use mig_stream::{Mode, StreamReader, StreamRound, StreamWriter};
 use std::alloc::AllocGlobal;
@@ -75,10 +75,8 @@ pub(crate) fn packets_of<'a>(rt: &(impl AllocGlobal + Abort), bytes: &'a [u8]) -
     }
 }
 
-// Returns a single stream whose second section has one record, of page 1 of `b`.
-fn stream(rt: &(impl AllocGlobal + Abort)) -> Vec<u8> {
-    let image = zeroed(rt.alloc(), &BLOCKS).expect(rt, "a memory");
-    let dirty = places_of(rt.alloc(), image.table(), &[at(1, 1)]).expect(rt, "a set");
+// Returns a single stream whose second section has these pages of a memory.
+fn stream(rt: &(impl AllocGlobal + Abort), image: Memory, dirty: Dirty) -> Vec<u8> {
     let mut writer = StreamWriter::new(rt.alloc(), image.table()).expect(rt, "a writer");
     assert!(rt; image.table().same(writer.table()));
     assert!(rt; dirty.table().same(writer.table()));
@@ -96,15 +94,26 @@ fn next_round<'a>(
     }
 }
 
-/// Returns a round of one record, of page 1 of `b`.
-pub(crate) fn one_record(rt: &(impl AllocGlobal + Abort)) -> StreamRound<'static> {
+/// Returns a round of records of these pages of a memory.
+pub(crate) fn records(
+    rt: &(impl AllocGlobal + Abort),
+    image: Memory,
+    dirty: Dirty,
+) -> StreamRound<'static> {
     let mut reader = StreamReader::new(rt.alloc(), Mode::Single, PAGE_SIZE_4K, MAX_TOTAL);
-    assert!(rt; reader.feed(&stream(rt)).is_ok());
+    assert!(rt; reader.feed(&stream(rt, image, dirty)).is_ok());
     let first = next_round(rt, &mut reader);
     assert!(rt; first.len() == 0);
-    let second = next_round(rt, &mut reader);
-    assert!(rt; second.len() == 1 && second.place(0) == at(1, 1));
-    second
+    next_round(rt, &mut reader)
+}
+
+/// Returns a round of one record, of page 1 of `b`.
+pub(crate) fn one_record(rt: &(impl AllocGlobal + Abort)) -> StreamRound<'static> {
+    let image = zeroed(rt.alloc(), &BLOCKS).expect(rt, "a memory");
+    let dirty = places_of(rt.alloc(), image.table(), &[at(1, 1)]).expect(rt, "a set");
+    let round = records(rt, image, dirty);
+    assert!(rt; round.len() == 1 && round.place(0) == at(1, 1));
+    round
 }
 
 // Returns the three packets of some bytes, gathered.
