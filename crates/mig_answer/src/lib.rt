@@ -9,7 +9,7 @@
 //! hold for each load whose answer is `IsAnswer`, as those of `mig_relay` and `mig_session`.
 //!
 //! Relays and sessions share the calls beside the laws: `verdict_told` returns the verdict of the
-//! sources at a round, and `put` applies a round to memory.
+//! sources at a round. `put` applies a round to memory, and `put_by` has several threads write it.
 //!
 //! Definitions, in reading order: `Status`, `Texts`, `Rounds`, `MultiLoad`, then `Received`,
 //! `Dealt`, `Sent`, `Law`, `Growing` (`specs/`). `Told` and `Putting` are for the shared calls
@@ -26,7 +26,7 @@ pub use laws::{
     answers_stay, dealt_rounds_are_lawful, machine_sendings_are_loaded, received_tells_status,
     sendings_are_loaded, texts_have_one_answer,
 };
-pub use round::put;
+pub use round::{put, put_by};
 pub use status::{Status, channel_end, stream_end};
 pub use told::{repeated_id, verdict_told};
 pub use verdict::Verdict;
