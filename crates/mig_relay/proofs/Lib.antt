@@ -9,6 +9,7 @@ mod AllGone
 mod RelayLoads
 mod RelayRounds
 mod MainStream
+mod ReadyRounds
 mod RelayAnswers
 mod Relaying
 mod RelayHellos

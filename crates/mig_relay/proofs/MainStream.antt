@@ -1,6 +1,6 @@
 -- The main stream of a load on channels, round by round, and its end.
-use Rattle.std.proofs.Common.{ℕ, ◌≡◌, ◌+◌, ◌<◌, ◌≤◌, true, List, [], length, refl, sym, ap, ◌∙◌, inl, inr, Some, arith, subst, get_or}
-use Rattle.std.specs.Prelude.{◌^◌, ⊤, IsTrue, Result, slice_index_or}
+use Rattle.std.proofs.Common.{ℕ, ◌≡◌, ◌<◌, ◌≤◌, true, List, [], length, refl, sym, ap, ◌∙◌, inl, inr, Some, arith, subst, get_or}
+use Rattle.std.specs.Prelude.{⊤, Result, slice_index_or}
 use Rattle.std.specs.List.{All}
 use Rattle.std.proofs.lemmas.Bool.{cases_lt}
 use Rattle.std.proofs.lemmas.List.{length-append}
@@ -17,10 +17,8 @@ use Rattle.mig_stream.proofs.Limits.{limits_law}
 use Rattle.mig_assemble.specs.Target.{LoadTarget}
 use Rattle.mig_single_load.specs.Settings.{main_of}
 use Rattle.mig_single_load.specs.declared.fault.LoadFault.{LoadFault}
-use Rattle.mig_answer.specs.MultiLoad.{passes}
 use Rattle.mig_relay.specs.RelayItems.{QueueEnd}
-use Rattle.mig_relay.specs.Relayed.{Load, Loading, HasEnded, ComesToRound, Goes, EndsAt}
-use Rattle.mig_answer.specs.Putting.{HasLoaded}
+use Rattle.mig_relay.specs.Relayed.{Load, Loading, HasEnded, ComesToRound, Goes, EndsAt, Ends}
 use Rattle.mig_answer.proofs.Putting.{table_is}
 use Rattle.mig_relay.proofs.RelayRounds.{size_is}
 
@@ -76,20 +74,6 @@ comes_in l reader target places ends round goes size has places_in =
       };
     }
 
--- and the next one is due
-pub goes_to_next : (l : Load) (reader next : Reader) (target new : LoadTarget) (places places_now : List ℕ) (ends now : List QueueEnd) → Goes l reader target places ends
-    → Stands (main_of l.given) (main_so_far l.main (target.rounds + 1)) next
-    → Loading l (target.rounds + 1) places_now now × HasLoaded (target.rounds + 1) l.readings new × (new.base ≤ 2 ^ 63) → Goes l next new places_now now
-goes_to_next l reader next target new places places_now ends now goes stands judged =
-    let count : new.rounds ≡ target.rounds + 1 = judged.1.has_rounds in
-    record {
-      stands = subst (λ n. Stands (main_of l.given) (main_so_far l.main n) next) (sym count) stands;
-      loading = subst (λ n. Loading l n places_now now) (sym count) judged.0;
-      has_loaded = subst (λ n. HasLoaded n l.readings new) (sym count) judged.1;
-      few_packets = judged.2;
-      is_short = goes.is_short;
-    }
-
 -- ---- no round is left
 
 pub ends_in : (l : Load) (k : ℕ) (reader : Reader) (state : StreamState) (places : List ℕ) (ends : List QueueEnd) → Loading l k places ends
@@ -110,14 +94,18 @@ ends_in l k reader state places ends loading stands last has =
       has_state = ap (λ (x : StreamReading). x.state) same ∙ sym has.2;
     }
 
--- ---- the answer
+-- ---- the end
 
-pub ended_here : (l : Load) (k : ℕ) (target new : LoadTarget) (verdict : Result ⊤ LoadFault) (places : List ℕ) (ends now : List QueueEnd) → k ≡ target.rounds → Loading l target.rounds places ends
-    → HasLoaded target.rounds l.readings target → new ≡ target → HasEnded l k verdict now
-    → HasLoaded new.rounds l.readings new × HasEnded l new.rounds verdict now × ((j : ℕ) → j < new.rounds → IsTrue (passes j l.readings))
-ended_here l k target new verdict places ends now e loading loaded same ended =
-    subst (λ (t : LoadTarget). HasLoaded t.rounds l.readings t × HasEnded l t.rounds verdict now × ((j : ℕ) → j < t.rounds → IsTrue (passes j l.readings))) (sym same)
-    (loaded, subst (λ n. HasEnded l n verdict now) e ended, loading.have_passed)
+-- a load that goes ends with its memory unchanged
+pub ends_here : (l : Load) (reader : Reader) (target new : LoadTarget) (verdict : Result ⊤ LoadFault) (places : List ℕ) (ends now : List QueueEnd) → Goes l reader target places ends
+    → new ≡ target → HasEnded l target.rounds verdict now → Ends l new verdict now
+ends_here l reader target new verdict places ends now goes same ended =
+    subst (λ (t : LoadTarget). Ends l t verdict now) (sym same) (record {
+      are_readings = goes.loading.are_readings;
+      have_passed = goes.loading.have_passed;
+      has_loaded = goes.has_loaded;
+      has_ended = ended;
+    })
 
 -- after all rounds
 pub goes_to_end : (l : Load) (k : ℕ) (reader next : Reader) (target : LoadTarget) (state : StreamState) (places : List ℕ) (ends : List QueueEnd) → k ≡ target.rounds → Goes l reader target places ends

@@ -28,7 +28,7 @@ use Rattle.mig_answer.specs.Rounds.{pages_at, memory_at}
 use Rattle.mig_answer.specs.MultiLoad.{passes, IsFirstStop, verdict_at, as_verdict}
 use Rattle.mig_answer.specs.Received.{round_count}
 use Rattle.mig_relay.specs.RelayItems.{with_settings, QueueEnd, IsThrough}
-use Rattle.mig_relay.specs.Relayed.{IsRelayOf, Continues, HasReceived, AreAtRound, Load, HaveRounds, HasEnded, EndsAt, Goes, Begins, IsAnswerOf}
+use Rattle.mig_relay.specs.Relayed.{IsRelayOf, IsRelay, Continues, HasReceived, AreAtRound, Load, IsLoadOf, HaveRounds, HasEnded, EndsAt, Goes, Begins, IsAnswerOf}
 use Rattle.mig_answer.proofs.OneAnswer.{some_readings}
 use Rattle.mig_relay.proofs.Relays.{sizes_are, limits_are}
 use Rattle.mig_relay.proofs.GoingThrough.{goes_on}
@@ -170,17 +170,51 @@ load_of given uuid main texts size = record {
   readings = (some_readings given uuid (ended_texts main texts) size).0;
 }
 
-pub load_begins : (given : LoadSettings) (uuid : List ℕ) (main : List ℕ) (texts : List (List ℕ)) (ends : List QueueEnd) (reader : Reader) (size : IsPageSize given.page_size)
-    → IsRelayOf given.page_size given.waiting uuid texts ends → Stands (main_of given) (main_so_far main 0) reader → length main < 2 ^ 63
-    → Begins (load_of given uuid main texts size) reader (replicate (length ends) 0) ends
-load_begins given uuid main texts ends reader size is stands short = record {
-  stands = stands;
-  loading = record {
-    is_page_size = size;
-    is_relay = is;
-    are_readings = (some_readings given uuid (ended_texts main texts) size).1;
-    have_passed = λ j below. absurd (omega (arith, below));
-    are_at = are_at_start ends;
-  };
-  is_short = short;
+-- it is one of them, with these settings but for those that the relay has
+pub is_load_of : (given : LoadSettings) (main : List ℕ) (ends : List QueueEnd) (page_size : ℕ) (waiting : Option ℕ) (uuid : List ℕ) (texts : List (List ℕ)) (size : IsPageSize page_size)
+    → IsRelayOf page_size waiting uuid texts ends
+    → IsLoadOf given main ends (load_of (record given { page_size = page_size; waiting = waiting }) uuid main texts size)
+is_load_of given main ends page_size waiting uuid texts size is = record {
+  has_settings = refl;
+  has_main = refl;
+  is_page_size = size;
+  is_relay = is;
+  are_readings = (some_readings (record given { page_size = page_size; waiting = waiting }) uuid (ended_texts main texts) size).1;
 }
+
+-- there is one
+pub load_of_relay : (given : LoadSettings) (main : List ℕ) (ends : List QueueEnd) → IsRelay ends → (l : Load) × IsLoadOf given main ends l
+load_of_relay given main ends relay = (
+  load_of (record given { page_size = relay.page_size; waiting = relay.waiting }) relay.uuid main relay.texts relay.is_page_size,
+  is_load_of given main ends relay.page_size relay.waiting relay.uuid relay.texts relay.is_page_size relay.is_relay,
+)
+
+-- the relay's page size is one
+pub size_known : (given : LoadSettings) (main : List ℕ) (ends : List QueueEnd) (known : Load) (page_size : ℕ) (waiting : Option ℕ) (uuid : List ℕ) (texts : List (List ℕ))
+    → IsLoadOf given main ends known → IsRelayOf page_size waiting uuid texts ends → IsPageSize page_size
+size_known given main ends known page_size waiting uuid texts is relay =
+    let sizes = sizes_are (with_waiting known.given.waiting (settings known.given.page_size known.uuid (length known.texts))) known.texts ends is.is_relay.has_sources in
+    subst IsPageSize (relay_size page_size known.given.page_size waiting uuid texts ends relay sizes) is.is_page_size
+
+pub begins_load : (given : LoadSettings) (main : List ℕ) (ends : List QueueEnd) (reader : Reader) (l : Load) (n : ℕ) (limit : Option ℕ) → IsLoadOf given main ends l
+    → All (λ p. p.source.page_size ≡ n) ends → All (λ p. p.source.waiting ≡ limit) ends
+    → Stands (main_of (record given { page_size = n; waiting = limit })) (main_so_far main 0) reader → length main < 2 ^ 63
+    → Begins l reader (replicate (length ends) 0) ends
+begins_load given main ends reader l n limit is sizes limits stands short =
+    let same = relay_size l.given.page_size n l.given.waiting l.uuid l.texts ends is.is_relay sizes in
+    let same_limit = relay_limit l.given.page_size l.given.waiting limit l.uuid l.texts ends is.is_relay limits in
+    let of_relay : Stands (main_of (record given { page_size = l.given.page_size; waiting = l.given.waiting })) (main_so_far main 0) reader =
+    subst (λ (x : ℕ × Option ℕ). Stands (main_of (record given { page_size = x.0; waiting = x.1 })) (main_so_far main 0) reader) (λ i. (same i, same_limit i)) stands in
+    let of_load : Stands (main_of l.given) (main_so_far main 0) reader =
+    subst (λ (s : LoadSettings). Stands (main_of s) (main_so_far main 0) reader) (sym is.has_settings) of_relay in
+    record {
+      stands = subst (λ (m : List ℕ). Stands (main_of l.given) (main_so_far m 0) reader) (sym is.has_main) of_load;
+      loading = record {
+        is_page_size = is.is_page_size;
+        is_relay = is.is_relay;
+        are_readings = is.are_readings;
+        have_passed = λ j below. absurd (omega (arith, below));
+        are_at = are_at_start ends;
+      };
+      is_short = subst (λ (m : List ℕ). length m < 2 ^ 63) (sym is.has_main) short;
+    }

@@ -155,6 +155,15 @@ pub record Load : Type 0 where
   pub texts : List (List ℕ)
   pub readings : Readings
 
+-- a load of this main stream and of the channels of a relay, with these settings but for those that
+-- the relay has
+pub record IsLoadOf (settings : LoadSettings) (main : List ℕ) (ends : List QueueEnd) (l : Load) : Type 0 where
+  pub has_settings : l.given ≡ record settings { page_size = l.given.page_size; waiting = l.given.waiting }
+  pub has_main : l.main ≡ main
+  pub is_page_size : IsPageSize l.given.page_size
+  pub is_relay : IsRelayOf l.given.page_size l.given.waiting l.uuid l.texts ends
+  pub are_readings : AreReadings l.given l.uuid (ended_texts l.main l.texts) l.readings
+
 -- A load has reached round k: the rounds before it pass, and these are the channels, processed up
 -- to it.
 pub record Loading (l : Load) (k : ℕ) (places : List ℕ) (ends : List QueueEnd) : Type 0 where
@@ -202,12 +211,24 @@ pub record ComesToRound (l : Load) (target : LoadTarget) (places : List ℕ) (en
   pub is_round : round.records ≡ get_or l.readings.main.rounds target.rounds []
   pub fits : FitsTable target.memory.table round
 
--- The result of judging a round. With None it is applied, and the next one follows. Otherwise the
--- load has ended, and the memory is unchanged.
-abbrev pub HasJudged : Load → LoadTarget → Option (Result ⊤ LoadFault) → LoadTarget → List ℕ → List QueueEnd → Type 0
-HasJudged l old None new places ends =
-    Loading l (old.rounds + 1) places ends × HasLoaded (old.rounds + 1) l.readings new × (new.base ≤ 2 ^ 63)
-HasJudged l old (Some verdict) new places ends = (new ≡ old) × HasEnded l old.rounds verdict ends
+-- A load has reached a round that all sources have, with these records and packets. What its reader
+-- and the channels give next follows it; it isn't applied yet.
+pub record Ready (l : Load) (reader : Reader) (target : LoadTarget) (places : List ℕ) (ends : List QueueEnd) (round : RoundOfRecords) (packets : List Packet) : Type 0 where
+  pub places_before : List ℕ
+  pub ends_before : List QueueEnd
+  pub comes : ComesToRound l target places_before ends_before round
+  pub continues : AllZip Continues ends_before ends
+  pub told : ToldAt l target.rounds Whole None places ends (map fields packets)
+  pub has_page_size : All (λ packet. packet.page_size ≡ target.memory.table.page_size) packets
+  pub stands : Stands (main_of l.given) (record { text = l.main; ended = true; taken = target.rounds + 1 }) reader
+  pub is_short : length l.main < 2 ^ 63
+
+-- a load with this memory ends with this verdict
+pub record Ends (l : Load) (target : LoadTarget) (verdict : Result ⊤ LoadFault) (ends : List QueueEnd) : Type 0 where
+  pub are_readings : AreReadings l.given l.uuid (ended_texts l.main l.texts) l.readings
+  pub have_passed : (j : ℕ) → j < target.rounds → IsTrue (passes j l.readings)
+  pub has_loaded : HasLoaded target.rounds l.readings target
+  pub has_ended : HasEnded l target.rounds verdict ends
 
 -- After round k the main stream stands so.
 pub record EndsAt (l : Load) (k : ℕ) (state : StreamState) (places : List ℕ) (ends : List QueueEnd) : Type 0 where

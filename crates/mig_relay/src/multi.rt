@@ -1,6 +1,7 @@
 //! The load of complete streams on several channels: a relay, with a worker for each channel.
 
-ghost use Rattle.std.specs.Prelude.{ℕ, ◌≡◌, ◌≤◌, ◌^◌, ◌⊎◌, List, None, length, map, IfOk, vec_len, vec_capacity};
+ghost use Rattle.std.specs.Prelude.{◌≡◌, ◌<◌, ◌≤◌, ◌^◌, ◌⊎◌, List, None, length, is_ok, IfOk, vec_len, vec_capacity};
+ghost use Rattle.std.specs.List.{AllZip};
 ghost use Rattle.mig_mem.specs.PageSize.{IsPageSize};
 ghost use Rattle.mig_mem.specs.RamTable.{RamTable};
 ghost use Rattle.mig_stream.specs.declared.item.Frame.TheVariants.{Machine};
@@ -11,14 +12,16 @@ ghost use Rattle.mig_answer.specs.Texts.{ended_texts};
 ghost use Rattle.mig_answer.specs.MultiLoad.{IsWithoutMemory, IsAnswerOrWithoutMemory, answer_of, bytes_of};
 ghost use Rattle.mig_answer.specs.Sent.{IsSentInAnyOrder, IsMachineSentInAnyOrder, sent_answer};
 ghost use Rattle.mig_relay.specs.RelayItems.{IsThrough};
+ghost use Rattle.mig_relay.specs.Relayed.{HasReceived, Continues, Load, Goes, Ends};
 ghost use Rattle.mig_relay.specs.Multi.{AnswersRelay};
 
 use crate::feeder::{Fed, Feeder, FeederStep};
 use crate::relay::{Collector, Relay};
-use crate::relayed::load_relayed_in;
+use crate::relayed::{Going, answered, begin, next_round};
+use mig_answer::put_by;
 use mig_mem::NoMemory;
 use mig_packet::Gate;
-use mig_single_load::{LoadSettings, Loaded, without_memory};
+use mig_single_load::{LoadFault, LoadSettings, Loaded, without_memory};
 use std::alloc::Allocator;
 use std::sync::Wait;
 use std::thread;
@@ -34,7 +37,8 @@ const QUEUE_CAPACITY: usize = 64;
 ///
 /// Each channel is read by a worker on a thread of its own for the whole load. The worker passes
 /// `gate` with each item that it found, and that it pushed. All workers have ended when the call
-/// returns.
+/// returns. A round of 4,096 pages or more is written into memory by as many threads as there are
+/// channels, the caller's thread among them.
 ///
 /// # Errors
 ///
@@ -149,7 +153,10 @@ fn load<'a, R: Threads + Wait + Sync, A: Allocator + Copy + Send + Sync, G: Gate
                 return without_memory();
             };
             let loaded = match start_workers(scope, rt, gate, feeders, &mut workers) {
-                Ok(()) => load_relayed_in(rt, alloc, &mut collector, main, settings),
+                Ok(()) => {
+                    let threads = workers.len().max(1) as u64;
+                    load_together(rt, threads, alloc, &mut collector, main, settings)
+                }
                 Err(_) => without_memory(),
             };
             collector.drain(rt, workers.len());
@@ -159,6 +166,52 @@ fn load<'a, R: Threads + Wait + Sync, A: Allocator + Copy + Send + Sync, G: Gate
             loaded
         },
     )
+}
+
+// Loads what the workers bring. At most `threads` threads write a round.
+fn load_together<'a, R: Threads + Wait + Sync, A: Allocator + Copy + Send>(
+    rt: &R,
+    threads: u64,
+    alloc: A,
+    collector: &mut Collector<'a, A>,
+    main: &[u8],
+    settings: LoadSettings,
+) -> Loaded<A>
+    requires threads { 0 < threads }
+    requires limit { settings.limit ≤ 2 ^ 40 }
+    ensures answer { AnswersRelay settings main.now collector.old result }
+    ensures received { AllZip (HasReceived result.rounds (is_ok result.verdict)) collector.old collector.new }
+{
+    let mut going = match begin(rt, alloc, collector, main, settings) {
+        Ok(going) => going,
+        Err(loaded) => return loaded,
+    };
+    let verdict = load_rounds_by(rt, threads, alloc, collector, &mut going);
+    answered(going, verdict)
+}
+
+// Applies rounds as `load_rounds` of `relayed` does, each by at most `threads` threads.
+fn load_rounds_by<'a, R: Threads + Wait + Sync, A: Allocator + Copy + Send>(
+    rt: &R,
+    threads: u64,
+    alloc: A,
+    collector: &mut Collector<'a, A>,
+    going: &mut Going<'_, A>,
+) -> Result<(), LoadFault>
+    requires threads { 0 < threads }
+    requires goes { (l : Load) × Goes l going.old.reader going.old.target going.old.places.items collector.old }
+    ensures ended { (l : Load) → Goes l going.old.reader going.old.target going.old.places.items collector.old → Ends l going.new.target result collector.new }
+    ensures continues { AllZip Continues collector.old collector.new }
+{
+    'rounds: loop {
+        let (round, gathered) = match next_round(rt, alloc, collector, going) {
+            Ok(next) => next,
+            Err(verdict) => return verdict,
+        };
+        if let Err(fault) = put_by(rt, threads, &mut going.target, &round, &gathered) {
+            return Err(fault);
+        }
+    }
 }
 
 // Starts a worker for each feeder, in order, up to the first that can't be started.

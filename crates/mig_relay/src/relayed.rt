@@ -1,16 +1,17 @@
 //! The load of the items of a relay, round by round. `load_multi` calls it while its workers run,
 //! and so may callers with a relay of their own.
 
-ghost use Rattle.std.specs.Prelude.{ℕ, ◌≡◌, ◌≢◌, ◌<◌, ◌≤◌, ◌^◌, [], List, Option, map, replicate, is_ok, IsTrue, All, IfOk, OnOk};
+ghost use Rattle.std.specs.Prelude.{ℕ, ◌≡◌, ◌≢◌, ◌<◌, ◌≤◌, ◌^◌, [], List, Option, map, replicate, is_ok, All, IfOk, IfErr, OnOk};
 ghost use Rattle.std.specs.List.{AllZip};
 ghost use Rattle.mig_packet.specs.Lent.{fields};
 ghost use Rattle.mig_answer.specs.declared.verdict.Verdict.TheVariants.{Running as running};
 ghost use Rattle.mig_answer.specs.Status.{main_status};
+ghost use Rattle.mig_stream.specs.Reader.{waiting};
 ghost use Rattle.mig_single_load.specs.Settings.{ram_settings};
 ghost use Rattle.mig_answer.specs.Texts.{ended_texts};
-ghost use Rattle.mig_answer.specs.MultiLoad.{IsAnswerOrWithoutMemory, passes, as_verdict, answer_of};
-ghost use Rattle.mig_relay.specs.Relayed.{IsRelayOf, HasReceived, Continues, AreAtRound, Load, Loading, ToldAt, repeated_at, ComesToRound, HasJudged, HasEnded, EndsAt, Goes, Begins, IsAnswerOf};
-ghost use Rattle.mig_answer.specs.Putting.{HasLoaded};
+ghost use Rattle.mig_answer.specs.MultiLoad.{IsAnswerOrWithoutMemory, as_verdict, answer_of};
+ghost use Rattle.mig_relay.specs.RelayItems.{QueueEnd};
+ghost use Rattle.mig_relay.specs.Relayed.{IsRelayOf, HasReceived, Continues, AreAtRound, Load, IsLoadOf, Loading, ToldAt, repeated_at, HasEnded, EndsAt, Goes, Ready, Ends, Begins, IsAnswerOf};
 
 use crate::hellos::repeated_hello;
 use crate::relay::Collector;
@@ -70,42 +71,6 @@ fn answer_of(verdict: Verdict) -> Result<(), LoadFault>
     }
 }
 
-// Judges the next round, of which `round` is the main stream's part, and applies it. If a verdict
-// is returned, it is the load's, and the memory stays as it was.
-fn load_round<'a, R: Wait, A: Allocator + Copy>(
-    wait: &R,
-    alloc: A,
-    collector: &mut Collector<'a, A>,
-    places: &mut Vec<usize, A>,
-    target: &mut Target<A>,
-    round: &StreamRound<'_, A>,
-) -> Option<Result<(), LoadFault>>
-    requires { (l : Load) × ComesToRound l target.old places.old.items collector.old round.now }
-    ensures judged { (l : Load) → ComesToRound l target.old places.old.items collector.old round.now → HasJudged l target.old result target.new places.new.items collector.new }
-    ensures continues { AllZip Continues collector.old collector.new }
-{
-    let mut gathered = Gathered::new(alloc);
-    let rounds = target.rounds();
-    let Ok(told) = told_at(
-        wait,
-        alloc,
-        rounds,
-        Status::Whole,
-        collector,
-        places,
-        &mut gathered,
-    ) else {
-        return Some(no_memory(rounds));
-    };
-    if let Some(verdict) = told {
-        return Some(answer_of(verdict));
-    }
-    if let Err(fault) = put(target, round, &gathered) {
-        return Some(Err(fault));
-    }
-    None
-}
-
 // Returns the verdict after all rounds of a main stream whose state is `state`.
 fn end<'a, R: Wait, A: Allocator + Copy>(
     wait: &R,
@@ -137,34 +102,75 @@ fn end<'a, R: Wait, A: Allocator + Copy>(
     }
 }
 
+/// A load that has its table: what is left of its sources, and its memory so far.
+#[derive(Drop)]
+pub(crate) struct Going<'t, A: Allocator> {
+    reader: StreamReader<'t, A>,
+    // the index of the next item of each channel
+    places: Vec<usize, A>,
+    pub(crate) target: Target<A>,
+}
+
+/// Returns the next round if all sources have it: the records of the main stream, and the packets
+/// of the channels. Otherwise returns the load's verdict. The memory is unchanged.
+pub(crate) fn next_round<'t, 'a, R: Wait, A: Allocator + Copy>(
+    wait: &R,
+    alloc: A,
+    collector: &mut Collector<'a, A>,
+    going: &mut Going<'t, A>,
+) -> Result<(StreamRound<'t, A>, Gathered<'a, A>), Result<(), LoadFault>>
+    requires { (l : Load) × Goes l going.old.reader going.old.target going.old.places.items collector.old }
+    ensures ok { IfOk result (λ next. (l : Load) → Goes l going.old.reader going.old.target going.old.places.items collector.old
+        → Ready l going.new.reader going.new.target going.new.places.items collector.new next.0 next.1) }
+    ensures err { IfErr result (λ verdict. (l : Load) → Goes l going.old.reader going.old.target going.old.places.items collector.old
+        → HasEnded l going.old.target.rounds verdict collector.new) }
+    ensures target { going.new.target ≡ going.old.target }
+    ensures fewer { IfOk result (λ _. waiting going.new.reader < waiting going.old.reader) }
+    ensures continues { AllZip Continues collector.old collector.new }
+{
+    let rounds = going.target.rounds();
+    let Ok(Some(round)) = going.reader.take_round() else {
+        let state = going.reader.state();
+        return Err(end(wait, alloc, rounds, state, collector, &mut going.places));
+    };
+    let mut gathered = Gathered::new(alloc);
+    let Ok(told) = told_at(
+        wait,
+        alloc,
+        rounds,
+        Status::Whole,
+        collector,
+        &mut going.places,
+        &mut gathered,
+    ) else {
+        return Err(no_memory(rounds));
+    };
+    match told {
+        Some(verdict) => Err(answer_of(verdict)),
+        None => Ok((round, gathered)),
+    }
+}
+
 // Applies the rounds that wait, up to the first that doesn't pass, and returns the load's verdict.
 fn load_rounds<'a, R: Wait, A: Allocator + Copy>(
     wait: &R,
     alloc: A,
     collector: &mut Collector<'a, A>,
-    places: &mut Vec<usize, A>,
-    reader: &mut StreamReader<'_, A>,
-    target: &mut Target<A>,
+    going: &mut Going<'_, A>,
 ) -> Result<(), LoadFault>
-    requires { (l : Load) × Goes l reader.old target.old places.old.items collector.old }
-    ensures ended { (l : Load) → Goes l reader.old target.old places.old.items collector.old
-        → HasLoaded target.new.rounds l.readings target.new × HasEnded l target.new.rounds result collector.new
-        × ((j : ℕ) → j < target.new.rounds → IsTrue (passes j l.readings)) }
+    requires { (l : Load) × Goes l going.old.reader going.old.target going.old.places.items collector.old }
+    ensures ended { (l : Load) → Goes l going.old.reader going.old.target going.old.places.items collector.old → Ends l going.new.target result collector.new }
     ensures continues { AllZip Continues collector.old collector.new }
 {
-    'rounds: while let Ok(Some(round)) = reader.take_round() {
-        if let Some(verdict) = load_round(wait, alloc, collector, places, target, &round) {
-            return verdict;
+    'rounds: loop {
+        let (round, gathered) = match next_round(wait, alloc, collector, going) {
+            Ok(next) => next,
+            Err(verdict) => return verdict,
+        };
+        if let Err(fault) = put(&mut going.target, &round, &gathered) {
+            return Err(fault);
         }
     }
-    end(
-        wait,
-        alloc,
-        target.rounds(),
-        reader.state(),
-        collector,
-        places,
-    )
 }
 
 // Returns a list of indices, each of the first item of one of `channels` channels.
@@ -178,32 +184,86 @@ fn starts<A: Allocator>(alloc: A, channels: usize) -> Result<Vec<usize, A>, NoMe
     Ok(places)
 }
 
-// Loads from the main stream and the channels, starting at the first item of each.
-fn load_all<'a, R: Wait, A: Allocator + Copy>(
+// Returns the load that begins with the table of the main stream, or the answer where there is
+// none.
+fn with_table<'t, 'a, R: Wait, A: Allocator + Copy>(
     wait: &R,
     alloc: A,
     collector: &mut Collector<'a, A>,
-    places: &mut Vec<usize, A>,
-    reader: &mut StreamReader<'_, A>,
-) -> Loaded<A>
-    requires { (l : Load) × Begins l reader.old places.old.items collector.old }
-    ensures answer { (l : Load) → Begins l reader.old places.old.items collector.old → IsAnswerOf l result }
-    ensures received { AllZip (HasReceived result.rounds (is_ok result.verdict)) collector.old collector.new }
+    mut places: Vec<usize, A>,
+    mut reader: StreamReader<'t, A>,
+) -> Result<Going<'t, A>, Loaded<A>>
+    requires { (l : Load) × Begins l reader places.items collector.old }
+    ensures going { IfOk result (λ g. (l : Load) → Begins l reader.entry places.items collector.old → Goes l g.reader g.target g.places.items collector.new) }
+    ensures same { IfOk result (λ _. collector.new ≡ collector.old) }
+    ensures answer { IfErr result (λ loaded. (l : Load) → Begins l reader.entry places.items collector.old → IsAnswerOf l loaded) }
+    ensures received { IfErr result (λ loaded. AllZip (HasReceived loaded.rounds (is_ok loaded.verdict)) collector.old collector.new) }
 {
     let Some(table) = reader.table() else {
-        return Loaded {
+        return Err(Loaded {
             memory: None,
             rounds: 0,
-            verdict: end(wait, alloc, 0, reader.state(), collector, places),
-        };
+            verdict: end(wait, alloc, 0, reader.state(), collector, &mut places),
+        });
     };
-    let Ok(mut target) = Target::new(alloc, table) else {
-        return without_memory();
+    match Target::new(alloc, table) {
+        Ok(target) => Ok(Going {
+            reader,
+            places,
+            target,
+        }),
+        Err(_) => Err(without_memory()),
+    }
+}
+
+/// Begins a load of a complete main stream and the channels of a relay. Without a table in the main
+/// stream it has ended, and the answer is returned.
+pub(crate) fn begin<'t, 'a, R: Wait, A: Allocator + Copy>(
+    wait: &R,
+    alloc: A,
+    collector: &mut Collector<'a, A>,
+    main: &'t [u8],
+    settings: LoadSettings,
+) -> Result<Going<'t, A>, Loaded<A>>
+    requires limit { settings.limit ≤ 2 ^ 40 }
+    ensures some { (l : Load) × IsLoadOf settings main.now collector.old l }
+    ensures going { IfOk result (λ g. (l : Load) → IsLoadOf settings main.now collector.old l → Goes l g.reader g.target g.places.items collector.new) }
+    ensures same { IfOk result (λ _. collector.new ≡ collector.old) }
+    ensures answer { IfErr result (λ loaded. (l : Load) → IsLoadOf settings main.now collector.old l → IsAnswerOf l loaded) }
+    ensures received { IfErr result (λ loaded. AllZip (HasReceived loaded.rounds (is_ok loaded.verdict)) collector.old collector.new) }
+{
+    let page_size = collector.page_size();
+    let waiting = collector.waiting();
+    let Ok(mut reader) = StreamReader::of_text_within(
+        alloc,
+        settings.frame,
+        Mode::Main,
+        page_size,
+        settings.limit,
+        waiting,
+        main,
+    ) else {
+        return Err(without_memory());
     };
-    let verdict = load_rounds(wait, alloc, collector, places, reader, &mut target);
-    let rounds = target.rounds();
+    reader.end();
+    let Ok(places) = starts(alloc, collector.len()) else {
+        return Err(without_memory());
+    };
+    with_table(wait, alloc, collector, places, reader)
+}
+
+/// Returns the answer of a load that has ended with a verdict.
+pub(crate) fn answered<A: Allocator>(
+    going: Going<'_, A>,
+    verdict: Result<(), LoadFault>,
+) -> Loaded<A>
+    ensures answer { (l : Load) (ends : List QueueEnd) → Ends l going.entry.target verdict ends → IsAnswerOf l result }
+    ensures rounds { result.rounds ≡ going.entry.target.rounds }
+    ensures verdict { result.verdict ≡ verdict }
+{
+    let rounds = going.target.rounds();
     Loaded {
-        memory: Some(target.into_memory()),
+        memory: Some(going.target.into_memory()),
         rounds,
         verdict,
     }
@@ -268,22 +328,10 @@ pub fn load_relayed_in<'a, R: Wait, A: Allocator + Copy>(
         → IsAnswerOrWithoutMemory (record settings { page_size = page_size; waiting = waiting }) uuid (ended_texts main.now texts) (answer_of result) }
     ensures received { AllZip (HasReceived result.rounds (is_ok result.verdict)) collector.old collector.new }
 {
-    let page_size = collector.page_size();
-    let waiting = collector.waiting();
-    let Ok(mut reader) = StreamReader::of_text_within(
-        alloc,
-        settings.frame,
-        Mode::Main,
-        page_size,
-        settings.limit,
-        waiting,
-        main,
-    ) else {
-        return without_memory();
+    let mut going = match begin(wait, alloc, collector, main, settings) {
+        Ok(going) => going,
+        Err(loaded) => return loaded,
     };
-    reader.end();
-    let Ok(mut places) = starts(alloc, collector.len()) else {
-        return without_memory();
-    };
-    load_all(wait, alloc, collector, &mut places, &mut reader)
+    let verdict = load_rounds(wait, alloc, collector, &mut going);
+    answered(going, verdict)
 }

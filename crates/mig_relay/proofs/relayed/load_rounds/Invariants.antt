@@ -5,9 +5,9 @@ use Rattle.mig_relay.proofs.relayed.load_rounds.Given as goal
 
 abbrev pub invariant-rounds : goal.invariant-rounds
 invariant-rounds g l = record {
-  goes : (load : Load) → Goes load l.fn.reader l.fn.target l.fn.places.items l.fn.collector → Goes load l.reader l.target l.places.items l.collector;
+  goes : (load : Load) → Goes load l.fn.going.reader l.fn.going.target l.fn.going.places.items l.fn.collector → Goes load l.going.reader l.going.target l.going.places.items l.collector;
   continues : AllZip Continues l.fn.collector l.collector;
 }
 
 abbrev pub decreases-rounds : goal.decreases-rounds
-decreases-rounds g l = waiting l.reader
+decreases-rounds g l = waiting l.going.reader

@@ -12,8 +12,7 @@ pub returns : goal.returns
 returns g c =
     let Answers = λ (l : Loaded g.row.A.Denot). AnswersRelay c.captures.settings c.captures.main.now c.captures.collector l in
     elim c.match-start_workers.branch [
-      | in-Ok-start_workers w ↦ subst Answers (sym w.loaded-is) (λ uuid texts size relay.
-          w.load_relayed_in-loaded.ensures.answer c.captures.settings.page_size c.captures.settings.waiting uuid texts relay)
+      | in-Ok-start_workers w ↦ subst Answers (sym w.loaded-is) w.load_together-loaded.ensures.answer
       | in-Err w ↦ subst Answers (sym w.loaded-is)
           (refused_answers c.captures.settings c.captures.main.now c.captures.collector w.without_memory-loaded.result w.without_memory-loaded.ensures)
     ]

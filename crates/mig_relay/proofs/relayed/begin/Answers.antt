@@ -1,0 +1,56 @@
+use Rattle.std.proofs.Common.{ℕ, ◌≡◌, ◌∙◌, Option, length, replicate, arith, ap}
+use Rattle.std.proofs.lemmas.Result.{IfOk-weaker, IfErr-weaker}
+use Rattle.mig_stream.specs.declared.item.Mode.TheVariants.{Main}
+use Rattle.mig_stream.specs.Reading.{Settings, settings, in_frame, with_waiting}
+use Rattle.mig_stream.specs.Reader.{nothing_yet, with_piece}
+use Rattle.mig_relay.specs.Relayed.{Load, IsLoadOf, Begins}
+use Rattle.mig_relay.proofs.RelayAnswers.{none_received, answers_without, load_of_relay, begins_load}
+use Rattle.mig_relay.proofs.relayed.begin.Goals as goal
+
+pub returns-in_default-clause-answer : goal.returns-in_default-clause-answer
+returns-in_default-clause-answer g c = λ l is. rw c.without_memory.ensures (answers_without g.row.A.Denot l is.are_readings)
+
+pub returns-in_default-clause-received : goal.returns-in_default-clause-received
+returns-in_default-clause-received g c = rw c.without_memory.ensures (none_received c.args.collector.now)
+
+pub returns-in_default-starts-clause-answer : goal.returns-in_default-starts-clause-answer
+returns-in_default-starts-clause-answer g c = λ l is. rw c.without_memory-in_default-starts.ensures (answers_without g.row.A.Denot l is.are_readings)
+
+pub returns-in_default-starts-clause-received : goal.returns-in_default-starts-clause-received
+returns-in_default-starts-clause-received g c = rw c.without_memory-in_default-starts.ensures (none_received c.args.collector.now)
+
+pub with_table-requires : goal.with_table-requires
+with_table-requires g c =
+    let l = load_of_relay c.args.settings c.args.main.now c.args.collector.now c.page_size-page_size.ensures.relay in
+    let read : ℕ → Option ℕ → Settings = λ m w. with_waiting w (in_frame c.args.settings.frame (settings Main m c.args.settings.limit)) in
+    let stands = c.end.ensures.stands (read c.page_size-page_size.result c.waiting-waiting.result) (with_piece c.args.main.now nothing_yet) c.in-Ok.ensures.stands in
+    let places : c.in-Ok-starts.places.items ≡ replicate (length c.args.collector.now) 0 = c.in-Ok-starts.ensures ∙ ap (λ (m : ℕ). replicate m 0) c.len.ensures in (
+      l.0,
+      rw places (begins_load c.args.settings c.args.main.now c.args.collector.now c.end.new.self l.0 c.page_size-page_size.result c.waiting-waiting.result l.1
+          c.page_size-page_size.ensures.value c.waiting-waiting.ensures stands (omega arith)),
+    )
+
+pub returns-clause-some : goal.returns-clause-some
+returns-clause-some g c = load_of_relay c.args.settings c.args.main.now c.args.collector.now c.page_size-page_size.ensures.relay
+
+pub returns-in_default-clause-some : goal.returns-in_default-clause-some
+returns-in_default-clause-some g c = load_of_relay c.args.settings c.args.main.now c.args.collector.now c.page_size-page_size.ensures.relay
+
+pub returns-in_default-starts-clause-some : goal.returns-in_default-starts-clause-some
+returns-in_default-starts-clause-some g c = load_of_relay c.args.settings c.args.main.now c.args.collector.now c.page_size-page_size.ensures.relay
+
+-- the load begins, with a table or without one
+begun : (g : _) (c : goal.After-with_table g) (l : Load) → IsLoadOf c.args.settings c.args.main.now c.args.collector.now l
+    → Begins l c.end.new.self c.in-Ok-starts.places.items c.args.collector.now
+begun g c l is =
+    let read : ℕ → Option ℕ → Settings = λ m w. with_waiting w (in_frame c.args.settings.frame (settings Main m c.args.settings.limit)) in
+    let stands = c.end.ensures.stands (read c.page_size-page_size.result c.waiting-waiting.result) (with_piece c.args.main.now nothing_yet) c.in-Ok.ensures.stands in
+    let places : c.in-Ok-starts.places.items ≡ replicate (length c.args.collector.now) 0 = c.in-Ok-starts.ensures ∙ ap (λ (m : ℕ). replicate m 0) c.len.ensures in
+    rw places (begins_load c.args.settings c.args.main.now c.args.collector.now c.end.new.self l c.page_size-page_size.result c.waiting-waiting.result is
+    c.page_size-page_size.ensures.value c.waiting-waiting.ensures stands (omega arith))
+
+pub returns-clause-going : goal.returns-clause-going
+returns-clause-going g c = IfOk-weaker c.with_table.result _ _ (λ going goes l is. goes l (begun g c l is)) c.with_table.ensures.going
+
+pub returns-clause-answer : goal.returns-clause-answer
+returns-clause-answer g c = IfErr-weaker c.with_table.result _ _ (λ loaded answers l is. answers l (begun g c l is)) c.with_table.ensures.answer
