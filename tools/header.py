@@ -171,8 +171,8 @@ def versions():
     number = 10000 * major + 100 * minor + patch
     places = {
         "the header's number": re.search(r"VERSION_NUMBER (\d+)", header)[1],
-        "src/text.rt": re.search(r"const VERSION: u32 = (\d+);", (TOP / "crates/mig_c/src/text.rt").read_text())[1],
-        "specs/Texts.antt": re.search(r"^version = (\d+)$", (TOP / "crates/mig_c/specs/Texts.antt").read_text(), re.M)[1],
+        "src/text.rt": re.search(r"const VERSION: u32 = (\d+);", (TOP / "crates/mig_c_calls/src/text.rt").read_text())[1],
+        "specs/Texts.antt": re.search(r"^version = (\d+)$", (TOP / "crates/mig_c_calls/specs/Texts.antt").read_text(), re.M)[1],
     }
     return [f"version: {place} has {found}, not {number}" for place, found in places.items() if int(found) != number]
 

@@ -1,6 +1,5 @@
 pub mod Values
 pub mod Handles
-pub mod Sends
 pub mod HeldBlocks
 pub mod Crosses
 pub mod Moved

@@ -5,7 +5,7 @@ use Rattle.mig_single_load.specs.Loader.{Loader}
 use Rattle.mig_single_load.specs.LoadInPlace.{LoadInPlace}
 use Rattle.mig_session.specs.Session.{LoadSession}
 use Rattle.mig_in_place.specs.Session.{InPlaceLoad}
-use Rattle.mig_c.specs.declared.sender.Sender.{Sender}
+use Rattle.mig_c_calls.specs.declared.sender.Sender.{Sender}
 use Rattle.mig_c_calls.specs.declared.sending.Multi.{Multi}
 use Rattle.mig_c_calls.specs.declared.sending.HeldWorker.{HeldWorker}
 use Rattle.mig_c.specs.declared.object.Object.{Object}

@@ -7,8 +7,8 @@ use Rattle.mig_mem.specs.RamTable.{RamTable, block}
 use Rattle.mig_mem.specs.Image.{Image, content, content_at}
 use Rattle.mig_mem.specs.Parts.{part_at}
 use Rattle.mig_zero.specs.Zero.{IsZero}
-use Rattle.mig_c.specs.Blocks.{named}
-use Rattle.mig_c.specs.declared.block.NamedBlock.{NamedBlock}
+use Rattle.mig_c_calls.specs.Blocks.{named}
+use Rattle.mig_c_calls.specs.declared.block.NamedBlock.{NamedBlock}
 use Rattle.mig_c_calls.specs.Status.{IsOneOf, done, no_page, bad_length}
 
 abbrev pub place_at : ℕ → ℕ → Place

@@ -5,8 +5,8 @@ use Rattle.mig_mem.specs.PageSize.{IsPageSize}
 use Rattle.mig_mem.specs.Refusal.{refusal, fault_number}
 use Rattle.mig_mem.specs.declared.fault.TableFault.{TableFault}
 use Rattle.mig_mem.specs.declared.fault.TableFault.TheVariants as fault
-use Rattle.mig_c.specs.declared.block.NamedBlock.{NamedBlock}
-use Rattle.mig_c.specs.Blocks.{table_of}
+use Rattle.mig_c_calls.specs.declared.block.NamedBlock.{NamedBlock}
+use Rattle.mig_c_calls.specs.Blocks.{table_of}
 use Rattle.mig_c_calls.specs.Status.{done, no_memory, bad_page_size}
 
 -- The fault is that of the block with this number. If it isn't one block's, the number is 0.

@@ -10,7 +10,6 @@
 //! it to a function of the same name, and put it back.
 #![tactic(auto)]
 
-mod block;
 mod fault;
 mod frame;
 mod handle;

@@ -9,13 +9,13 @@ ghost use Rattle.mig_c.specs.Kinds.{loader_in, Turns, Tells};
 ghost use Rattle.mig_c.specs.Reading.{GivesPage, GivesPages, GivesBlock, FindsFilled, place_at, block_count};
 ghost use Rattle.mig_c.specs.Loading.{IsFresh, Opens, Feeds, Settles, Ends, TellsVerdict, TellsClosedAt, TellsValidUpTo, OpensLoader};
 
-use crate::block::NamedBlock;
 use crate::fault::{FoundFault, of_verdict};
 use crate::frame::frame_of;
 use crate::handle::{Handle, LoaderHandle};
 use crate::object::Object;
 use crate::reading;
 use crate::settings::{AskedSettings, waiting_of};
+use mig_c_calls::NamedBlock;
 use mig_c_calls::status::{
     BAD_FRAME, BAD_LIMIT, BAD_PAGE_SIZE, DONE, IS_OVER, MAX_LIMIT, NO_MEMORY, ROOM, RUNNING,
     TOO_LONG, WAITS,

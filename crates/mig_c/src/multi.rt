@@ -11,8 +11,7 @@ ghost use Rattle.mig_c_calls.specs.Multi.{StartsOf, OpensMulti, OfTable, Refuses
 
 use crate::handle::{Handle, MultiHandle, TableHandle, WorkerHandle};
 use crate::object::Object;
-use crate::sender::MOST_NAME_BYTES;
-use mig_c_calls::status::{BAD_LENGTH, BATCH_LIMIT, CHANNELS, DONE, NO_MEMORY};
+use mig_c_calls::status::{BAD_LENGTH, BATCH_LIMIT, CHANNELS, DONE, MOST_NAME_BYTES, NO_MEMORY};
 use mig_c_calls::{Multi, NamedPlace};
 use mig_mem::{NoMemory, Table};
 use mig_packet::page_limit;

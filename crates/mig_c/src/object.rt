@@ -2,8 +2,7 @@
 
 use crate::held_load::HeldLoad;
 use crate::held_session::HeldSession;
-use crate::sender::Sender;
-use mig_c_calls::{HeldWorker, Multi};
+use mig_c_calls::{HeldWorker, Multi, Sender};
 use mig_mem::Table;
 use mig_session::Session;
 use mig_single_load::SingleLoader;

@@ -2,14 +2,14 @@
 
 ghost use Rattle.std.specs.Prelude.{◌≡◌, ◌≤◌, ◌<◌, ◌%◌, ◌↔◌, length, IfSome, IsTrue, None};
 ghost use Rattle.std.specs.Option.{option_copied};
-ghost use Rattle.mig_c.specs.Blocks.{named_id};
+ghost use Rattle.mig_c_calls.specs.Blocks.{named_id};
 ghost use Rattle.mig_mem.specs.Place.{IsPlace};
 ghost use Rattle.mig_mem.specs.Image.{content_at};
 ghost use Rattle.mig_zero.specs.Zero.{IsZero};
 ghost use Rattle.mig_c.specs.Reading.{GivesPage, GivesPages, GivesBlock, HasPages, ArePages, IsFirstFilled, AreZeros, FindsFilled, place_at, block_count};
 
-use crate::block::NamedBlock;
 use crate::putting::write_page;
+use mig_c_calls::NamedBlock;
 use mig_c_calls::status::{BAD_LENGTH, DONE, NO_PAGE};
 use mig_mem::{Memory, Place, Table};
 use mig_zero::is_zero;

@@ -1,78 +1,25 @@
-//! A sender of one stream: rounds are put page by page, and the bytes are drained into buffers of
-//! C.
+//! The calls of a sender of one stream: rounds are put page by page, and the bytes are drained into
+//! buffers of C.
 
-ghost use Rattle.std.specs.Prelude.{◌∷◌, [], ◌≡◌, ◌≢◌, ◌<◌, ◌≤◌, IsSome, IfOk, None, Some, length};
+ghost use Rattle.std.specs.Prelude.{◌∷◌, [], ◌≡◌, ◌≢◌, ◌≤◌, IsSome, IfOk, None, Some, length};
 ghost use Rattle.mig_stream.specs.Format.{most_name_bytes};
 ghost use Rattle.mig_c_calls.specs.Status.{IsOneOf, done, no_memory};
+ghost use Rattle.mig_c_calls.specs.Sending.{Starts, StartsNamed, Begins, Puts, EndsRound, Cancels, Finishes, FinishesOpen, Changes, Drains, Peeks, Counts, Skips};
 ghost use Rattle.mig_c.specs.Kinds.{table_in, sender_in, Turns};
 ghost use Rattle.mig_c.specs.Reading.{place_at};
-ghost use Rattle.mig_c.specs.Sending.{Starts, StartsNamed, Begins, Puts, EndsRound, Cancels, Finishes, FinishesOpen, Changes, Adds, Drains, Refills, Hands, Peeks, Counts, Skips};
 
 use crate::handle::{Handle, SenderHandle, TableHandle};
 use crate::object::Object;
-use mig_c_calls::status::{BAD_LENGTH, DONE, NO_MEMORY, NO_PAGE, OUT_OF_TURN};
-use mig_c_calls::{behind, copy_front};
+use mig_c_calls::Sender;
+use mig_c_calls::status::{BAD_LENGTH, DONE, MOST_NAME_BYTES, NO_MEMORY};
 use mig_mem::{NoMemory, Place, Table};
-use mig_send::{OpenRound, SingleSender};
 use std::alloc::Global;
-
-/// The state of a sender.
-#[derive(Drop)]
-pub enum Sending {
-    /// Between two rounds, or before the first.
-    Idle(SingleSender<Global>),
-    /// In a round.
-    Round(OpenRound<Global>),
-    /// After the end, with the bytes that weren't drained.
-    Over(Vec<u8>),
-    /// After RAM's END, without the end byte, with the bytes that weren't drained.
-    LeftOpen(Vec<u8>),
-}
-
-/// A sender, and the bytes that were last drained of its stream.
-#[derive(Drop)]
-pub struct Sender {
-    /// The state of the sender.
-    pub(crate) state: Sending,
-    /// The bytes that were drained of the writer last.
-    pub(crate) drained: Vec<u8>,
-    /// How many of them were copied out to C.
-    pub(crate) given: usize,
-}
-
-/// The most bytes that a machine's name has.
-pub(crate) const MOST_NAME_BYTES: usize = 1024;
-
-// Creates a sender of a stream without a name.
-fn plain(alloc: Global, table: &Table<Global>) -> Result<Sender, NoMemory>
-    ensures { IfOk result (λ s. Starts None (Some table.now) (Some s)) }
-{
-    let writer = SingleSender::new(alloc, table)?;
-    Ok(Sender {
-        state: Sending::Idle(writer),
-        drained: Vec::new(alloc),
-        given: 0,
-    })
-}
-
-// Creates a sender of a stream with a machine's name. The stream's first bytes wait.
-fn named(alloc: Global, table: &Table<Global>, name: &[u8]) -> Result<Sender, NoMemory>
-    requires name { length name.now ≤ most_name_bytes }
-    ensures { IfOk result (λ s. Starts (Some name.now) (Some table.now) (Some s)) }
-{
-    let (first, writer) = SingleSender::with_configuration(alloc, table, name)?;
-    Ok(Sender {
-        state: Sending::Idle(writer),
-        drained: first,
-        given: 0,
-    })
-}
 
 // Creates a sender in a box.
 fn made(alloc: Global, table: &Table<Global>) -> Result<Box<Object>, NoMemory>
     ensures { IfOk result (λ object. Starts None (Some table.now) (sender_in (Some object.value))) }
 {
-    let sender = plain(alloc, table)?;
+    let sender = Sender::new(alloc, table)?;
     Ok(Box::new(alloc, Object::Sender(sender))?)
 }
 
@@ -117,7 +64,7 @@ fn made_named(alloc: Global, table: &Table<Global>, name: &[u8]) -> Result<Box<O
     requires name { length name.now ≤ most_name_bytes }
     ensures { IfOk result (λ object. Starts (Some name.now) (Some table.now) (sender_in (Some object.value))) }
 {
-    let sender = named(alloc, table, name)?;
+    let sender = Sender::new_named(alloc, table, name)?;
     Ok(Box::new(alloc, Object::Sender(sender))?)
 }
 
@@ -163,97 +110,12 @@ pub extern "C" fn zimgasol_sender_new_named(
     }
 }
 
-// Begins a round.
-fn begun(state: Sending) -> (Sending, u32)
-    ensures { Begins result.1 state result.0 }
-{
-    match state {
-        Sending::Idle(sender) => match sender.begin_round() {
-            Ok(round) => (Sending::Round(round), DONE),
-            Err(sender) => (Sending::Idle(sender), NO_MEMORY),
-        },
-        Sending::Round(round) => (Sending::Round(round), OUT_OF_TURN),
-        Sending::Over(text) => (Sending::Over(text), OUT_OF_TURN),
-        Sending::LeftOpen(text) => (Sending::LeftOpen(text), OUT_OF_TURN),
-    }
-}
-
-// Ends the open round.
-fn ended(state: Sending) -> (Sending, u32)
-    ensures { EndsRound result.1 state result.0 }
-{
-    match state {
-        Sending::Round(round) => match round.end_round() {
-            Ok(sender) => (Sending::Idle(sender), DONE),
-            Err(round) => (Sending::Round(round), NO_MEMORY),
-        },
-        Sending::Idle(sender) => (Sending::Idle(sender), OUT_OF_TURN),
-        Sending::Over(text) => (Sending::Over(text), OUT_OF_TURN),
-        Sending::LeftOpen(text) => (Sending::LeftOpen(text), OUT_OF_TURN),
-    }
-}
-
-// Cancels the open round.
-fn cancelled(state: Sending) -> (Sending, u32)
-    ensures { Cancels result.1 state result.0 }
-{
-    match state {
-        Sending::Round(round) => (Sending::Idle(round.cancel()), DONE),
-        Sending::Idle(sender) => (Sending::Idle(sender), OUT_OF_TURN),
-        Sending::Over(text) => (Sending::Over(text), OUT_OF_TURN),
-        Sending::LeftOpen(text) => (Sending::LeftOpen(text), OUT_OF_TURN),
-    }
-}
-
-// Ends the stream.
-fn finished(state: Sending) -> (Sending, u32)
-    ensures { Finishes result.1 state result.0 }
-{
-    match state {
-        Sending::Idle(sender) => match sender.finish() {
-            Ok(text) => (Sending::Over(text), DONE),
-            Err(sender) => (Sending::Idle(sender), NO_MEMORY),
-        },
-        Sending::Round(round) => (Sending::Round(round), OUT_OF_TURN),
-        Sending::Over(text) => (Sending::Over(text), OUT_OF_TURN),
-        Sending::LeftOpen(text) => (Sending::LeftOpen(text), OUT_OF_TURN),
-    }
-}
-
-// Ends RAM's sections, and leaves the stream open.
-fn finished_open(state: Sending) -> (Sending, u32)
-    ensures { FinishesOpen result.1 state result.0 }
-{
-    match state {
-        Sending::Idle(sender) => match sender.finish_open() {
-            Ok(text) => (Sending::LeftOpen(text), DONE),
-            Err(sender) => (Sending::Idle(sender), NO_MEMORY),
-        },
-        Sending::Round(round) => (Sending::Round(round), OUT_OF_TURN),
-        Sending::Over(text) => (Sending::Over(text), OUT_OF_TURN),
-        Sending::LeftOpen(text) => (Sending::LeftOpen(text), OUT_OF_TURN),
-    }
-}
-
-// Takes the state out of a sender, which must get one again.
-fn take_state(alloc: Global, sender: &mut Sender) -> Sending
-    ensures state { result ≡ sender.old.state }
-    ensures drained { sender.new.drained ≡ sender.old.drained }
-    ensures given { sender.new.given ≡ sender.old.given }
-{
-    std::mem::replace(&mut sender.state, Sending::Over(Vec::new(alloc)))
-}
-
 fn begin_round(alloc: Global, object: &mut Object) -> u32
     requires { IsSome (sender_in (Some object.old)) }
     ensures { Turns (Changes (Begins result)) (sender_in (Some object.old)) (sender_in (Some object.new)) }
 {
     match object {
-        Object::Sender(sender) => {
-            let (state, status) = begun(take_state(alloc, sender));
-            sender.state = state;
-            status
-        }
+        Object::Sender(sender) => sender.begin_round(alloc),
         _ => unreachable!(),
     }
 }
@@ -270,31 +132,12 @@ pub extern "C" fn zimgasol_sender_begin_round(alloc: Global, sender: &mut Sender
     status
 }
 
-// Puts a page into a round.
-fn put(round: &mut OpenRound<Global>, place: Place, bytes: &[u8]) -> u32
-    ensures { Adds place bytes.now result round.old round.new }
-{
-    if !round.table().holds(place) {
-        return NO_PAGE;
-    }
-    if bytes.len() as u64 != round.table().page_size() {
-        return BAD_LENGTH;
-    }
-    match round.put_page(place, bytes) {
-        Ok(()) => DONE,
-        Err(NoMemory) => NO_MEMORY,
-    }
-}
-
 fn put_page(object: &mut Object, place: Place, bytes: &[u8]) -> u32
     requires { IsSome (sender_in (Some object.old)) }
     ensures { Turns (Changes (Puts place bytes.now result)) (sender_in (Some object.old)) (sender_in (Some object.new)) }
 {
     match object {
-        Object::Sender(sender) => match &mut sender.state {
-            Sending::Round(round) => put(round, place, bytes),
-            _ => OUT_OF_TURN,
-        },
+        Object::Sender(sender) => sender.put_page(place, bytes),
         _ => unreachable!(),
     }
 }
@@ -326,11 +169,7 @@ fn end_round(alloc: Global, object: &mut Object) -> u32
     ensures { Turns (Changes (EndsRound result)) (sender_in (Some object.old)) (sender_in (Some object.new)) }
 {
     match object {
-        Object::Sender(sender) => {
-            let (state, status) = ended(take_state(alloc, sender));
-            sender.state = state;
-            status
-        }
+        Object::Sender(sender) => sender.end_round(alloc),
         _ => unreachable!(),
     }
 }
@@ -352,11 +191,7 @@ fn cancel_round(alloc: Global, object: &mut Object) -> u32
     ensures { Turns (Changes (Cancels result)) (sender_in (Some object.old)) (sender_in (Some object.new)) }
 {
     match object {
-        Object::Sender(sender) => {
-            let (state, status) = cancelled(take_state(alloc, sender));
-            sender.state = state;
-            status
-        }
+        Object::Sender(sender) => sender.cancel_round(alloc),
         _ => unreachable!(),
     }
 }
@@ -378,11 +213,7 @@ fn finish(alloc: Global, object: &mut Object) -> u32
     ensures { Turns (Changes (Finishes result)) (sender_in (Some object.old)) (sender_in (Some object.new)) }
 {
     match object {
-        Object::Sender(sender) => {
-            let (state, status) = finished(take_state(alloc, sender));
-            sender.state = state;
-            status
-        }
+        Object::Sender(sender) => sender.finish(alloc),
         _ => unreachable!(),
     }
 }
@@ -404,11 +235,7 @@ fn finish_open(alloc: Global, object: &mut Object) -> u32
     ensures { Turns (Changes (FinishesOpen result)) (sender_in (Some object.old)) (sender_in (Some object.new)) }
 {
     match object {
-        Object::Sender(sender) => {
-            let (state, status) = finished_open(take_state(alloc, sender));
-            sender.state = state;
-            status
-        }
+        Object::Sender(sender) => sender.finish_open(alloc),
         _ => unreachable!(),
     }
 }
@@ -426,61 +253,12 @@ pub extern "C" fn zimgasol_sender_finish_open(alloc: Global, sender: &mut Sender
     status
 }
 
-// Takes all bytes of `text` in place of those that were drained before.
-fn take_text(drained: &mut Vec<u8>, text: &mut Vec<u8>)
-    ensures taken { drained.new.items ≡ text.old.items }
-    ensures none { text.new.items ≡ [] }
-{
-    drained.clear();
-    std::mem::swap(drained, text);
-}
-
-// Drains the writer, if no drained byte waits.
-fn refill(sender: &mut Sender)
-    ensures { Refills sender.old sender.new }
-{
-    if sender.given < sender.drained.len() {
-        return;
-    }
-    match &mut sender.state {
-        Sending::Idle(writer) => {
-            writer.drain_into(&mut sender.drained);
-            sender.given = 0;
-        }
-        Sending::Round(_) => {}
-        Sending::Over(text) => {
-            take_text(&mut sender.drained, text);
-            sender.given = 0;
-        }
-        Sending::LeftOpen(text) => {
-            take_text(&mut sender.drained, text);
-            sender.given = 0;
-        }
-    }
-}
-
-// Copies out the first bytes that wait.
-fn hand_out(sender: &mut Sender, out: &mut [u8]) -> usize
-    ensures { Hands result out.new sender.old sender.new }
-{
-    let count = copy_front(behind(&sender.drained, sender.given), out);
-    sender.given += count;
-    count
-}
-
-fn drain_sender(sender: &mut Sender, out: &mut [u8]) -> usize
-    ensures { Drains result out.new sender.old sender.new }
-{
-    refill(sender);
-    hand_out(sender, out)
-}
-
 fn drain(object: &mut Object, out: &mut [u8]) -> usize
     requires { IsSome (sender_in (Some object.old)) }
     ensures { Turns (Drains result out.new) (sender_in (Some object.old)) (sender_in (Some object.new)) }
 {
     match object {
-        Object::Sender(sender) => drain_sender(sender, out),
+        Object::Sender(sender) => sender.drain(out),
         _ => unreachable!(),
     }
 }
@@ -501,19 +279,12 @@ pub extern "C" fn zimgasol_sender_drain(
     count
 }
 
-fn peek_sender(sender: &mut Sender, out: &mut [u8]) -> usize
-    ensures { Peeks result out.new sender.old sender.new }
-{
-    refill(sender);
-    copy_front(behind(&sender.drained, sender.given), out)
-}
-
 fn peek(object: &mut Object, out: &mut [u8]) -> usize
     requires { IsSome (sender_in (Some object.old)) }
     ensures { Turns (Peeks result out.new) (sender_in (Some object.old)) (sender_in (Some object.new)) }
 {
     match object {
-        Object::Sender(sender) => peek_sender(sender, out),
+        Object::Sender(sender) => sender.peek(out),
         _ => unreachable!(),
     }
 }
@@ -534,20 +305,12 @@ pub extern "C" fn zimgasol_sender_peek(
     count
 }
 
-fn skip_sender(sender: &mut Sender, len: usize) -> usize
-    ensures { Skips len result sender.old sender.new }
-{
-    let skipped = behind(&sender.drained, sender.given).len().min(len);
-    sender.given += skipped;
-    skipped
-}
-
 fn skip(object: &mut Object, len: usize) -> usize
     requires { IsSome (sender_in (Some object.old)) }
     ensures { Turns (Skips len result) (sender_in (Some object.old)) (sender_in (Some object.new)) }
 {
     match object {
-        Object::Sender(sender) => skip_sender(sender, len),
+        Object::Sender(sender) => sender.skip(len),
         _ => unreachable!(),
     }
 }
@@ -568,19 +331,12 @@ pub extern "C" fn zimgasol_sender_skip(
     count
 }
 
-fn count_waiting(sender: &mut Sender) -> usize
-    ensures { Counts result sender.old sender.new }
-{
-    refill(sender);
-    behind(&sender.drained, sender.given).len()
-}
-
 fn waiting(object: &mut Object) -> usize
     requires { IsSome (sender_in (Some object.old)) }
     ensures { Turns (Counts result) (sender_in (Some object.old)) (sender_in (Some object.new)) }
 {
     match object {
-        Object::Sender(sender) => count_waiting(sender),
+        Object::Sender(sender) => sender.waiting(),
         _ => unreachable!(),
     }
 }

@@ -10,7 +10,6 @@ ghost use Rattle.mig_c.specs.Found.{seen_of_verdict};
 ghost use Rattle.mig_c.specs.Reading.{GivesPage, GivesPages, GivesBlock, FindsFilled, place_at, block_count};
 ghost use Rattle.mig_c.specs.Sessions.{Opens, OpensSession, FeedsSource, EndsSource, source_of, TellsFed, TellsClosedAt, TellsValidUpTo};
 
-use crate::block::NamedBlock;
 use crate::fault::{FoundFault, found, none, running};
 use crate::frame::frame_of;
 use crate::handle::{Handle, SessionHandle};
@@ -19,6 +18,7 @@ use crate::reading;
 use crate::settings::{AskedSettings, waiting_of};
 use crate::sources::{closed_at_of, end_source, fed_of, feed_source, source_of, valid_up_to_of};
 use mig_answer::Verdict;
+use mig_c_calls::NamedBlock;
 use mig_c_calls::status::{
     BAD_CHANNELS, BAD_FRAME, BAD_LENGTH, BAD_LIMIT, BAD_PAGE_SIZE, DONE, MAX_LIMIT, NO_MEMORY,
 };

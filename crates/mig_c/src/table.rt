@@ -4,14 +4,14 @@ ghost use Rattle.std.specs.Prelude.{◌≡◌, ◌≢◌, ◌⊎◌, None, Some,
 ghost use Rattle.mig_mem.specs.PageSize.{IsPageSize};
 ghost use Rattle.mig_mem.specs.declared.fault.TableFault.TheVariants.{NoMemory as fault_no_memory};
 ghost use Rattle.mig_mem.specs.Refusal.{refusal};
-ghost use Rattle.mig_c.specs.Blocks.{table_of};
+ghost use Rattle.mig_c_calls.specs.Blocks.{table_of};
 ghost use Rattle.mig_c.specs.Kinds.{table_in};
 ghost use Rattle.mig_c.specs.Tables.{IsAt, Makes};
 
-use crate::block::{NamedBlock, entries};
 use crate::handle::{Handle, TableHandle};
 use crate::object::Object;
 use mig_c_calls::status::{BAD_PAGE_SIZE, DONE, NO_MEMORY};
+use mig_c_calls::{NamedBlock, entries};
 use mig_mem::{Table, TableFault, is_page_size};
 use std::alloc::Global;
 

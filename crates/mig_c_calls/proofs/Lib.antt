@@ -1,4 +1,5 @@
 pub mod Named
+pub mod SenderSteps
 pub mod Sends
 pub mod Drains
 pub mod Calls

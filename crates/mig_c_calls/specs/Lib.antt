@@ -1,6 +1,11 @@
--- To read first: the statuses; streams with a machine's name; then what a sender on several
--- channels has sent, and what its calls do
+-- To read first: the statuses and their messages; a table as C passes it; streams with a machine's
+-- name, and a sender of one; then what a sender on several channels has sent, and what its calls
+-- do; hellos and packets
 pub mod Status
+pub mod Texts
+pub mod Blocks
 pub mod Named
+pub mod Sending
 pub mod Multi
 pub mod Copied
+pub mod Packets

@@ -59,3 +59,6 @@ pub const MAX_LIMIT: u64 = 1 << 40;
 
 /// The least length of a stream that can't be counted.
 pub const ROOM: u64 = 1 << 63;
+
+/// The most bytes that a machine's name has.
+pub const MOST_NAME_BYTES: usize = 1024;

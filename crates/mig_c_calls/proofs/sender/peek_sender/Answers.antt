@@ -1,7 +1,7 @@
 use Rattle.std.proofs.Common.{◌≡◌, ◌∙◌, ℕ, List, sym, ap, length, take, drop, arith}
 use Rattle.std.proofs.lemmas.List.{nil_from_length}
-use Rattle.mig_c.specs.Sending.{waiting}
-use Rattle.mig_c.proofs.sender.peek_sender.Goals as goal
+use Rattle.mig_c_calls.specs.Sending.{waiting}
+use Rattle.mig_c_calls.proofs.sender.peek_sender.Goals as goal
 
 pub returns : goal.returns
 returns c =

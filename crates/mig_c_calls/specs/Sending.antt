@@ -9,9 +9,9 @@ use Rattle.mig_stream.specs.Written.{RoundPart, single, written_so_far}
 use Rattle.mig_stream.specs.MachineWritten.{machine_written, machine_closed}
 use Rattle.mig_stream.specs.Writer.{PartSoFar, HasPut}
 use Rattle.mig_send.specs.Sending.{HasSentDrained}
-use Rattle.mig_c.specs.declared.sender.Sender.{Sender}
-use Rattle.mig_c.specs.declared.sender.Sending.{Sending}
-use Rattle.mig_c.specs.declared.sender.Sending.TheVariants.{Idle, Round, Over, LeftOpen}
+use Rattle.mig_c_calls.specs.declared.sender.Sender.{Sender}
+use Rattle.mig_c_calls.specs.declared.sender.Sending.{Sending}
+use Rattle.mig_c_calls.specs.declared.sender.Sending.TheVariants.{Idle, Round, Over, LeftOpen}
 use Rattle.mig_c_calls.specs.Named.{IsNamed}
 use Rattle.mig_c_calls.specs.Status.{IsOneOf, done, no_memory, no_page, bad_length, out_of_turn}
 

@@ -3,7 +3,7 @@
 ghost use Rattle.std.specs.Prelude.{◌≡◌, ◌++◌, ◌-◌, ◌==◌, ◌≤◌, IfOk, IsSome, map, length, replicate, take, drop};
 ghost use Rattle.std.specs.List.{before_first, position};
 ghost use Rattle.mig_mem.specs.RamTable.{RamTable, entry_block, block, table_from};
-ghost use Rattle.mig_c.specs.Blocks.{id_in, block_in};
+ghost use Rattle.mig_c_calls.specs.Blocks.{id_in, block_in};
 
 use mig_mem::NoMemory;
 use std::alloc::Global;
@@ -43,7 +43,7 @@ fn entry(alloc: Global, named: &NamedBlock) -> Result<(Vec<u8>, u64), NoMemory>
 }
 
 /// Returns the ids and pages of blocks, from which a table is created.
-pub(crate) fn entries(alloc: Global, blocks: &[NamedBlock]) -> Result<Vec<(Vec<u8>, u64)>, NoMemory>
+pub fn entries(alloc: Global, blocks: &[NamedBlock]) -> Result<Vec<(Vec<u8>, u64)>, NoMemory>
     ensures { IfOk result (λ list. map entry_block list.items ≡ map block_in blocks.now) }
 {
     let mut list = Vec::new(alloc);

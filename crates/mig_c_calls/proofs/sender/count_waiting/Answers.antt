@@ -1,6 +1,6 @@
 use Rattle.std.proofs.Common.{◌≡◌, ◌∙◌, List, ℕ, ap, length, drop}
-use Rattle.mig_c.specs.Sending.{waiting}
-use Rattle.mig_c.proofs.sender.count_waiting.Goals as goal
+use Rattle.mig_c_calls.specs.Sending.{waiting}
+use Rattle.mig_c_calls.proofs.sender.count_waiting.Goals as goal
 
 pub returns : goal.returns
 returns c =

@@ -1,7 +1,7 @@
 use Rattle.std.proofs.Common.{◌++◌, ◌∙◌, [], Some, sym}
 use Rattle.std.proofs.lemmas.List.{append-nil}
 use Rattle.mig_stream.specs.Text.{file_header, configuration}
-use Rattle.mig_c.proofs.sender.named.Goals as goal
+use Rattle.mig_c_calls.proofs.sender.Sender.new_named.Goals as goal
 
 pub returns : goal.returns
 returns c = (

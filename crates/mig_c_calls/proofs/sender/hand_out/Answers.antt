@@ -1,6 +1,6 @@
 use Rattle.std.proofs.Common.{◌≡◌, ◌∙◌, ℕ, List, refl, sym, ap, length, take, drop}
-use Rattle.mig_c.proofs.Sends.{hands_front}
-use Rattle.mig_c.proofs.sender.hand_out.Goals as goal
+use Rattle.mig_c_calls.proofs.SenderSteps.{hands_front}
+use Rattle.mig_c_calls.proofs.sender.hand_out.Goals as goal
 
 pub returns : goal.returns
 returns c =

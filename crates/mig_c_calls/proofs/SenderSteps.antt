@@ -11,10 +11,10 @@ use Rattle.mig_stream.proofs.Configured.{configured_is_written, configured_is_cl
 use Rattle.mig_send.specs.Sending.{HasSentDrained}
 use Rattle.mig_c_calls.specs.Named.{IsNamed}
 use Rattle.mig_c_calls.proofs.Named.{named_more}
-use Rattle.mig_c.specs.declared.sender.Sender.{Sender}
-use Rattle.mig_c.specs.declared.sender.Sending.{Sending}
-use Rattle.mig_c.specs.declared.sender.Sending.TheVariants.{Idle, Round, Over, LeftOpen}
-use Rattle.mig_c.specs.Sending.{waiting, text_so_far, whole_stream, open_stream, HasSentRounds, HasPutPages, IsIdle, IsEnded, IsLeftOpen, EndsRound, Drains, Refills, Hands, Skips}
+use Rattle.mig_c_calls.specs.declared.sender.Sender.{Sender}
+use Rattle.mig_c_calls.specs.declared.sender.Sending.{Sending}
+use Rattle.mig_c_calls.specs.declared.sender.Sending.TheVariants.{Idle, Round, Over, LeftOpen}
+use Rattle.mig_c_calls.specs.Sending.{waiting, text_so_far, whole_stream, open_stream, HasSentRounds, HasPutPages, IsIdle, IsEnded, IsLeftOpen, EndsRound, Drains, Refills, Hands, Skips}
 
 -- ---- a stream with a machine's name, or with none
 

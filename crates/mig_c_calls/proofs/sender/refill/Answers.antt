@@ -1,6 +1,6 @@
 use Rattle.std.proofs.Common.{refl, arith}
-use Rattle.mig_c.proofs.Sends.{refills_same, refills_idle, refills_over, refills_open}
-use Rattle.mig_c.proofs.sender.refill.Goals as goal
+use Rattle.mig_c_calls.proofs.SenderSteps.{refills_same, refills_idle, refills_over, refills_open}
+use Rattle.mig_c_calls.proofs.sender.refill.Goals as goal
 
 pub returns-then-sender-len : goal.returns-then-sender-len
 returns-then-sender-len c = refills_same c.args.sender.now (omega (arith, c.args.sender.now.drained.ok.0, c.len.ensures, c.if-sender-len.true))

@@ -2,7 +2,7 @@
 use Rattle.std.specs.Prelude.{ℕ, ◌==◌, ◌-◌, List, ◌++◌, map, length, replicate}
 use Rattle.std.specs.List.{before_first}
 use Rattle.mig_mem.specs.RamTable.{Block, RamTable}
-use Rattle.mig_c.specs.declared.block.NamedBlock.{NamedBlock}
+use Rattle.mig_c_calls.specs.declared.block.NamedBlock.{NamedBlock}
 
 -- the id is the bytes before the first 0, as in QEMU's `idstr`
 abbrev pub id_in : List ℕ → List ℕ

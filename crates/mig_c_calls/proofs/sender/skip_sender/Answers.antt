@@ -1,7 +1,7 @@
 use Rattle.std.proofs.Common.{◌≡◌, ◌∙◌, List, ℕ, refl, ap, length, drop, arith}
-use Rattle.mig_c.specs.Sending.{waiting}
-use Rattle.mig_c.proofs.Sends.{skips}
-use Rattle.mig_c.proofs.sender.skip_sender.Goals as goal
+use Rattle.mig_c_calls.specs.Sending.{waiting}
+use Rattle.mig_c_calls.proofs.SenderSteps.{skips}
+use Rattle.mig_c_calls.proofs.sender.skip_sender.Goals as goal
 
 pub returns : goal.returns
 returns c =
