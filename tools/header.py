@@ -112,7 +112,7 @@ def c_fields(label, kind):
 
 def struct_fields():
     """The fields of the structs that C sees, as both sides have them."""
-    sources = "".join(path.read_text() for crate in ("mig_c", "mig_c_calls") for path in (TOP / "crates" / crate / "src").glob("*.rt"))
+    sources = "".join(path.read_text() for crate in ("mig_c", "mig_c_calls", "mig_c_loads") for path in (TOP / "crates" / crate / "src").glob("*.rt"))
     header = (TOP / "include/zimgasol.h").read_text()
     for rust, name in STRUCTS.items():
         if rust.endswith("Handle"):
@@ -134,7 +134,7 @@ def statuses():
     specs = dict(re.findall(r"^(\w+) = (\d+)$", (TOP / "crates/mig_c_calls/specs/Status.antt").read_text(), re.M))
     for name in ours:
         yield name, ours[name], theirs.get(name), specs.get(name.lower())
-    for name, number in re.findall(r"const (\w+): u32 = (\d+);", (TOP / "crates/mig_c/src/frame.rt").read_text()):
+    for name, number in re.findall(r"const (\w+): u32 = (\d+);", (TOP / "crates/mig_c_loads/src/frame.rt").read_text()):
         yield name, number, theirs.get(name), number
 
 

@@ -4,19 +4,15 @@
 ghost use Rattle.std.specs.Prelude.{◌≡◌, ◌≢◌, IsSome, IfOk, IfErr, None, Some};
 ghost use Rattle.mig_mem.specs.Lent.{mut_lent_bytes};
 ghost use Rattle.mig_c_calls.specs.Status.{done};
-ghost use Rattle.mig_c.specs.Frames.{waiting_of as most_waiting};
+ghost use Rattle.mig_c_loads.specs.Frames.{waiting_of as most_waiting};
 ghost use Rattle.mig_c.specs.Kinds.{table_in, in_place_in, Turns, Tells};
-ghost use Rattle.mig_c.specs.InPlace.{Opens, OpensInPlace, FeedsInPlace, EndsInPlace, TellsVerdict, TellsClosedAt, TellsValidUpTo};
-ghost use Rattle.mig_c.specs.NextBytes.{TellsNext, TakesPage};
+ghost use Rattle.mig_c_loads.specs.InPlace.{Opens, OpensInPlace, FeedsInPlace, EndsInPlace, TellsVerdict, TellsClosedAt, TellsValidUpTo};
+ghost use Rattle.mig_c_loads.specs.NextBytes.{TellsNext, TakesPage};
 
-use crate::fault::FoundFault;
-use crate::frame::frame_of;
 use crate::handle::{Handle, InPlaceHandle, TableHandle};
-use crate::held_load::HeldLoad;
-use crate::next_bytes::NextBytes;
 use crate::object::Object;
-use crate::settings::{AskedSettings, waiting_of};
 use mig_c_calls::status::{BAD_FRAME, DONE, NO_MEMORY};
+use mig_c_loads::{AskedSettings, FoundFault, HeldLoad, NextBytes, frame_of, waiting_of};
 use mig_mem::{NoMemory, Table};
 use mig_stream::Frame;
 use std::alloc::Global;

@@ -4,20 +4,16 @@
 ghost use Rattle.std.specs.Prelude.{◌≡◌, ◌≢◌, ◌≤◌, IsSome, IfOk, IfErr, None, Some};
 ghost use Rattle.mig_mem.specs.Lent.{mut_lent_bytes};
 ghost use Rattle.mig_c_calls.specs.Status.{done};
-ghost use Rattle.mig_c.specs.Frames.{waiting_of as most_waiting};
+ghost use Rattle.mig_c_loads.specs.Frames.{waiting_of as most_waiting};
 ghost use Rattle.mig_c.specs.Kinds.{table_in, in_place_session_in, Turns, Tells};
-ghost use Rattle.mig_c.specs.Found.{seen_of_verdict};
-ghost use Rattle.mig_c.specs.Sessions.{source_of};
-ghost use Rattle.mig_c.specs.InPlaceSessions.{Opens, OpensInto, FeedsBlocks, EndsSource, TellsTaken, TellsTakes, TellsClosedAt, TellsValidUpTo};
+ghost use Rattle.mig_c_loads.specs.Found.{seen_of_verdict};
+ghost use Rattle.mig_c_loads.specs.Sessions.{source_of};
+ghost use Rattle.mig_c_loads.specs.InPlaceSessions.{Opens, OpensInto, FeedsBlocks, EndsSource, TellsTaken, TellsTakes, TellsClosedAt, TellsValidUpTo};
 
-use crate::fault::FoundFault;
-use crate::frame::frame_of;
 use crate::handle::{Handle, InPlaceSessionHandle, TableHandle};
-use crate::held_session::HeldSession;
 use crate::object::Object;
-use crate::settings::{AskedSettings, waiting_of};
-use crate::sources::source_of;
 use mig_c_calls::status::{BAD_CHANNELS, BAD_FRAME, BAD_LENGTH, DONE, NO_MEMORY};
+use mig_c_loads::{AskedSettings, FoundFault, HeldSession, frame_of, source_of, waiting_of};
 use mig_mem::{NoMemory, Table};
 use mig_session::Source;
 use mig_stream::Frame;

@@ -4,32 +4,22 @@
 //!
 //! C has a handle (`handle`) for each object that it works on, and passes it to each call. The
 //! handle owns the object in a box (`object`). A call requires of its handle that it has an object
-//! of the call's kind, or none. It tests every other condition, and returns a status (`status`).
-//! Beyond that it does what the call of the library below does, and its contract says so of the
-//! object (`specs/`). In each module the exported functions take the object out of its handle, pass
-//! it to a function of the same name, and put it back.
+//! of the call's kind, or none. It tests every other condition, and returns a status, by the
+//! libraries `mig_c_calls` and `mig_c_loads`, whose relations its contract states of the object. In
+//! each module the exported functions take the object out of its handle, pass it to a function of
+//! the same name, and put it back.
 #![tactic(auto)]
 
-mod fault;
-mod frame;
 mod handle;
-mod held_load;
-mod held_session;
 mod in_place;
 mod in_place_session;
-mod lent;
 mod loader;
 mod loose;
 mod multi;
-mod next_bytes;
 mod object;
 mod packet;
-mod putting;
-mod reading;
 mod sender;
 mod session;
-mod settings;
-mod sources;
 mod table;
 mod text;
 mod worker;

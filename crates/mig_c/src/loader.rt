@@ -4,24 +4,21 @@ ghost use Rattle.std.specs.Prelude.{◌≡◌, ◌≢◌, ◌≤◌, ◌^◌, Is
 ghost use Rattle.mig_mem.specs.PageSize.{IsPageSize};
 ghost use Rattle.mig_single_load.specs.Loader.{memory_of, sections_loaded};
 ghost use Rattle.mig_c_calls.specs.Status.{done};
-ghost use Rattle.mig_c.specs.Frames.{waiting_of as most_waiting};
+ghost use Rattle.mig_c_loads.specs.Frames.{waiting_of as most_waiting};
 ghost use Rattle.mig_c.specs.Kinds.{loader_in, Turns, Tells};
-ghost use Rattle.mig_c.specs.Reading.{GivesPage, GivesPages, GivesBlock, FindsFilled, place_at, block_count};
-ghost use Rattle.mig_c.specs.Loading.{IsFresh, Opens, Feeds, Settles, Ends, TellsVerdict, TellsClosedAt, TellsValidUpTo, OpensLoader};
+ghost use Rattle.mig_c_loads.specs.Reading.{GivesPage, GivesPages, GivesBlock, FindsFilled, place_at, block_count};
+ghost use Rattle.mig_c_loads.specs.Loading.{IsFresh, Opens, Feeds, Settles, Ends, TellsVerdict, TellsClosedAt, TellsValidUpTo, OpensLoader};
 
-use crate::fault::{FoundFault, of_verdict};
-use crate::frame::frame_of;
 use crate::handle::{Handle, LoaderHandle};
 use crate::object::Object;
-use crate::reading;
-use crate::settings::{AskedSettings, waiting_of};
 use mig_c_calls::NamedBlock;
-use mig_c_calls::status::{
-    BAD_FRAME, BAD_LIMIT, BAD_PAGE_SIZE, DONE, IS_OVER, MAX_LIMIT, NO_MEMORY, ROOM, RUNNING,
-    TOO_LONG, WAITS,
+use mig_c_calls::status::{BAD_FRAME, BAD_LIMIT, BAD_PAGE_SIZE, DONE, MAX_LIMIT, NO_MEMORY};
+use mig_c_loads::{
+    AskedSettings, FoundFault, count_blocks, fault_of, feed_loader, frame_of, loader_closed_at,
+    read_block, read_page, read_pages, settle_loader, waiting_of,
 };
 use mig_mem::{NoMemory, is_page_size};
-use mig_single_load::{FeedFault, LoadSettings, SingleLoader};
+use mig_single_load::{LoadSettings, SingleLoader};
 use std::alloc::Global;
 
 // Creates a loader in a box.
@@ -114,22 +111,6 @@ pub extern "C" fn zimgasol_loader_new_within(
     }
 }
 
-fn feed_loader(loader: &mut SingleLoader<Global>, piece: &[u8]) -> u32
-    ensures { Feeds piece.now result loader.old loader.new }
-{
-    if loader.ended() {
-        return IS_OVER;
-    }
-    if loader.fed() >= ROOM - piece.len() as u64 {
-        return TOO_LONG;
-    }
-    match loader.feed(piece) {
-        Ok(()) => DONE,
-        Err(FeedFault::NoMemory) => NO_MEMORY,
-        Err(FeedFault::NoGuestMemory) => WAITS,
-    }
-}
-
 fn feed(object: &mut Object, piece: &[u8]) -> u32
     requires { IsSome (loader_in (Some object.old)) }
     ensures { Turns (Feeds piece.now result) (loader_in (Some object.old)) (loader_in (Some object.new)) }
@@ -154,15 +135,6 @@ pub extern "C" fn zimgasol_loader_feed(
     let status = feed(&mut object, piece);
     loader.handle = Handle::of(object);
     status
-}
-
-fn settle_loader(loader: &mut SingleLoader<Global>) -> u32
-    ensures { Settles result loader.old loader.new }
-{
-    match loader.settle() {
-        Ok(()) => DONE,
-        Err(NoMemory) => NO_MEMORY,
-    }
 }
 
 fn settle(object: &mut Object) -> u32
@@ -206,12 +178,6 @@ pub extern "C" fn zimgasol_loader_end(alloc: Global, loader: &mut LoaderHandle)
     let mut object = loader.handle.take().into_box(alloc);
     end(&mut object);
     loader.handle = Handle::of(object);
-}
-
-fn fault_of(loader: &SingleLoader<Global>) -> FoundFault
-    ensures { TellsVerdict result loader.now }
-{
-    of_verdict(loader.verdict(), loader.ended())
 }
 
 fn fault(object: &Object) -> FoundFault
@@ -289,18 +255,6 @@ pub extern "C" fn zimgasol_loader_fed(alloc: Global, loader: &mut LoaderHandle) 
     number
 }
 
-fn loader_closed_at(loader: &SingleLoader<Global>, at: &mut u64) -> u32
-    ensures { TellsClosedAt result at.old at.new loader.now }
-{
-    match loader.closed_at() {
-        Some(count) => {
-            *at = count;
-            DONE
-        }
-        None => RUNNING,
-    }
-}
-
 fn closed_at(object: &Object, at: &mut u64) -> u32
     requires { IsSome (loader_in (Some object.now)) }
     ensures { Tells (TellsClosedAt result at.old at.new) (loader_in (Some object.now)) }
@@ -356,7 +310,7 @@ fn page(object: &Object, block: usize, page: u64, out: &mut [u8]) -> u32
     ensures { Tells (λ l. GivesPage (place_at block page) result out.old out.new (memory_of l)) (loader_in (Some object.now)) }
 {
     match object {
-        Object::Loader(loader) => reading::page(loader.memory(), block, page, out),
+        Object::Loader(loader) => read_page(loader.memory(), block, page, out),
         _ => unreachable!(),
     }
 }
@@ -385,7 +339,7 @@ fn read(object: &Object, block: usize, page: u64, out: &mut [u8]) -> u32
     ensures { Tells (λ l. GivesPages block page result out.old out.new (memory_of l)) (loader_in (Some object.now)) }
 {
     match object {
-        Object::Loader(loader) => reading::pages(loader.memory(), block, page, out),
+        Object::Loader(loader) => read_pages(loader.memory(), block, page, out),
         _ => unreachable!(),
     }
 }
@@ -414,7 +368,7 @@ fn next_nonzero(object: &Object, block: usize, page: u64, found: &mut u64) -> u3
     ensures { Tells (λ l. FindsFilled block page result found.old found.new (memory_of l)) (loader_in (Some object.now)) }
 {
     match object {
-        Object::Loader(loader) => reading::next_nonzero(loader.memory(), block, page, found),
+        Object::Loader(loader) => mig_c_loads::next_nonzero(loader.memory(), block, page, found),
         _ => unreachable!(),
     }
 }
@@ -443,7 +397,7 @@ fn blocks(object: &Object) -> usize
     ensures { Tells (λ l. result ≡ block_count (memory_of l)) (loader_in (Some object.now)) }
 {
     match object {
-        Object::Loader(loader) => reading::blocks(loader.memory()),
+        Object::Loader(loader) => count_blocks(loader.memory()),
         _ => unreachable!(),
     }
 }
@@ -466,7 +420,7 @@ fn block(object: &Object, i: usize, out: &mut NamedBlock) -> u32
     ensures { Tells (λ l. GivesBlock i result out.old out.new (memory_of l)) (loader_in (Some object.now)) }
 {
     match object {
-        Object::Loader(loader) => reading::block(loader.memory(), i, out),
+        Object::Loader(loader) => read_block(loader.memory(), i, out),
         _ => unreachable!(),
     }
 }

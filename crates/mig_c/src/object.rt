@@ -1,8 +1,7 @@
 //! The objects of handles.
 
-use crate::held_load::HeldLoad;
-use crate::held_session::HeldSession;
 use mig_c_calls::{HeldWorker, Multi, Sender};
+use mig_c_loads::{HeldLoad, HeldSession};
 use mig_mem::Table;
 use mig_session::Session;
 use mig_single_load::SingleLoader;

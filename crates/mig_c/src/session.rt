@@ -4,23 +4,21 @@ ghost use Rattle.std.specs.Prelude.{◌≡◌, ◌≢◌, ◌≤◌, ◌^◌, Is
 ghost use Rattle.mig_mem.specs.PageSize.{IsPageSize};
 ghost use Rattle.mig_session.specs.Session.{answer_in};
 ghost use Rattle.mig_c_calls.specs.Status.{done};
-ghost use Rattle.mig_c.specs.Frames.{waiting_of as most_waiting};
+ghost use Rattle.mig_c_loads.specs.Frames.{waiting_of as most_waiting};
 ghost use Rattle.mig_c.specs.Kinds.{session_in, Turns, Tells};
-ghost use Rattle.mig_c.specs.Found.{seen_of_verdict};
-ghost use Rattle.mig_c.specs.Reading.{GivesPage, GivesPages, GivesBlock, FindsFilled, place_at, block_count};
-ghost use Rattle.mig_c.specs.Sessions.{Opens, OpensSession, FeedsSource, EndsSource, source_of, TellsFed, TellsClosedAt, TellsValidUpTo};
+ghost use Rattle.mig_c_loads.specs.Found.{seen_of_verdict};
+ghost use Rattle.mig_c_loads.specs.Reading.{GivesPage, GivesPages, GivesBlock, FindsFilled, place_at, block_count};
+ghost use Rattle.mig_c_loads.specs.Sessions.{Opens, OpensSession, FeedsSource, EndsSource, source_of, TellsFed, TellsClosedAt, TellsValidUpTo};
 
-use crate::fault::{FoundFault, found, none, running};
-use crate::frame::frame_of;
 use crate::handle::{Handle, SessionHandle};
 use crate::object::Object;
-use crate::reading;
-use crate::settings::{AskedSettings, waiting_of};
-use crate::sources::{closed_at_of, end_source, fed_of, feed_source, source_of, valid_up_to_of};
-use mig_answer::Verdict;
 use mig_c_calls::NamedBlock;
 use mig_c_calls::status::{
     BAD_CHANNELS, BAD_FRAME, BAD_LENGTH, BAD_LIMIT, BAD_PAGE_SIZE, DONE, MAX_LIMIT, NO_MEMORY,
+};
+use mig_c_loads::{
+    AskedSettings, FoundFault, closed_at_of, count_blocks, end_source, fed_of, feed_source,
+    frame_of, read_block, read_page, read_pages, source_of, valid_up_to_of, verdict_of, waiting_of,
 };
 use mig_mem::{NoMemory, is_page_size};
 use mig_session::{Session, Source};
@@ -275,16 +273,6 @@ pub extern "C" fn zimgasol_session_valid_up_to(
     result
 }
 
-fn verdict_of(session: &Session<Global>) -> FoundFault
-    ensures { result ≡ seen_of_verdict (answer_in session.now).rounds session.now.verdict }
-{
-    match session.verdict() {
-        Verdict::Done => none(),
-        Verdict::Running => running(session.rounds()),
-        Verdict::Failed(fault) => found(fault),
-    }
-}
-
 fn verdict(object: &Object) -> FoundFault
     requires { IsSome (session_in (Some object.now)) }
     ensures { Tells (λ s. result ≡ seen_of_verdict (answer_in s).rounds s.verdict) (session_in (Some object.now)) }
@@ -342,7 +330,7 @@ fn page(object: &Object, block: usize, page: u64, out: &mut [u8]) -> u32
     ensures { Tells (λ s. GivesPage (place_at block page) result out.old out.new (answer_in s).memory) (session_in (Some object.now)) }
 {
     match object {
-        Object::Session(session) => reading::page(session.memory(), block, page, out),
+        Object::Session(session) => read_page(session.memory(), block, page, out),
         _ => unreachable!(),
     }
 }
@@ -371,7 +359,7 @@ fn read(object: &Object, block: usize, page: u64, out: &mut [u8]) -> u32
     ensures { Tells (λ s. GivesPages block page result out.old out.new ((answer_in s).memory)) (session_in (Some object.now)) }
 {
     match object {
-        Object::Session(session) => reading::pages(session.memory(), block, page, out),
+        Object::Session(session) => read_pages(session.memory(), block, page, out),
         _ => unreachable!(),
     }
 }
@@ -400,7 +388,7 @@ fn next_nonzero(object: &Object, block: usize, page: u64, found: &mut u64) -> u3
     ensures { Tells (λ s. FindsFilled block page result found.old found.new ((answer_in s).memory)) (session_in (Some object.now)) }
 {
     match object {
-        Object::Session(session) => reading::next_nonzero(session.memory(), block, page, found),
+        Object::Session(session) => mig_c_loads::next_nonzero(session.memory(), block, page, found),
         _ => unreachable!(),
     }
 }
@@ -429,7 +417,7 @@ fn blocks(object: &Object) -> usize
     ensures { Tells (λ s. result ≡ block_count (answer_in s).memory) (session_in (Some object.now)) }
 {
     match object {
-        Object::Session(session) => reading::blocks(session.memory()),
+        Object::Session(session) => count_blocks(session.memory()),
         _ => unreachable!(),
     }
 }
@@ -452,7 +440,7 @@ fn block(object: &Object, i: usize, out: &mut NamedBlock) -> u32
     ensures { Tells (λ s. GivesBlock i result out.old out.new (answer_in s).memory) (session_in (Some object.now)) }
 {
     match object {
-        Object::Session(session) => reading::block(session.memory(), i, out),
+        Object::Session(session) => read_block(session.memory(), i, out),
         _ => unreachable!(),
     }
 }

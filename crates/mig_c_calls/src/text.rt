@@ -1,6 +1,5 @@
 //! Short messages for statuses, and the version.
 
-ghost use Rattle.std.specs.Prelude.{◌≡◌};
 ghost use Rattle.mig_c_calls.specs.Texts.{IsText};
 
 /// A message of the library's own, which lasts as long as the program.

@@ -1,0 +1,5 @@
+pub mod HeldBlocks
+pub mod Moved
+pub mod LentBlocks
+pub mod PageReads
+pub mod PageTakes

@@ -1,0 +1,25 @@
+use Rattle.std.proofs.Common.{ℕ, ◌≡◌, ◌∙◌, List, sym, ap, get_or, subst, length}
+use Rattle.std.proofs.lemmas.List.{length-replicate}
+use Rattle.std.specs.Borrow.{MutBor}
+use Rattle.mig_mem.specs.RamTable.{RamTable}
+use Rattle.mig_mem.specs.Place.{IsPlace}
+use Rattle.mig_mem.specs.Image.{Image, with_page, zero_page}
+use borrow.Rule.Slice.Mut.{set_vals}
+use Rattle.mig_c_loads.specs.InPlace.{with_content}
+use Rattle.mig_c_loads.proofs.LentBlocks.{block_written}
+use Rattle.mig_c_loads.proofs.lent.LentBlocksGuestTarget.put_zero_page.Goals as goal
+
+pub invariant_of-self : goal.invariant_of-self
+invariant_of-self c =
+    let table = c.self.inside.table in
+    let is : IsPlace table c.args.place = rw (sym (ap (λ (m : Image). m.table) c.self.view_is)) at c.requires in
+    (block_written table c.self.inside.blocks.items c.args.place c.index_mut.result.now (set_vals c.clear_page.new.bytes c.index_mut.result.now) c.page_size-size.result (zero_page table.page_size)
+    c.self.invariant is c.page_size-size.ensures c.index_mut.ensures.value (length-replicate table.page_size 0) (c.clear_page.ensures ∙ ap (λ (n : ℕ). with_content c.page_size-size.result c.index_mut.result.now.now c.args.place.page (zero_page n)) c.page_size-size.ensures)).0
+
+pub returns : goal.returns
+returns c =
+    let table = c.self.inside.table in
+    let is : IsPlace table c.args.place = rw (sym (ap (λ (m : Image). m.table) c.self.view_is)) at c.requires in
+    sym (block_written table c.self.inside.blocks.items c.args.place c.index_mut.result.now (set_vals c.clear_page.new.bytes c.index_mut.result.now) c.page_size-size.result (zero_page table.page_size)
+    c.self.invariant is c.page_size-size.ensures c.index_mut.ensures.value (length-replicate table.page_size 0) (c.clear_page.ensures ∙ ap (λ (n : ℕ). with_content c.page_size-size.result c.index_mut.result.now.now c.args.place.page (zero_page n)) c.page_size-size.ensures)).1
+    ∙ ap (λ (m : Image). with_page m c.args.place (zero_page m.table.page_size)) c.self.view_is

@@ -1,0 +1,10 @@
+-- To read first: a fault as C sees it, and what C passes to a load beside its streams; then pages
+-- and blocks that are read out, a loader, a load in place, a session, and a session in place.
+pub mod Found
+pub mod Frames
+pub mod Reading
+pub mod Loading
+pub mod InPlace
+pub mod NextBytes
+pub mod Sessions
+pub mod InPlaceSessions

@@ -1,0 +1,265 @@
+//! A load of several channels into blocks of C. The blocks aren't part of it: they are passed to
+//! the call that feeds it.
+
+ghost use Rattle.std.specs.Prelude.{◌≡◌, ◌≤◌, ◌<◌, ◌+◌, ◌^◌, IsFalse, IfOk, length};
+ghost use Rattle.mig_mem.specs.Lent.{mut_lent_bytes};
+ghost use Rattle.mig_session.specs.Session.{HasSource, count_of};
+ghost use Rattle.mig_in_place.specs.Sources.{counts_of};
+ghost use Rattle.mig_c_loads.specs.Found.{seen_of_verdict};
+ghost use Rattle.mig_c_loads.specs.InPlaceSessions.{BeginsInto, RefusesPiece, FeedsMemory, FeedsBlocks, EndsSource, TellsTaken, TellsTakes, TellsClosedAt, TellsValidUpTo};
+
+use crate::fault::{FoundFault, found, none, running};
+use crate::lent::{LentBlocks, fit, put_back, taken_out};
+use mig_answer::Verdict;
+use mig_c_calls::status::{
+    BAD_LENGTH, BAD_SOURCE, DONE, IS_OVER, MAX_LIMIT, NO_MEMORY, RUNNING, TOO_LONG,
+};
+use mig_in_place::InPlaceSession;
+use mig_mem::{NoMemory, Table};
+use mig_session::Source;
+use mig_single_load::LoadSettings;
+use mig_stream::Frame;
+use std::alloc::Global;
+use std::marker::Model;
+use uuid::Uuid;
+
+/// The values that a load keeps between its calls. The table is kept next to the state, for the
+/// memory that a call makes of C's blocks.
+#[derive(Drop)]
+pub struct HeldSession {
+    session: InPlaceSession<Global>,
+    // Some between two calls
+    table: Option<Table<Global>>,
+}
+
+impl Model for HeldSession {
+    ghost use Rattle.std.specs.Prelude.{◌≡◌, Some};
+    ghost use Rattle.mig_in_place.specs.Session.{InPlaceLoad};
+
+    ghost Value = { InPlaceLoad };
+
+    ghost view = { λ h. h.session };
+
+    ghost invariant = { λ h. h.table ≡ Some h.session.table };
+}
+
+// Returns why a piece of a source can't be taken into these blocks, or DONE.
+fn refusal(
+    session: &InPlaceSession<Global>,
+    blocks: &[&mut [u8]],
+    source: Source,
+    len: usize,
+) -> u32
+    ensures { RefusesPiece source len (mut_lent_bytes blocks.now) result session.now }
+{
+    if !session.has(source) {
+        return BAD_SOURCE;
+    }
+    if session.ended(source) {
+        return IS_OVER;
+    }
+    if !session.has_room(source, len) {
+        return TOO_LONG;
+    }
+    if !fit(session.table(), blocks) {
+        return BAD_LENGTH;
+    }
+    DONE
+}
+
+// Feeds a piece into a memory of the load's table.
+fn feed_memory(
+    session: &mut InPlaceSession<Global>,
+    memory: &mut LentBlocks<'_>,
+    source: Source,
+    piece: &[u8],
+    taken: &mut usize,
+) -> u32
+    requires table { memory.old.table ≡ session.old.table }
+    requires source { HasSource (counts_of session.old.sources) source }
+    requires open { IsFalse (count_of (counts_of session.old.sources) source).ended }
+    requires room { (count_of (counts_of session.old.sources) source).fed + length piece.now < 2 ^ 64 }
+    requires none { taken.old ≡ 0 }
+    ensures feeds { FeedsMemory source piece.now memory.old memory.new taken.new result session.old session.new }
+    ensures table { memory.new.table ≡ memory.old.table }
+{
+    match session.feed(memory, source, piece) {
+        Ok(count) => {
+            *taken = count;
+            DONE
+        }
+        Err(_) => NO_MEMORY,
+    }
+}
+
+// Feeds a piece into C's blocks, with the load's table, which it returns.
+fn feed_blocks(
+    alloc: Global,
+    session: &mut InPlaceSession<Global>,
+    table: Table<Global>,
+    blocks: &mut [&mut [u8]],
+    source: Source,
+    piece: &[u8],
+    taken: &mut usize,
+) -> (Table<Global>, u32)
+    requires table { table ≡ session.old.table }
+    ensures table { result.0 ≡ session.new.table }
+    ensures feeds { FeedsBlocks source piece.now (mut_lent_bytes blocks.old) (mut_lent_bytes blocks.new) taken.new result.1 session.old session.new }
+{
+    *taken = 0;
+    let status = refusal(session, blocks, source, piece.len());
+    if status != DONE {
+        return (table, status);
+    }
+    let Ok(list) = taken_out(alloc, blocks) else {
+        return (table, NO_MEMORY);
+    };
+    let mut memory = LentBlocks {
+        table,
+        blocks: list,
+    };
+    let status = feed_memory(session, &mut memory, source, piece, taken);
+    let LentBlocks {
+        table,
+        blocks: mut list,
+    } = memory;
+    put_back(&mut list, blocks);
+    (table, status)
+}
+
+// Reports how many of the bytes taken the main stream has, once it is closed.
+fn closed_at(session: &InPlaceSession<Global>, at: &mut u64) -> u32
+    ensures { TellsClosedAt result at.old at.new session.now }
+{
+    match session.closed_at() {
+        Some(count) => {
+            *at = count;
+            DONE
+        }
+        None => RUNNING,
+    }
+}
+
+// Returns whether it is known how many bytes of a source are complete items without a fault, and
+// reports how many.
+fn valid_up_to(session: &InPlaceSession<Global>, source: Source, at: &mut u64) -> bool
+    ensures { TellsValidUpTo source result at.old at.new session.now }
+{
+    if !session.has(source) {
+        return false;
+    }
+    match session.valid_up_to(source) {
+        Some(count) => {
+            *at = count;
+            true
+        }
+        None => false,
+    }
+}
+
+impl HeldSession {
+    /// Creates a load into blocks of `table`, which it copies. No bytes were taken.
+    pub fn new(
+        alloc: Global,
+        table: &Table<Global>,
+        uuid: &Uuid,
+        channels: usize,
+        frame: Frame,
+        waiting: Option<u64>,
+    ) -> Result<HeldSession, NoMemory>
+        requires channels { (1 ≤ channels) × (channels ≤ 255) }
+        ensures { IfOk result (λ s. BeginsInto table.now uuid.now channels frame waiting s) }
+    {
+        let settings = LoadSettings {
+            page_size: table.page_size(),
+            limit: MAX_LIMIT,
+            frame,
+            waiting,
+        };
+        let session = InPlaceSession::new_in(alloc, table, settings, uuid, channels)?;
+        let table = Some(table.copy_in(alloc)?);
+        Ok(HeldSession { session, table })
+    }
+
+    /// Takes the first bytes of a piece of a source, and writes their pages into C's blocks.
+    pub fn feed(
+        &mut self,
+        alloc: Global,
+        blocks: &mut [&mut [u8]],
+        source: Source,
+        piece: &[u8],
+        taken: &mut usize,
+    ) -> u32
+        ensures { FeedsBlocks source piece.now (mut_lent_bytes blocks.old) (mut_lent_bytes blocks.new) taken.new result self.old self.new }
+    {
+        let Some(table) = self.table.take() else {
+            unreachable!();
+        };
+        let session = &mut self.session;
+        let (table, status) = feed_blocks(alloc, session, table, blocks, source, piece, taken);
+        self.table = Some(table);
+        status
+    }
+
+    /// Ends a source.
+    pub fn end(&mut self, source: Source) -> u32
+        ensures { EndsSource source result self.old self.new }
+    {
+        if !self.session.has(source) {
+            return BAD_SOURCE;
+        }
+        self.session.end(source);
+        DONE
+    }
+
+    /// Returns whether bytes of a source are taken now.
+    pub fn takes(&self, source: Source) -> bool
+        ensures { TellsTakes source result self.now }
+    {
+        self.session.has(source) && self.session.takes(source)
+    }
+
+    /// Returns how many bytes of a source were taken.
+    pub fn fed(&self, source: Source) -> u64
+        ensures { TellsTaken source result self.now }
+    {
+        if self.session.has(source) {
+            self.session.fed(source)
+        } else {
+            0
+        }
+    }
+
+    /// Reports how many of the bytes taken the main stream has, once it is closed.
+    pub fn closed_at(&self, at: &mut u64) -> u32
+        ensures { TellsClosedAt result at.old at.new self.now }
+    {
+        closed_at(&self.session, at)
+    }
+
+    /// Returns whether it is known how many of the bytes taken of a source are complete items
+    /// without a fault, and reports how many.
+    pub fn valid_up_to(&self, source: Source, at: &mut u64) -> bool
+        ensures { TellsValidUpTo source result at.old at.new self.now }
+    {
+        valid_up_to(&self.session, source, at)
+    }
+
+    /// Returns the verdict on the bytes taken, as C sees it.
+    pub fn verdict(&self) -> FoundFault
+        ensures { result ≡ seen_of_verdict self.now.rounds self.now.verdict }
+    {
+        match self.session.verdict() {
+            Verdict::Done => none(),
+            Verdict::Running => running(self.session.rounds()),
+            Verdict::Failed(fault) => found(fault),
+        }
+    }
+
+    /// Returns how many rounds were judged lawful.
+    pub fn rounds(&self) -> u64
+        ensures { result ≡ self.now.rounds }
+    {
+        self.session.rounds()
+    }
+}

@@ -1,0 +1,27 @@
+//! What C passes to a load beside its streams.
+
+ghost use Rattle.std.specs.Prelude.{◌≡◌};
+ghost use Rattle.mig_c_loads.specs.Frames.{waiting_of};
+
+/// The settings of a load. All zeros are those of a stream of RAM's sections alone, with no limit
+/// on the page records that wait.
+#[repr(C)]
+#[derive(Clone, Copy)]
+pub struct AskedSettings {
+    /// What the stream is read as, by its number.
+    pub frame: u32,
+    /// The most page records of a section, or of a round of a main stream; 0 sets no limit.
+    pub waiting: u64,
+    /// Zeros, as room for what may come.
+    pub reserved: [u64; 6],
+}
+
+/// Returns the limit on the page records that wait, if C sets one.
+pub fn waiting_of(count: u64) -> Option<u64>
+    ensures { result ≡ waiting_of count }
+{
+    if count == 0 {
+        return None;
+    }
+    Some(count)
+}
