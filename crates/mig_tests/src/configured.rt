@@ -79,13 +79,18 @@ fn assert_goes_on<A: Allocator>(
     assert!(rt; finished(rt, writer).as_slice() == from_start(rt).as_slice());
 }
 
+// Asserts the bytes before START.
+fn assert_front(rt: &(impl AllocGlobal + Abort), first: &[u8], name: &[u8], len: &[u8]) {
+    assert!(rt; first == front(rt, name, len).as_slice());
+}
+
 // Asserts the bytes that are written with a name, after refused allocations.
 fn assert_configured(rt: &(impl AllocGlobal + Abort), name: &[u8], len: &[u8]) -> Result<(), Fail> {
     let heap = TestHeap::new(rt.alloc());
     let image = guest(rt);
     mig_fixtures::with_each_allocation_refused!(rt, heap, begun(rt, &heap, &image, name), made => {
         let (first, writer) = made;
-        assert!(rt; first.as_slice() == front(rt, name, len).as_slice());
+        assert_front(rt, &first, name, len);
         assert_goes_on(rt, writer, &image);
     });
 }

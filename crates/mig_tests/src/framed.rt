@@ -127,10 +127,14 @@ fn is_told(told: Option<u64>, fed: u64, closed_at: u64) -> bool {
     }
 }
 
-// Feeds a stream in pieces of `len` bytes to a loader.
-fn assert_fed(rt: &(impl AllocGlobal + Abort), frame: Frame, len: usize) {
-    let text = followed(rt, frame);
-    let mut loader = SingleLoader::new_in(rt.alloc(), settings(frame));
+// Feeds a loader a stream in pieces of `len` bytes, up to its end.
+fn feed_pieces<A: Allocator + Copy>(
+    rt: &impl Abort,
+    loader: &mut SingleLoader<A>,
+    frame: Frame,
+    text: &[u8],
+    len: usize,
+) {
     assert!(rt; loader.closed_at().is_none());
     for piece in text.chunks(len.max(1)) {
         assert!(rt; !loader.ended() && loader.fed() <= MAX_TOTAL);
@@ -141,15 +145,23 @@ fn assert_fed(rt: &(impl AllocGlobal + Abort), frame: Frame, len: usize) {
     }
     loader.end();
     assert!(rt; loader.closed_at() == Some(closed_at(frame)));
+}
+
+// Feeds a stream in pieces of `len` bytes to a loader.
+fn assert_fed(rt: &(impl AllocGlobal + Abort), frame: Frame, text: &[u8], len: usize) {
+    let mut loader = SingleLoader::new_in(rt.alloc(), settings(frame));
+    feed_pieces(rt, &mut loader, frame, text, len);
     assert_two_rounds(rt, &loader.finish());
 }
 
-// Feeds a stream in pieces of `len` bytes to a load into a memory of other bytes.
-fn assert_fed_in_place(rt: &(impl AllocGlobal + Abort), frame: Frame, len: usize) {
-    let text = followed(rt, frame);
-    let memory = zeroed(rt.alloc(), &BLOCKS).expect(rt, "a memory");
-    let made = InPlaceLoader::new_in(rt.alloc(), memory, settings(frame));
-    let mut loader = made.ok().expect(rt, "a loader");
+// Feeds a load in place a stream in pieces of `len` bytes, and asserts what it loaded.
+fn feed_pieces_in_place<A: Allocator + Copy>(
+    rt: &impl Abort,
+    loader: &mut InPlaceLoader<A, Memory<A>>,
+    frame: Frame,
+    text: &[u8],
+    len: usize,
+) {
     for piece in text.chunks(len.max(1)) {
         assert!(rt; !loader.ended() && loader.fed() <= MAX_TOTAL);
         assert!(rt; piece.len() as u64 <= MAX_TOTAL);
@@ -160,6 +172,14 @@ fn assert_fed_in_place(rt: &(impl AllocGlobal + Abort), frame: Frame, len: usize
     assert_memory(rt, loader.memory());
 }
 
+// Feeds a stream in pieces of `len` bytes to a load into a memory of other bytes.
+fn assert_fed_in_place(rt: &(impl AllocGlobal + Abort), frame: Frame, text: &[u8], len: usize) {
+    let memory = zeroed(rt.alloc(), &BLOCKS).expect(rt, "a memory");
+    let made = InPlaceLoader::new_in(rt.alloc(), memory, settings(frame));
+    let mut loader = made.ok().expect(rt, "a loader");
+    feed_pieces_in_place(rt, &mut loader, frame, text, len);
+}
+
 fn assert_memory<A: Allocator>(rt: &impl Abort, memory: &Memory<A>) {
     assert!(rt; has_byte(memory, at(0, 1), 0, 7));
     assert!(rt; is_full(memory, at(0, 0), 0) && is_full(memory, at(1, 64), 0));
@@ -168,34 +188,54 @@ fn assert_memory<A: Allocator>(rt: &impl Abort, memory: &Memory<A>) {
 #[test]
 fn fed_in_pieces(rt: HostRuntime) {
     for frame in FRAMES {
+        let text = followed(&rt, frame);
         for len in [1usize, 7, 100, 4096, 10_000] {
-            assert_fed(&rt, frame, len);
-            assert_fed_in_place(&rt, frame, len);
+            assert_fed(&rt, frame, &text, len);
+            assert_fed_in_place(&rt, frame, &text, len);
         }
     }
 }
 
-// A load in place, which needs memory for a copy of the table. `new_in` takes the page size from
-// the table: that of the settings doesn't count.
+// Returns a load into a memory, whose page size is that of the memory's table: that of the settings
+// doesn't count. Without memory for a copy of the table there is none.
+fn state<'a>(
+    rt: &impl Abort,
+    heap: &'a TestHeap,
+    memory: &Memory,
+    frame: Frame,
+) -> InPlaceState<&'a TestHeap> {
+    let given = LoadSettings::new(PAGE_SIZE_8K, MAX_TOTAL).with_frame(frame);
+    heap.refuse(1);
+    assert!(rt; InPlaceState::new_in(heap, memory.table(), given).is_err());
+    heap.refuse(0);
+    InPlaceState::new_in(heap, memory.table(), given).expect(rt, "a load")
+}
+
+// Feeds a load of a memory a stream in pieces of 100 bytes, and asserts what it loaded.
+fn feed_state<A: Allocator + Copy>(
+    rt: &impl Abort,
+    state: &mut InPlaceState<A>,
+    memory: &mut Memory,
+    frame: Frame,
+    text: &[u8],
+) {
+    for piece in text.chunks(100) {
+        assert!(rt; memory.table().same(state.table()));
+        assert!(rt; !state.ended() && state.fed() <= MAX_TOTAL);
+        assert!(rt; piece.len() as u64 <= MAX_TOTAL);
+        assert!(rt; state.feed(memory, piece) == Ok(()));
+        assert!(rt; is_told(state.closed_at(), state.fed(), closed_at(frame)));
+    }
+    assert!(rt; (state.rounds(), state.verdict()) == (4, Ok(())));
+    assert_memory(rt, memory);
+}
+
 #[test]
 fn state_in_place(rt: HostRuntime) {
     for frame in FRAMES {
         let heap = TestHeap::new(rt.alloc());
-        let text = followed(&rt, frame);
         let mut memory = zeroed(rt.alloc(), &BLOCKS).expect(&rt, "a memory");
-        let given = LoadSettings::new(PAGE_SIZE_8K, MAX_TOTAL).with_frame(frame);
-        heap.refuse(1);
-        assert!(rt; InPlaceState::new_in(&heap, memory.table(), given).is_err());
-        heap.refuse(0);
-        let made = InPlaceState::new_in(&heap, memory.table(), given);
-        let mut state = made.expect(&rt, "a load");
-        for piece in text.chunks(100) {
-            assert!(rt; !state.ended() && state.fed() <= MAX_TOTAL);
-            assert!(rt; piece.len() as u64 <= MAX_TOTAL);
-            assert!(rt; state.feed(&mut memory, piece) == Ok(()));
-            assert!(rt; is_told(state.closed_at(), state.fed(), closed_at(frame)));
-        }
-        assert!(rt; (state.rounds(), state.verdict()) == (4, Ok(())));
-        assert_memory(&rt, &memory);
+        let mut state = state(&rt, &heap, &memory, frame);
+        feed_state(&rt, &mut state, &mut memory, frame, &followed(&rt, frame));
     }
 }

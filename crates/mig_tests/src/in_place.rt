@@ -164,6 +164,24 @@ fn text_of<A: Allocator + Copy, B: Allocator>(
     sender.finish().ok()
 }
 
+// Ends a load that was fed `fed` bytes, twice. Returns its answer, if the end changes nothing of
+// it.
+fn ended<A: Allocator + Copy, M: GuestTarget>(
+    loader: &mut InPlaceLoader<A, M>,
+    fed: u64,
+) -> Option<Answer> {
+    let answer = (loader.rounds(), loader.verdict());
+    loader.end();
+    loader.end();
+    if !loader.ended() || loader.fed() != fed {
+        return None;
+    }
+    if answer != (loader.rounds(), loader.verdict()) {
+        return None;
+    }
+    Some(answer)
+}
+
 // Feeds a stream to a loader of a memory, in pieces of `len` bytes.
 fn load<A: Allocator + Copy, M: GuestTarget + Drop>(
     alloc: A,
@@ -173,16 +191,7 @@ fn load<A: Allocator + Copy, M: GuestTarget + Drop>(
 ) -> Option<Answer> {
     let mut loader = InPlaceLoader::new(alloc, memory, MAX_TOTAL).ok()?;
     feed(&mut loader, text, len)?;
-    let answer = (loader.rounds(), loader.verdict());
-    loader.end();
-    loader.end();
-    if !loader.ended() || loader.fed() != text.len() as u64 {
-        return None;
-    }
-    if answer != (loader.rounds(), loader.verdict()) {
-        return None;
-    }
-    Some(answer)
+    ended(&mut loader, text.len() as u64)
 }
 
 // Two blocks, of two pages and of three.

@@ -134,6 +134,22 @@ fn send_part<A: Allocator, B: Allocator>(
     Some(sender)
 }
 
+// Sends the marked pages of a guest, and feeds what this adds to the stream. It passes through
+// `bytes`.
+fn send_and_feed<A: Allocator + Copy, B: Allocator, M: GuestTarget>(
+    sender: SingleSender<A>,
+    guest: &LentMemory<'_, B>,
+    dirty: &Dirty<A>,
+    is_by_pages: bool,
+    bytes: &mut Vec<u8, A>,
+    loader: &mut InPlaceLoader<A, M>,
+) -> Option<SingleSender<A>> {
+    let mut sender = send_part(sender, guest, dirty, is_by_pages)?;
+    sender.drain_into(bytes);
+    feed(loader, bytes, PIECE)?;
+    Some(sender)
+}
+
 /// Sends the marked pages of a guest in parts of at most `most` pages, every second one page by
 /// page. The bytes that each part adds to the stream are drained into one buffer and fed, and so is
 /// the rest.
@@ -153,10 +169,8 @@ pub(crate) fn send<A: Allocator + Copy, B: Allocator, M: GuestTarget>(
         if part.count() == 0 {
             break;
         }
-        sender = send_part(sender, guest, &part, is_by_pages)?;
+        sender = send_and_feed(sender, guest, &part, is_by_pages, &mut bytes, loader)?;
         is_by_pages = !is_by_pages;
-        sender.drain_into(&mut bytes);
-        feed(loader, &bytes, PIECE)?;
     }
     feed(loader, &sender.finish().ok()?, PIECE)
 }

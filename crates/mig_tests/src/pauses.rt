@@ -134,6 +134,22 @@ fn first_reader<'a>(
     RecordReader::new_in(heap, frame, PAGE_SIZE_4K, MAX_TOTAL, front)
 }
 
+// Pauses a reader of a stream that isn't closed, and returns the one that reads on in a piece.
+fn resumed<'a, 'b, A: Allocator + Copy, B: Allocator>(
+    rt: &impl Abort,
+    reader: RecordReader<'a, A>,
+    has_table: bool,
+    table: &Table<B>,
+    piece: &'b [u8],
+) -> RecordReader<'b, A> {
+    assert!(rt; reader.behind().is_none());
+    let pause = pause_of(rt, reader).expect(rt, "a pause");
+    assert_table(rt, &pause, has_table, table);
+    let reader = pause.resume(piece);
+    assert!(rt; reader.given().len() == 0);
+    reader
+}
+
 // Reads a stream up to the byte at which it is closed: its first bytes, then pieces of a length,
 // with a pause between each two.
 fn assert_paused(
@@ -156,11 +172,7 @@ fn assert_paused(
         if fed >= closed_at {
             break;
         }
-        assert!(rt; reader.behind().is_none());
-        let pause = pause_of(rt, reader).expect(rt, "a pause");
-        assert_table(rt, &pause, fed >= table_len(frame), wanted.table);
-        reader = pause.resume(piece);
-        assert!(rt; reader.given().len() == 0);
+        reader = resumed(rt, reader, fed >= table_len(frame), wanted.table, piece);
         read_all(rt, &heap, &mut reader, wanted);
         fed = fed.saturating_add(piece.len());
     }

@@ -114,25 +114,50 @@ fn rest_of<'a, A: Allocator>(kept: &StreamReader<A>, text: &'a [u8]) -> Option<&
     text.get(kept.closed_at()? as usize..)
 }
 
-// Asserts that a reader of records returns the sections that a reader of sections has of a stream,
-// and has the same state. A cut stream leaves records of a section without its end. Returns the
-// number of calls for the last section but one.
+// Asserts that a reader of records ends as a reader of sections has.
+fn assert_ended<A: Allocator>(
+    rt: &impl Abort,
+    heap: &TestHeap,
+    reader: &mut RecordReader<&TestHeap>,
+    kept: &StreamReader<A>,
+    text: &[u8],
+) {
+    assert!(rt; reader.table().is_some() == kept.table().is_some());
+    for _ in 0..3 {
+        if read_on(rt, heap, reader) == Given::End(kept.state()) {
+            assert!(rt; read_on(rt, heap, reader) == Given::End(kept.state()));
+            assert!(rt; reader.behind() == rest_of(kept, text));
+            return;
+        }
+    }
+    panic!(rt; "the stream never ends");
+}
+
+// Asserts that a reader of records, which read nothing yet, returns the sections that a reader of
+// sections has of a stream, and ends as that. Returns the number of calls for the last section but
+// one.
+fn assert_same<A: Allocator + Copy>(
+    rt: &impl Abort,
+    heap: &TestHeap,
+    reader: &mut RecordReader<&TestHeap>,
+    kept: &mut StreamReader<A>,
+    text: &[u8],
+    sections: u64,
+) -> u64 {
+    assert!(rt; reader.given().len() == 0 && reader.table().is_none());
+    assert!(rt; reader.behind().is_none());
+    let calls = assert_sections(rt, heap, reader, kept, sections);
+    assert_ended(rt, heap, reader, kept, text);
+    calls
+}
+
+// Asserts that the readers of records and of sections agree on a stream. A cut one leaves records
+// of a section without its end. Returns the number of calls for the last section but one.
 fn assert_given(rt: &(impl AllocGlobal + Abort), frame: Frame, text: &[u8], sections: u64) -> u64 {
     let heap = TestHeap::new(rt.alloc());
     let mut kept = kept_of(rt, frame, text);
     let mut reader = RecordReader::new_in(&heap, frame, PAGE_SIZE_4K, MAX_TOTAL, text);
-    assert!(rt; reader.given().len() == 0 && reader.table().is_none());
-    assert!(rt; reader.behind().is_none());
-    let calls = assert_sections(rt, &heap, &mut reader, &mut kept, sections);
-    assert!(rt; reader.table().is_some() == kept.table().is_some());
-    for _ in 0..3 {
-        if read_on(rt, &heap, &mut reader) == Given::End(kept.state()) {
-            assert!(rt; read_on(rt, &heap, &mut reader) == Given::End(kept.state()));
-            assert!(rt; reader.behind() == rest_of(&kept, text));
-            return calls;
-        }
-    }
-    panic!(rt; "the text never ends");
+    assert_same(rt, &heap, &mut reader, &mut kept, text, sections)
 }
 
 #[test]
