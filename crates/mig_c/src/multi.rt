@@ -2,7 +2,7 @@
 //! Each worker has a handle of its own (`worker`), and shares the round's deal with the others. No
 //! two threads share a handle.
 
-ghost use Rattle.std.specs.Prelude.{◌≡◌, ◌≢◌, ◌≤◌, ◌<◌, ◌∷◌, [], IsSome, IfOk, IfErr, IfSome, OnOk, None, Some, map, length, true, false, IsTrue, ◌↔◌};
+ghost use Rattle.std.specs.Prelude.{◌≡◌, ◌≢◌, ◌≤◌, ◌<◌, ◌∷◌, [], IsSome, IfOk, IfErr, OnOk, None, Some, map, length, true, false, IsTrue, ◌↔◌};
 ghost use Rattle.mig_stream.specs.Format.{most_name_bytes};
 ghost use Rattle.mig_packet.specs.PageSize.{page_limit as most_pages};
 ghost use Rattle.mig_c_calls.specs.Status.{done};
@@ -12,7 +12,7 @@ ghost use Rattle.mig_c_calls.specs.Multi.{StartsOf, OpensMulti, OfTable, Refuses
 use crate::handle::{Handle, MultiHandle, TableHandle, WorkerHandle};
 use crate::object::Object;
 use mig_c_calls::status::{BAD_LENGTH, BATCH_LIMIT, CHANNELS, DONE, MOST_NAME_BYTES, NO_MEMORY};
-use mig_c_calls::{Multi, NamedPlace};
+use mig_c_calls::{HeldWorker, Multi, NamedPlace};
 use mig_mem::{NoMemory, Table};
 use mig_packet::page_limit;
 use std::alloc::Global;
@@ -214,6 +214,25 @@ pub extern "C" fn zimgasol_multi_begin_round(
     status
 }
 
+// Puts a worker into its object.
+fn put(object: &mut Object, worker: HeldWorker)
+    ensures { worker_in (Some object.new) ≡ Some worker }
+{
+    *object = Object::Worker(worker);
+}
+
+// Takes the worker out of its object, which is empty then.
+fn take(object: &mut Object) -> HeldWorker
+    requires { IsSome (worker_in (Some object.old)) }
+    ensures taken { worker_in (Some object.old) ≡ Some result }
+    ensures none { worker_in (Some object.new) ≡ None }
+{
+    match std::mem::replace(object, Object::Empty) {
+        Object::Worker(held) => held,
+        _ => unreachable!(),
+    }
+}
+
 fn hand_out(alloc: Global, object: &mut Object, empty: &mut Object) -> u32
     requires multi { IsSome (multi_in (Some object.old)) }
     requires none { worker_in (Some empty.old) ≡ None }
@@ -223,7 +242,7 @@ fn hand_out(alloc: Global, object: &mut Object, empty: &mut Object) -> u32
         Object::Multi(multi) => {
             let (status, made) = multi.worker(alloc);
             if let Some(worker) = made {
-                *empty = Object::Worker(worker);
+                put(empty, worker);
             }
             status
         }
@@ -232,13 +251,10 @@ fn hand_out(alloc: Global, object: &mut Object, empty: &mut Object) -> u32
 }
 
 // Makes room for a worker, in a box.
-fn room(alloc: Global) -> Option<Box<Object>>
-    ensures { IfSome result (λ object. worker_in (Some object.value) ≡ None) }
+fn room(alloc: Global) -> Result<Box<Object>, NoMemory>
+    ensures { IfOk result (λ object. worker_in (Some object.value) ≡ None) }
 {
-    match Box::new(alloc, Object::Empty) {
-        Ok(empty) => Some(empty),
-        Err(_) => None,
-    }
+    Ok(Box::new(alloc, Object::Empty)?)
 }
 
 // Returns why there is no worker, if its handle got no memory.
@@ -266,7 +282,7 @@ pub extern "C" fn zimgasol_multi_worker(
     ensures none { result ≢ done → worker.new.handle.value ≡ None }
 {
     let mut object = multi.handle.take().into_box(alloc);
-    let Some(mut empty) = room(alloc) else {
+    let Ok(mut empty) = room(alloc) else {
         let status = refused(&object);
         multi.handle = Handle::of(object);
         return status;
@@ -289,16 +305,13 @@ fn give(object: &mut Object, worker: &mut Object) -> u32
     ensures { TurnsBoth result (worker_in (Some worker.old)) (worker_in (Some worker.new)) (multi_in (Some object.old)) (multi_in (Some object.new)) }
 {
     match object {
-        Object::Multi(multi) => match std::mem::replace(worker, Object::Empty) {
-            Object::Worker(held) => {
-                let (status, left) = multi.give_back(held);
-                if let Some(held) = left {
-                    *worker = Object::Worker(held);
-                }
-                status
+        Object::Multi(multi) => {
+            let (status, left) = multi.give_back(take(worker));
+            if let Some(held) = left {
+                put(worker, held);
             }
-            _ => unreachable!(),
-        },
+            status
+        }
         _ => unreachable!(),
     }
 }

@@ -12,7 +12,7 @@ use crate::handle::{Handle, TableHandle};
 use crate::object::Object;
 use mig_c_calls::status::{BAD_PAGE_SIZE, DONE, NO_MEMORY};
 use mig_c_calls::{NamedBlock, entries};
-use mig_mem::{Table, TableFault, is_page_size};
+use mig_mem::{NoMemory, Table, TableFault, is_page_size};
 use std::alloc::Global;
 
 // Returns the number of the bad entry, if the fault has one, else 0.
@@ -25,6 +25,13 @@ fn entry_of(fault: TableFault) -> usize
     }
 }
 
+// Puts a table into a box.
+fn boxed(alloc: Global, table: Table<Global>) -> Result<Box<Object>, NoMemory>
+    ensures { IfOk result (λ object. table_in (Some object.value) ≡ Some table) }
+{
+    Ok(Box::new(alloc, Object::Table(table))?)
+}
+
 // Creates a table of these blocks in a box.
 fn made(alloc: Global, page_size: u64, blocks: &[NamedBlock]) -> Result<Box<Object>, TableFault>
     requires { IsPageSize page_size }
@@ -34,10 +41,7 @@ fn made(alloc: Global, page_size: u64, blocks: &[NamedBlock]) -> Result<Box<Obje
 {
     let list = entries(alloc, blocks)?;
     let table = Table::new(alloc, page_size, list)?;
-    match Box::new(alloc, Object::Table(table)) {
-        Ok(object) => Ok(object),
-        Err(_) => Err(TableFault::NoMemory),
-    }
+    Ok(boxed(alloc, table)?)
 }
 
 /// Creates the table of these blocks, in this order. With 3, 4 and 5 it reports the number of the
