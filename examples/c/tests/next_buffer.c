@@ -5,7 +5,8 @@
  *
  * FILE is a stream of one block, `pc.ram` of PAGES pages of 4096 bytes, in a file system in memory.
  * One `readv` reads a page and the head of the record after it. Prints the least of five times
- * each, in milliseconds: of the load, of plain reads of a page each, and of plain reads of 1 MiB.
+ * each, in milliseconds: of the load; of the same `readv`s without the library; of plain reads of a
+ * page each, which lie at page boundaries of the file; and of plain reads of 1 MiB.
  */
 #define _GNU_SOURCE
 #include "zimgasol.h"
@@ -74,13 +75,31 @@ static int read_plain(int file, size_t piece) {
     return 1;
 }
 
-/* Returns the least time of a way to read the file: pieces of a length, or 0 for the load. */
-static double least_time(const char *name, size_t piece) {
+/* Reads as many pages as the block has, and with each as many bytes as a record's head has. */
+static int read_alike(int file) {
+    uint8_t head[HEAD];
+    for (size_t at = 0; at < ram_len; at += PAGE) {
+        struct iovec parts[2] = {{ram + at, PAGE}, {head, HEAD}};
+        if (readv(file, parts, 2) < PAGE) return 0;
+    }
+    return 1;
+}
+
+enum way { LOAD, ALIKE, PAGES, PIECES };
+
+static int read_in(enum way way, int file) {
+    if (way == LOAD) return load_pages(file);
+    if (way == ALIKE) return read_alike(file);
+    return read_plain(file, way == PAGES ? PAGE : LARGE);
+}
+
+/* Returns the least time of a way to read the file. */
+static double least_time(const char *name, enum way way) {
     double least = -1;
     for (int turn = 0; turn < TURNS; turn++) {
         int file = open(name, O_RDONLY);
         double began = now();
-        int done = file >= 0 && (piece == 0 ? load_pages(file) : read_plain(file, piece));
+        int done = file >= 0 && read_in(way, file);
         double took = now() - began;
         if (!done) {
             fprintf(stderr, "%s can't be read, or isn't such a stream\n", name);
@@ -100,11 +119,11 @@ int main(int count, char **words) {
     ram = mmap(NULL, ram_len, PROT_READ | PROT_WRITE, MAP_PRIVATE | MAP_ANONYMOUS, -1, 0);
     if (ram == MAP_FAILED) return 3;
     read_plain(open(words[1], O_RDONLY), LARGE); /* the block is in use from here on */
-    double load = least_time(words[1], 0), page = least_time(words[1], PAGE);
-    double large = least_time(words[1], LARGE);
-    printf("load %.1f ms; plain, a page each, %.1f ms: %.2f times; plain, 1 MiB each, %.1f ms: "
-           "%.2f\n",
-        load, page, load / page, large, load / large);
+    double load = least_time(words[1], LOAD), alike = least_time(words[1], ALIKE);
+    double page = least_time(words[1], PAGES), large = least_time(words[1], PIECES);
+    printf("load %.1f ms; the same readvs alone %.1f ms: %.2f times; plain, a page each, %.1f ms: "
+           "%.2f times; plain, 1 MiB each, %.1f ms: %.2f\n",
+        load, alike, load / alike, page, load / page, large, load / large);
     munmap(ram, ram_len);
     zimgasol_table_free(&table);
     return 0;
