@@ -82,8 +82,8 @@ STREAMS = (
     ("input that ends early", "head -c 40000 guest.sav | zimgasol verify -", f"-: {CUT}", 1),
     ("", "head -c 40000 guest.sav | zimgasol extract - early; echo $?; ls early",
      f"-: {CUT}1\nls: cannot access 'early': No such file or directory\n", 2),
-    ("", ": | zimgasol verify -", "-: byte 0 (before section 1): fault 34: the text was over before its "
-     "end byte; the file was cut, or the save didn't come to its end\n", 1),
+    ("", ": | zimgasol verify -", "-: byte 0 (before section 1): fault 34: the stream ends early; "
+     "the file was cut, or the save didn't come to its end\n", 1),
     ("input in pieces", "(head -c 9 guest.sav; sleep 0.2; tail -c +10 guest.sav) | zimgasol verify -",
      PIPED, 0),
     ("closed input", "zimgasol verify - <&-", re.compile(r"-: .* \(os error \d+\)\n"), 3),
@@ -100,8 +100,8 @@ IDENTS = (
      "0\n%2E%2E%2Fevil.bin\nblocks.json\n", 0),
     ("", "zimgasol extract guest.sav none --block $'\\e[2J'; echo $?; ls none",
      "guest.sav: has no block \"%1B[2J\"\n1\nls: cannot access 'none': No such file or directory\n", 2),
-    ("", "zimgasol verify steering.sav", "steering.sav: byte 42 (section 1, START): fault 21: an entry's id "
-     "isn't 1 to 255 bytes of 0x20 to 0x7E\n", 1),
+    ("", "zimgasol verify steering.sav", "steering.sav: byte 42 (section 1, START): fault 21: "
+     "bad block id\n", 1),
     ("", "zimgasol inspect machine.sav | sed -n 2p", 'machine "%1B[2J%22x"\n', 0),
     ("", "zimgasol save --block $'\\e=memory/ram.bin' out.sav",
      'zimgasol: --block "%1B": the id isn\'t 1 to 255 characters of printable ASCII\n', 2),
