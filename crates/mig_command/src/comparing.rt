@@ -9,8 +9,8 @@ use crate::fault::ToolFault;
 use crate::files::read_file;
 use crate::request::CompareRequest;
 use mig_image::memory_of;
-use mig_mem::{Memory, NoMemory};
-use mig_scenario::{Senders, judge, play};
+use mig_mem::{Memory, NoMemory, Table};
+use mig_scenario::{PageSize, Senders, judge, play};
 use std::alloc::Allocator;
 use std::fs::Files;
 use std::thread::Threads;
@@ -28,6 +28,36 @@ fn answer_on<H: Threads + Sync, A: Allocator + Copy + Send + Sync>(
     Ok(Answer::Compared(compared(rt, alloc, a, b)?))
 }
 
+// Compares a memory of `table` with that of a file, whose bytes are `bytes`.
+fn compare_image<H: Threads + Sync, A: Allocator + Copy + Send + Sync>(
+    rt: &H,
+    alloc: A,
+    table: &Table<A>,
+    image: &Memory<A>,
+    bytes: &[u8],
+) -> Result<Answer, Answer>
+    requires { image.now.table ≡ table.now }
+{
+    let Some(memory) = memory_of(alloc, table, bytes)? else {
+        return Err(Answer::Failed(ToolFault::ImageLen));
+    };
+    Ok(answer_on(rt, alloc, image, &memory)?)
+}
+
+// Compares the memory that the scenario in `text` makes with that of a file, whose bytes are
+// `bytes`.
+fn compare_bytes<H: Threads + Sync, A: Allocator + Copy + Send + Sync>(
+    rt: &H,
+    alloc: A,
+    page_size: PageSize,
+    text: &[u8],
+    bytes: &[u8],
+) -> Result<Answer, Answer> {
+    let scenario = judge(alloc, page_size.bytes(), text)?;
+    let played = play(rt, alloc, &scenario.table, &scenario.lines, Senders::none())?;
+    compare_image(rt, alloc, &scenario.table, &played.image, bytes)
+}
+
 /// Compares the memory that a scenario makes with that of a file, and returns the answer. An `Err`
 /// is an answer, too: that of the first fault.
 pub(crate) fn compare<H: Files + Threads + Sync, A: Allocator + Copy + Send + Sync>(
@@ -37,10 +67,5 @@ pub(crate) fn compare<H: Files + Threads + Sync, A: Allocator + Copy + Send + Sy
 ) -> Result<Answer, Answer> {
     let text = read_file(rt, alloc, request.scenario)?;
     let bytes = read_file(rt, alloc, request.image)?;
-    let scenario = judge(alloc, request.page_size.bytes(), &text)?;
-    let played = play(rt, alloc, &scenario.table, &scenario.lines, Senders::none())?;
-    let Some(memory) = memory_of(alloc, &scenario.table, &bytes)? else {
-        return Err(Answer::Failed(ToolFault::ImageLen));
-    };
-    Ok(answer_on(rt, alloc, &played.image, &memory)?)
+    compare_bytes(rt, alloc, request.page_size, &text, &bytes)
 }

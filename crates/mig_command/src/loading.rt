@@ -202,6 +202,31 @@ fn settled_session<A: Allocator>(session: &Session<A>) -> Result<&Memory<A>, Ans
     }
 }
 
+// Writes the memory of a session whose sources have all ended into its file.
+fn write_session<H: Files, A: Allocator + Copy>(
+    rt: &H,
+    alloc: A,
+    session: &Session<A>,
+    name: &str,
+) -> Result<Answer, Answer> {
+    let memory = settled_session(session)?;
+    write_image(rt, alloc, name, memory)?;
+    Ok(Answer::LoadedRounds(session.rounds()))
+}
+
+// Feeds a session its files, and writes the memory into its file.
+fn load_session<H: Files, A: Allocator + Copy>(
+    rt: &H,
+    alloc: A,
+    session: &mut Session<A>,
+    request: &LoadRequest,
+) -> Result<Answer, Answer>
+    requires { session.old.counts ≡ record { main = no_count; channels = replicate request.now.channels no_count } }
+{
+    feed_files(rt, alloc, session, request)?;
+    write_session(rt, alloc, session, request.image)
+}
+
 // Loads a main stream with several channels, each as it is read.
 fn load_fed<H: Files, A: Allocator + Copy>(
     rt: &H,
@@ -218,10 +243,7 @@ fn load_fed<H: Files, A: Allocator + Copy>(
         usize::from(request.channels),
         request.limit,
     )?;
-    feed_files(rt, alloc, &mut session, request)?;
-    let memory = settled_session(&session)?;
-    write_image(rt, alloc, request.image, memory)?;
-    Ok(Answer::LoadedRounds(session.rounds()))
+    load_session(rt, alloc, &mut session, request)
 }
 
 /// Executes a load request, and writes the memory into its file unless there is a fault. Returns

@@ -1,9 +1,9 @@
 //! Parses the command line.
 
 ghost use Rattle.std.specs.Prelude.{ℕ, ◌≡◌, ◌<◌, ◌≤◌, ◌^◌, Ok, codes, IsOk, IfOk, IfErr};
-ghost use Rattle.clap.specs.Words.{found_of, kind_of, rows_of};
+ghost use Rattle.clap.specs.Words.{found_of, kind_of, rows_of, with_subcommand};
 ghost use Rattle.mig_packet.specs.PageSize.{page_limit};
-ghost use Rattle.mig_command.specs.Words.{IsArg, IsCommand, number_rule, file_rule, channels_rule, batch_rule, uuid_rule, limit_rule, feed_rule, page_rule, check_app, send_app, load_app, compare_app, tool_app};
+ghost use Rattle.mig_command.specs.Words.{IsArg, IsCommand, number_rule, file_rule, channels_rule, batch_rule, uuid_rule, limit_rule, feed_rule, page_rule, check_app, send_app, load_app, compare_app, program_app, tool_app};
 ghost use Rattle.mig_command.specs.Words.{Gives, GiveLayout, GiveLoad, AskCheck, AskSend, AskLoad, KeepsLimits, SendsIn, LoadsWith, LoadsIn, HasUuid, texts_of};
 ghost use Rattle.mig_scenario.specs.Layout.{bytes_in, HasRoom};
 ghost use Rattle.mig_scenario.specs.declared.layout.PageSize.{PageSize as Size};
@@ -128,13 +128,20 @@ fn compare_command<'a>(alloc: Global) -> Result<Command<'a>, AllocError>
         .arg(page_option(alloc))
 }
 
-fn tool_command<'a>(alloc: Global) -> Result<Command<'a>, AllocError>
-    ensures { IfOk result (IsCommand tool_app) }
+// Declares the program with the commands that send.
+fn sending_tool<'a>(alloc: Global) -> Result<Command<'a>, AllocError>
+    ensures { IfOk result (IsCommand (with_subcommand (with_subcommand program_app check_app.top) send_app.top)) }
 {
     Command::new(alloc, "mig_tool")
         .no_binary_name(true)
         .subcommand(check_command(alloc)?)?
-        .subcommand(send_command(alloc)?)?
+        .subcommand(send_command(alloc)?)
+}
+
+fn tool_command<'a>(alloc: Global) -> Result<Command<'a>, AllocError>
+    ensures { IfOk result (IsCommand tool_app) }
+{
+    sending_tool(alloc)?
         .subcommand(load_command(alloc)?)?
         .subcommand(compare_command(alloc)?)
 }
