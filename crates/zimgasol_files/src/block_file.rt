@@ -6,7 +6,7 @@ ghost use Rattle.zimgasol_names.specs.Naming.{name_of};
 use crate::input::read_piece;
 use crate::target::{PARTIAL, sync};
 use crate::trouble::Trouble;
-use serde_json::{Value, json};
+use serde_json::{Map, Value, put};
 use sha2::{Digest, Sha256};
 use std::alloc::{AllocError, Global};
 use std::fs::OpenFile;
@@ -78,19 +78,37 @@ pub fn write_text<F: Write + OpenFile>(file: &mut F, bytes: &[u8]) -> io::Result
     sync(file)
 }
 
+// Puts a block's id, the name of its file and its length into `entry`.
+fn put_block<F: Drop>(
+    alloc: Global,
+    entry: &mut Map<String, Value>,
+    file: &BlockFile<F>,
+) -> Result<(), AllocError> {
+    put(entry, alloc, "id", Value::String(id_text(alloc, &file.id)?))?;
+    let name = Value::try_from_str(alloc, &file.name)?;
+    put(entry, alloc, "file", name)?;
+    put(entry, alloc, "bytes", Value::from(file.len))
+}
+
+// Puts the digest of a block's file into `entry`, if there is one.
+fn put_digest(
+    alloc: Global,
+    entry: &mut Map<String, Value>,
+    digest: &Option<[u8; 32]>,
+) -> Result<(), AllocError> {
+    let Some(digest) = digest else {
+        return Ok(());
+    };
+    let text = Value::String(hex_digest(alloc, digest)?);
+    put(entry, alloc, "sha256", text)
+}
+
 /// Returns the entry of `blocks.json` about a block's file.
 pub fn block_value<F: Drop>(alloc: Global, file: &BlockFile<F>) -> Result<Value, Trouble> {
-    let id = id_text(alloc, &file.id)?;
-    let Some(digest) = &file.digest else {
-        return Ok(json!(in alloc; {"id": &id, "file": &file.name, "bytes": file.len})?);
-    };
-    let digest = hex_digest(alloc, digest)?;
-    Ok(json!(in alloc; {
-        "id": &id,
-        "file": &file.name,
-        "bytes": file.len,
-        "sha256": &digest
-    })?)
+    let mut entry = Map::new(alloc);
+    put_block(alloc, &mut entry, file)?;
+    put_digest(alloc, &mut entry, &file.digest)?;
+    Ok(Value::Object(entry))
 }
 
 /// Sets the length of a file. If `durable`, syncs it to its disk. If `digest`, reads it through
@@ -139,7 +157,7 @@ fn digest_of<F: Read>(file: &mut F, buffer: &mut [u8]) -> Result<[u8; 32], Troub
 }
 
 // Returns a digest in hexadecimal digits.
-fn hex_digest(alloc: Global, digest: &[u8; 32]) -> Result<String, Trouble> {
+fn hex_digest(alloc: Global, digest: &[u8; 32]) -> Result<String, AllocError> {
     let mut text = String::new(alloc);
     for byte in digest {
         write!(text, "{byte:02x}")?;

@@ -209,93 +209,126 @@ fn verify_command<'a>(alloc: Global) -> Result<Command<'a>, AllocError> {
     .arg(quiet_flag(alloc))
 }
 
-fn extract_command<'a>(alloc: Global) -> Result<Command<'a>, AllocError> {
+fn inspect_command<'a>(alloc: Global) -> Result<Command<'a>, AllocError> {
+    stream_command(alloc, "inspect", "Lists what a saved guest has")?.arg(flag(
+        alloc,
+        "json",
+        "Prints JSON in place of lines",
+    ))
+}
+
+fn folder_arg<'a>(alloc: Global) -> Arg<'a> {
+    Arg::new(alloc, "DIR")
+        .required(true)
+        .help("The folder; it is created if it isn't there")
+}
+
+fn one_block_option<'a>(alloc: Global) -> Arg<'a> {
+    Arg::new(alloc, "block")
+        .long("block")
+        .value_name("ID")
+        .help("Extracts this block alone")
+}
+
+fn since_option<'a>(alloc: Global, help: &'a str) -> Arg<'a> {
+    Arg::new(alloc, "since")
+        .long("since")
+        .value_name("DIR")
+        .help(help)
+}
+
+// Declares `extract` with its options for streams and folders.
+fn extract_places<'a>(alloc: Global) -> Result<Command<'a>, AllocError> {
     stream_command(
         alloc,
         "extract",
         "Writes the memory of a stream into a folder, a file for each block, and blocks.json",
     )?
-    .arg(
-        Arg::new(alloc, "DIR")
-            .required(true)
-            .help("The folder; it is created if it isn't there"),
-    )?
-    .arg(
-        Arg::new(alloc, "block")
-            .long("block")
-            .value_name("ID")
-            .help("Extracts this block alone"),
-    )?
-    .arg(
-        Arg::new(alloc, "since")
-            .long("since")
-            .value_name("DIR")
-            .help(
-                "Applies the stream to the memory in a folder that `extract` made: what `save --since` saved",
-            ),
-    )?
-    .arg(replace_flag(alloc))?
-    .arg(quiet_flag(alloc))?
-    .arg(flag(
+    .arg(folder_arg(alloc))?
+    .arg(one_block_option(alloc))?
+    .arg(since_option(
         alloc,
-        "no-digest",
-        "Leaves each file's SHA-256 out of blocks.json: it takes most of the time",
+        "Applies the stream to the memory in a folder that `extract` made: what `save --since` saved",
     ))
+}
+
+fn extract_command<'a>(alloc: Global) -> Result<Command<'a>, AllocError> {
+    extract_places(alloc)?
+        .arg(replace_flag(alloc))?
+        .arg(quiet_flag(alloc))?
+        .arg(flag(
+            alloc,
+            "no-digest",
+            "Leaves each file's SHA-256 out of blocks.json: it takes most of the time",
+        ))
+}
+
+fn blocks_option<'a>(alloc: Global) -> Arg<'a> {
+    Arg::new(alloc, "block")
+        .long("block")
+        .value_name("ID=FILE")
+        .action(ArgAction::Append)
+        .required(true)
+        .help("A block's id, and the file with its memory; once for each block")
+}
+
+fn channels_option<'a>(alloc: Global) -> Arg<'a> {
+    Arg::new(alloc, "channels")
+        .long("channels")
+        .value_name("N")
+        .help("Sends the pages over N channels (multifd), into the files OUT.0 and so on")
 }
 
 // Declares `save` with its options for blocks, for `--since` and for channels.
 fn save_sources<'a>(alloc: Global) -> Result<Command<'a>, AllocError> {
     Command::new(alloc, "save")
         .about("Makes a stream of files with the memory of blocks, as a backup of a guest")
-        .arg(
-            Arg::new(alloc, "block")
-                .long("block")
-                .value_name("ID=FILE")
-                .action(ArgAction::Append)
-                .required(true)
-                .help("A block's id, and the file with its memory; once for each block"),
-        )?
-        .arg(
-            Arg::new(alloc, "since")
-                .long("since")
-                .value_name("DIR")
-                .help("Saves only the pages that differ from a folder that `extract` made"),
-        )?
-        .arg(
-            Arg::new(alloc, "channels")
-                .long("channels")
-                .value_name("N")
-                .help("Sends the pages over N channels (multifd), into the files OUT.0 and so on"),
-        )?
+        .arg(blocks_option(alloc))?
+        .arg(since_option(
+            alloc,
+            "Saves only the pages that differ from a folder that `extract` made",
+        ))?
+        .arg(channels_option(alloc))?
         .arg(uuid_option(
             alloc,
             "The UUID that the channels name, that of the guest [default: zeros]",
         ))
 }
 
-fn save_command<'a>(alloc: Global) -> Result<Command<'a>, AllocError> {
+fn out_arg<'a>(alloc: Global) -> Arg<'a> {
+    Arg::new(alloc, "OUT").required(true).help(
+        "The file to write the stream to; - for the standard output",
+    )
+}
+
+fn saved_frame_option<'a>(alloc: Global) -> Arg<'a> {
+    Arg::new(alloc, "frame")
+        .long("frame")
+        .value_name("FRAME")
+        .value_parser(ValueParser::from(["ram", "machine"].as_slice()))
+        .help(
+            "What the stream is: RAM's sections alone, or a machine's, without its devices [default: ram]",
+        )
+}
+
+fn machine_option<'a>(alloc: Global) -> Arg<'a> {
+    Arg::new(alloc, "machine")
+        .long("machine")
+        .value_name("NAME")
+        .help("The machine's name, in a machine's stream: QEMU refuses another machine's")
+}
+
+// Declares `save` with the options of `save_sources`, and those for the stream.
+fn save_stream<'a>(alloc: Global) -> Result<Command<'a>, AllocError> {
     save_sources(alloc)?
-        .arg(
-            Arg::new(alloc, "OUT").required(true).help(
-                "The file to write the stream to; - for the standard output",
-            ),
-        )?
+        .arg(out_arg(alloc))?
         .arg(page_option(alloc))?
-        .arg(
-            Arg::new(alloc, "frame")
-                .long("frame")
-                .value_name("FRAME")
-                .value_parser(ValueParser::from(["ram", "machine"].as_slice()))
-                .help(
-                    "What the stream is: RAM's sections alone, or a machine's, without its devices [default: ram]",
-                ),
-        )?
-        .arg(
-            Arg::new(alloc, "machine")
-                .long("machine")
-                .value_name("NAME")
-                .help("The machine's name, in a machine's stream: QEMU refuses another machine's"),
-        )?
+        .arg(saved_frame_option(alloc))?
+        .arg(machine_option(alloc))
+}
+
+fn save_command<'a>(alloc: Global) -> Result<Command<'a>, AllocError> {
+    save_stream(alloc)?
         .arg(replace_flag(alloc))?
         .arg(quiet_flag(alloc))?
         .arg(progress_flag(alloc))
@@ -318,25 +351,40 @@ fn compare_command<'a>(alloc: Global) -> Result<Command<'a>, AllocError> {
         .arg(progress_flag(alloc))
 }
 
-fn program<'a>(alloc: Global) -> Result<Command<'a>, AllocError> {
-    let json = flag(alloc, "json", "Prints JSON in place of lines");
-    Command::new(alloc, "zimgasol")
-        .bin_name("zimgasol")?
-        .no_binary_name(true)
-        .version(VERSION)
-        .about(
-            "Inspects and verifies guests that QEMU or libvirt saved in a file, extracts their memory, and saves it",
-        )
-        .after_help(
-            "Exit status: 0 success; 1 refused, or different; 2 wrong arguments; 3 a file can't be read or written.",
-        )
-        .arg_required_else_help(true)
-        .subcommand_required(true)
+// Declares the program without its commands.
+fn bare_program<'a>(alloc: Global) -> Result<Command<'a>, AllocError> {
+    Ok(
+        Command::new(alloc, "zimgasol")
+            .bin_name("zimgasol")?
+            .no_binary_name(true)
+            .version(VERSION)
+            .about(
+                "Inspects and verifies guests that QEMU or libvirt saved in a file, extracts their memory, and saves it",
+            )
+            .after_help(
+                "Exit status: 0 success; 1 refused, or different; 2 wrong arguments; 3 a file can't be read or written.",
+            )
+            .arg_required_else_help(true)
+            .subcommand_required(true),
+    )
+}
+
+// Declares the program with the commands that only read a stream.
+fn reading_program<'a>(alloc: Global) -> Result<Command<'a>, AllocError> {
+    bare_program(alloc)?
         .subcommand(verify_command(alloc)?)?
-        .subcommand(stream_command(alloc, "inspect", "Lists what a saved guest has")?.arg(json)?)?
+        .subcommand(inspect_command(alloc)?)
+}
+
+// Declares the program with all commands but `compare`.
+fn copying_program<'a>(alloc: Global) -> Result<Command<'a>, AllocError> {
+    reading_program(alloc)?
         .subcommand(extract_command(alloc)?)?
-        .subcommand(save_command(alloc)?)?
-        .subcommand(compare_command(alloc)?)
+        .subcommand(save_command(alloc)?)
+}
+
+fn program<'a>(alloc: Global) -> Result<Command<'a>, AllocError> {
+    copying_program(alloc)?.subcommand(compare_command(alloc)?)
 }
 
 // ---- the parsed arguments
