@@ -127,6 +127,25 @@ fn subsection_head_len(item: &[u8]) -> usize
     }
 }
 
+// What a subsection of the configuration has.
+enum Subsection {
+    PageBits,
+    Uuid,
+    Capabilities,
+    // what isn't noted
+    Other,
+}
+
+// Returns what the subsection `name` has.
+fn subsection_of(name: &[u8]) -> Subsection {
+    match name {
+        b"configuration/target-page-bits" => Subsection::PageBits,
+        b"configuration/uuid" => Subsection::Uuid,
+        b"configuration/capabilities" => Subsection::Capabilities,
+        _ => Subsection::Other,
+    }
+}
+
 // Reads a subsection of the configuration.
 fn subsection_step(item: &[u8]) -> Progress {
     if item.len() < 2 {
@@ -136,11 +155,11 @@ fn subsection_step(item: &[u8]) -> Progress {
     if item.len() < head_len {
         return Progress::More(head_len - item.len());
     }
-    match subsection_name(item) {
-        b"configuration/target-page-bits" => up_to(item, head_len + 4),
-        b"configuration/uuid" => up_to(item, head_len + 16),
-        b"configuration/capabilities" => capabilities_step(item, head_len),
-        _ => Progress::Other,
+    match subsection_of(subsection_name(item)) {
+        Subsection::PageBits => up_to(item, head_len + 4),
+        Subsection::Uuid => up_to(item, head_len + 16),
+        Subsection::Capabilities => capabilities_step(item, head_len),
+        Subsection::Other => Progress::Other,
     }
 }
 

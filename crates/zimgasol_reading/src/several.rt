@@ -119,6 +119,13 @@ impl<F: Read + OpenFile + Drop> Several<F> {
         watch.expect_total(total);
     }
 
+    // Takes the lengths of the files for the progress; the main stream is read from `main`.
+    fn expect_file(&self, main: &F, watch: &mut Watch) {
+        if let Ok(metadata) = main.metadata() {
+            self.expect(&metadata, watch);
+        }
+    }
+
     // Reads all sources, round by round, up to the verdict.
     fn read<H: AllocGlobal + Files + Clock, R: Read, S: PageSink<H>, E: Write>(
         &mut self,
@@ -188,6 +195,36 @@ impl<F: Read + OpenFile + Drop> Several<F> {
     }
 }
 
+// Reads all sources of `several`, the main stream from the file `name`.
+fn read_named<H: AllocGlobal + Files + Clock, S: PageSink<H>, E: Write>(
+    rt: &H,
+    name: &str,
+    several: &mut Several<H::File>,
+    sink: &mut S,
+    watch: &mut Watch,
+    errors: &mut E,
+) -> Result<(), Trouble> {
+    let mut file = File::open(rt, name).map_err(Trouble::Unread)?;
+    several.expect_file(&file, watch);
+    several.read(rt, &mut file, sink, watch, errors)
+}
+
+// Reads all sources of `several`, the main stream from its file or from `input`.
+fn read_sources<H: AllocGlobal + Files + Clock, R: Read, S: PageSink<H>, E: Write>(
+    rt: &H,
+    words: &StreamWords<'_>,
+    several: &mut Several<H::File>,
+    input: &mut R,
+    sink: &mut S,
+    errors: &mut E,
+) -> Result<(), Trouble> {
+    let mut watch = Watch::new(rt, rt.alloc(), words.talk, words.file)?;
+    if words.file == "-" {
+        return several.read(rt, input, sink, &mut watch, errors);
+    }
+    read_named(rt, words.file, several, sink, &mut watch, errors)
+}
+
 /// Reads a main stream, from its file or from `input`, and its channels from their files. Passes
 /// the pages to `sink`. A fault isn't an error: the survey that it returns has it.
 ///
@@ -204,19 +241,6 @@ pub fn read_several<H: AllocGlobal + Files + Clock, R: Read, S: PageSink<H>, E: 
     errors: &mut E,
 ) -> Result<Several<H::File>, Trouble> {
     let mut several = opened(rt, words, channels)?;
-    let mut watch = Watch::new(rt, rt.alloc(), words.talk, words.file)?;
-    if words.file == "-" {
-        several.read(rt, input, sink, &mut watch, errors)?;
-        return Ok(several);
-    }
-    match File::open(rt, words.file) {
-        Ok(mut file) => {
-            if let Ok(metadata) = file.metadata() {
-                several.expect(&metadata, &mut watch);
-            }
-            several.read(rt, &mut file, sink, &mut watch, errors)?;
-        }
-        Err(error) => return Err(Trouble::Unread(error)),
-    }
+    read_sources(rt, words, &mut several, input, sink, errors)?;
     Ok(several)
 }

@@ -134,15 +134,47 @@ impl Survey {
         let start = self.fed;
         self.fed = start.saturating_add(piece.len() as u64);
         self.between.look(piece, start)?;
-        let mut reader = pause.resume(piece);
-        let found = self.take_records(rt, &mut reader, piece, start, sink)?;
+        self.read_by(rt, pause.resume(piece), piece, start, sink)
+    }
+
+    // Reads `piece`, which begins at the stream's byte `start`, by `reader`.
+    fn read_by<H: AllocGlobal + Files, S: PageSink<H>>(
+        &mut self,
+        rt: &H,
+        mut reader: RecordReader<'_>,
+        piece: &[u8],
+        start: u64,
+        sink: &mut S,
+    ) -> Result<(), Trouble> {
+        let found = self.take_piece(rt, &mut reader, piece, start, sink)?;
+        if let StreamState::Reading = found {
+            self.keep(reader.pause()?);
+        }
+        Ok(())
+    }
+
+    // Keeps the reader for the next piece.
+    fn keep(&mut self, pause: Pause) {
+        self.pause = Some(pause);
+    }
+
+    // Takes all records that `reader` returns from `piece`, which begins at the stream's byte
+    // `start`, and where the stream stands after it.
+    fn take_piece<H: AllocGlobal + Files, S: PageSink<H>>(
+        &mut self,
+        rt: &H,
+        reader: &mut RecordReader<'_>,
+        piece: &[u8],
+        start: u64,
+        sink: &mut S,
+    ) -> Result<StreamState, Trouble>
+        ensures { IfOk result (λ found. HasNoneLeft found reader.new) }
+    {
+        let found = self.take_records(rt, reader, piece, start, sink)?;
         self.valid = reader.valid_up_to();
         self.head.look(piece, start, self.valid)?;
         self.state = found;
-        if let StreamState::Reading = found {
-            self.pause = Some(reader.pause()?);
-        }
-        Ok(())
+        Ok(found)
     }
 
     // Takes all records that `reader` returns from `piece`, which begins at the stream's byte
@@ -208,6 +240,43 @@ impl Survey {
     }
 }
 
+// Takes the length of `file` for the progress.
+fn expect_len<F: OpenFile>(survey: &mut Survey, file: &F) {
+    if let Ok(metadata) = file.metadata() {
+        survey.expect_file(&metadata);
+    }
+}
+
+// Reads a stream from the file `name` to its end.
+fn read_named<H: AllocGlobal + Files + Clock, S: PageSink<H>, E: Write>(
+    rt: &H,
+    name: &str,
+    survey: &mut Survey,
+    buffer: &mut [u8],
+    sink: &mut S,
+    errors: &mut E,
+) -> Result<(), Trouble> {
+    let mut file = File::open(rt, name).map_err(Trouble::Unread)?;
+    expect_len(survey, &file);
+    survey.read(rt, &mut file, buffer, sink, errors)
+}
+
+// Reads a stream to its end, from the file `name` or from `input`.
+fn read_whole<H: AllocGlobal + Files + Clock, R: Read, S: PageSink<H>, E: Write>(
+    rt: &H,
+    name: &str,
+    survey: &mut Survey,
+    input: &mut R,
+    sink: &mut S,
+    errors: &mut E,
+) -> Result<(), Trouble> {
+    let mut buffer = piece_buffer(rt.alloc())?;
+    if name == "-" {
+        return survey.read(rt, input, &mut buffer, sink, errors);
+    }
+    read_named(rt, name, survey, &mut buffer, sink, errors)
+}
+
 /// Reads a stream to its end, from its file or from `input`, and passes its pages to `sink`. A
 /// fault of the stream is no error: the survey has it.
 ///
@@ -223,21 +292,8 @@ pub fn read_stream<H: AllocGlobal + Files + Clock, R: Read, S: PageSink<H>, E: W
     errors: &mut E,
 ) -> Result<Survey, Trouble> {
     let alloc = rt.alloc();
-    let mut buffer = piece_buffer(alloc)?;
     let watch = Watch::new(rt, alloc, words.talk, words.file)?;
     let mut survey = Survey::new(alloc, words, watch);
-    if words.file == "-" {
-        survey.read(rt, input, &mut buffer, sink, errors)?;
-        return Ok(survey);
-    }
-    match File::open(rt, words.file) {
-        Ok(mut file) => {
-            if let Ok(metadata) = file.metadata() {
-                survey.expect_file(&metadata);
-            }
-            survey.read(rt, &mut file, &mut buffer, sink, errors)?;
-        }
-        Err(error) => return Err(Trouble::Unread(error)),
-    }
+    read_whole(rt, words.file, &mut survey, input, sink, errors)?;
     Ok(survey)
 }
