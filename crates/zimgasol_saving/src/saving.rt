@@ -4,11 +4,11 @@
 //! memory is never held.
 
 use crate::plan::{Plan, Source, plan_of};
-use crate::saving_channels::{channel_plan, save_channels};
+use crate::saving_channels::{ChannelPlan, channel_plan, save_channels};
 use crate::send::Sending;
 use std::alloc::{AllocGlobal, Global};
 use std::fs::{Files, OpenFile};
-use std::io::{self, Write};
+use std::io::{self, Read, Write};
 use std::rt::Clock;
 use zimgasol_files::{
     PARTIAL, Pages, Reading, SaveWords, Trouble, Unfit, Watch, create, is_free, open, rename, sync,
@@ -46,6 +46,7 @@ fn reading_of<H: AllocGlobal + Files>(
 #[derive(Clone, Copy)]
 struct Part<'a> {
     block: usize,
+    page_size: u64,
     pages: u64,
     // the bytes of the blocks before it
     before: u64,
@@ -89,31 +90,57 @@ impl PieceSink for Single {
     }
 }
 
-// Sends a block, piece after piece.
-fn send_block<H: AllocGlobal + Files + Clock, S: PieceSink, W: Write, E: Write>(
+// Sends the piece that was read last, which begins at the block's page `first`. Returns how many
+// pages it has.
+fn send_piece<F: Read + OpenFile + Drop, S: PieceSink, W: Write>(
+    reading: &Reading<F>,
+    block: usize,
+    first: u64,
+    sink: &mut S,
+    out: &mut W,
+) -> Result<u64, Trouble> {
+    let pages = reading.pages();
+    if !sink.send(out, block, first, &pages)? {
+        return Err(reading.changed());
+    }
+    Ok(pages.count())
+}
+
+// Sends what `reading` reads of a block, piece after piece. Returns how many pages there were.
+fn send_pieces<H: Clock + Files, S: PieceSink, W: Write, E: Write>(
     rt: &H,
     part: &Part<'_>,
-    page_size: u64,
+    reading: &mut Reading<H::File>,
     sink: &mut S,
     out: &mut W,
     watch: &mut Watch,
     errors: &mut E,
-) -> Result<(), Trouble> {
-    let mut reading = reading_of(rt, part.source, page_size)?;
+) -> Result<u64, Trouble> {
     let mut first = 0u64;
     for _ in 0..u64::MAX {
         if !reading.read_on()? {
             break;
         }
-        let pages = reading.pages();
-        if !sink.send(out, part.block, first, &pages)? {
-            return Err(reading.changed());
-        }
-        first = first.saturating_add(pages.count());
-        let done = part.before.saturating_add(first.saturating_mul(page_size));
-        watch.show(rt, errors, done);
+        let count = send_piece(reading, part.block, first, sink, out)?;
+        first = first.saturating_add(count);
+        let bytes = first.saturating_mul(part.page_size);
+        watch.show(rt, errors, part.before.saturating_add(bytes));
     }
-    if first != part.pages {
+    Ok(first)
+}
+
+// Sends a block.
+fn send_block<H: AllocGlobal + Files + Clock, S: PieceSink, W: Write, E: Write>(
+    rt: &H,
+    part: &Part<'_>,
+    sink: &mut S,
+    out: &mut W,
+    watch: &mut Watch,
+    errors: &mut E,
+) -> Result<(), Trouble> {
+    let mut reading = reading_of(rt, part.source, part.page_size)?;
+    let pages = send_pieces(rt, part, &mut reading, sink, out, watch, errors)?;
+    if pages != part.pages {
         return Err(reading.changed());
     }
     Ok(())
@@ -138,14 +165,50 @@ pub(crate) fn send_blocks<H: AllocGlobal + Files + Clock, S: PieceSink, W: Write
     for (block, source) in plan.sources.iter().enumerate() {
         let part = Part {
             block,
+            page_size,
             pages: source.len / page_size.max(1),
             before,
             source,
         };
-        send_block(rt, &part, page_size, sink, out, watch, errors)?;
+        send_block(rt, &part, sink, out, watch, errors)?;
         before = before.saturating_add(source.len);
     }
     Ok(())
+}
+
+/// Creates the watch of a save that begins now.
+///
+/// # Errors
+///
+/// `Trouble::NoMemory`.
+pub(crate) fn watch_of<H: AllocGlobal + Clock>(
+    rt: &H,
+    words: &SaveWords<'_>,
+    plan: &Plan<'_>,
+) -> Result<Watch, Trouble> {
+    let mut watch = Watch::new(rt, rt.alloc(), words.talk, words.file)?;
+    watch.expect_total(plan.total());
+    Ok(watch)
+}
+
+// Begins a stream, and sends all blocks. Returns the stream, which isn't ended.
+fn send_stream<H: AllocGlobal + Files + Clock, W: Write, E: Write>(
+    rt: &H,
+    words: &SaveWords<'_>,
+    plan: &Plan<'_>,
+    out: &mut W,
+    watch: &mut Watch,
+    errors: &mut E,
+) -> Result<Sending, Trouble> {
+    let sending = Sending::begin(rt.alloc(), out, &plan.table, words.machine)?;
+    let mut single = Single {
+        sending: Some(sending),
+    };
+    send_blocks(rt, plan, &mut single, out, watch, errors)?;
+    match single.sending.take() {
+        Some(sending) => Ok(sending),
+        None => Err(Trouble::NoMemory),
+    }
 }
 
 // Writes the complete stream to `out`.
@@ -156,17 +219,20 @@ fn write_stream<H: AllocGlobal + Files + Clock, W: Write, E: Write>(
     out: &mut W,
     errors: &mut E,
 ) -> Result<Saved, Trouble> {
-    let alloc = rt.alloc();
-    let mut watch = Watch::new(rt, alloc, words.talk, words.file)?;
-    watch.expect_total(plan.total());
-    let sending = Sending::begin(alloc, out, &plan.table, words.machine)?;
-    let mut single = Single {
-        sending: Some(sending),
-    };
-    send_blocks(rt, plan, &mut single, out, &mut watch, errors)?;
-    let Some(sending) = single.sending.take() else {
-        return Err(Trouble::NoMemory);
-    };
+    let mut watch = watch_of(rt, words, plan)?;
+    write_watched(rt, words, plan, out, &mut watch, errors)
+}
+
+// Writes the complete stream to `out`, and shows the progress by `watch`.
+fn write_watched<H: AllocGlobal + Files + Clock, W: Write, E: Write>(
+    rt: &H,
+    words: &SaveWords<'_>,
+    plan: &Plan<'_>,
+    out: &mut W,
+    watch: &mut Watch,
+    errors: &mut E,
+) -> Result<Saved, Trouble> {
+    let sending = send_stream(rt, words, plan, out, watch, errors)?;
     let (pages, bytes) = sending.finish(out, words.frame)?;
     Ok(Saved {
         pages,
@@ -269,6 +335,37 @@ fn flush<W: Write>(output: &mut W) -> Result<(), Trouble> {
     }
 }
 
+// Saves `plan` to the standard output.
+fn save_output<H: AllocGlobal + Files + Clock, W: Write, E: Write>(
+    rt: &H,
+    words: &SaveWords<'_>,
+    plan: &Plan<'_>,
+    output: &mut W,
+    errors: &mut E,
+) -> Result<(), Trouble> {
+    let _saved = write_stream(rt, words, plan, output, errors)?;
+    flush(output)
+}
+
+// Saves `plan` into files, and writes the line on it.
+fn save_files<H: AllocGlobal + Files + Clock, W: Write, E: Write>(
+    rt: &H,
+    words: &SaveWords<'_>,
+    plan: &Plan<'_>,
+    channels: Option<ChannelPlan>,
+    output: &mut W,
+    errors: &mut E,
+) -> Result<(), Trouble> {
+    let saved = match channels {
+        Some(channels) => save_channels(rt, words, plan, channels, errors)?,
+        None => save_file(rt, words, plan, errors)?,
+    };
+    if words.talk.quiet {
+        return Ok(());
+    }
+    put_saved(rt.alloc(), output, words, plan, saved)
+}
+
 /// Saves the memory of blocks as a stream, with channels if the arguments ask for them. Returns
 /// true.
 ///
@@ -286,16 +383,9 @@ pub fn save<H: AllocGlobal + Files + Clock, W: Write, E: Write>(
     let channels = channel_plan(rt.alloc(), words)?;
     let plan = plan_of(rt, words)?;
     if words.file == "-" {
-        let _saved = write_stream(rt, words, &plan, output, errors)?;
-        flush(output)?;
-        return Ok(true);
-    }
-    let saved = match channels {
-        Some(channels) => save_channels(rt, words, &plan, channels, errors)?,
-        None => save_file(rt, words, &plan, errors)?,
-    };
-    if !words.talk.quiet {
-        put_saved(rt.alloc(), output, words, &plan, saved)?;
+        save_output(rt, words, &plan, output, errors)?;
+    } else {
+        save_files(rt, words, &plan, channels, output, errors)?;
     }
     Ok(true)
 }

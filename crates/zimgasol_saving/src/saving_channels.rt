@@ -2,15 +2,15 @@
 
 use crate::packets::PacketSending;
 use crate::plan::Plan;
-use crate::saving::{Saved, send_blocks};
+use crate::saving::{Saved, send_blocks, watch_of};
+use mig_stream::Frame;
 use std::alloc::{AllocError, AllocGlobal, Global};
-use std::fs::Files;
+use std::fs::{Files, OpenFile};
 use std::io::Write;
 use std::rt::Clock;
 use uuid::Uuid;
 use zimgasol_files::{
-    Outlet, PARTIAL, SaveWords, Trouble, Watch, count_word, create, is_free, unwritten, uuid_word,
-    wrong,
+    Outlet, PARTIAL, SaveWords, Trouble, count_word, create, is_free, unwritten, uuid_word, wrong,
 };
 
 /// The number of channels that are written, and their UUID.
@@ -95,6 +95,50 @@ fn open_channels<H: AllocGlobal + Files>(
     Ok(outlets)
 }
 
+// Sends all blocks of `plan`, and shows the progress.
+fn send_all<H: AllocGlobal + Files + Clock, E: Write>(
+    rt: &H,
+    words: &SaveWords<'_>,
+    plan: &Plan<'_>,
+    sending: &mut PacketSending<H::File>,
+    out: &mut H::File,
+    errors: &mut E,
+) -> Result<(), Trouble> {
+    let mut watch = watch_of(rt, words, plan)?;
+    send_blocks(rt, plan, sending, out, &mut watch, errors)
+}
+
+// Syncs the main stream and the channels to their disk. Returns how many bytes the channels have.
+fn sync_all<F: Write + OpenFile + Drop>(
+    main: &mut Outlet<F>,
+    outlets: &mut [Outlet<F>],
+) -> Result<u64, Trouble> {
+    let mut all = 0u64;
+    for outlet in outlets.iter_mut() {
+        outlet.sync()?;
+        all = all.saturating_add(outlet.written);
+    }
+    main.sync()?;
+    Ok(all)
+}
+
+// Ends the main stream and the channels, and syncs them to their disk. Returns the totals, and the
+// channels.
+fn end_all<F: Write + OpenFile + Drop>(
+    sending: PacketSending<F>,
+    main: &mut Outlet<F>,
+    frame: Frame,
+) -> Result<(Saved, Vec<Outlet<F>>), Trouble> {
+    let (mut outlets, pages, bytes) = sending.finish(&mut main.file, frame)?;
+    let all = sync_all(main, &mut outlets)?;
+    let saved = Saved {
+        pages,
+        bytes,
+        channels: Some((outlets.len(), all)),
+    };
+    Ok((saved, outlets))
+}
+
 // Writes the main stream and the channels, and syncs them to their disk. Returns the totals, and
 // the channels.
 fn write_all<H: AllocGlobal + Files + Clock, E: Write>(
@@ -107,25 +151,11 @@ fn write_all<H: AllocGlobal + Files + Clock, E: Write>(
     errors: &mut E,
 ) -> Result<(Saved, Vec<Outlet<H::File>>), Trouble> {
     let alloc = rt.alloc();
-    let mut watch = Watch::new(rt, alloc, words.talk, words.file)?;
-    watch.expect_total(plan.total());
     let name = words.machine;
     let out = &mut main.file;
     let mut sending = PacketSending::begin(alloc, out, outlets, &plan.table, name, channels.uuid)?;
-    send_blocks(rt, plan, &mut sending, &mut main.file, &mut watch, errors)?;
-    let (mut outlets, pages, bytes) = sending.finish(&mut main.file, words.frame)?;
-    let mut all = 0u64;
-    for outlet in &mut outlets {
-        outlet.sync()?;
-        all = all.saturating_add(outlet.written);
-    }
-    main.sync()?;
-    let saved = Saved {
-        pages,
-        bytes,
-        channels: Some((outlets.len(), all)),
-    };
-    Ok((saved, outlets))
+    send_all(rt, words, plan, &mut sending, &mut main.file, errors)?;
+    end_all(sending, main, words.frame)
 }
 
 // Removes the files that have no final name.
@@ -157,7 +187,45 @@ fn rename_all<H: Files>(
     main.rename(rt)
 }
 
-// Writes all files, and renames them.
+// Adds the name of the main stream's file to an error of writing it.
+fn of_main<F: Drop>(main: &Outlet<F>, trouble: Trouble) -> Trouble {
+    match trouble {
+        Trouble::Output(error) => unwritten(main.alloc, &main.partial, error),
+        trouble => trouble,
+    }
+}
+
+// Makes the channels' files, and writes all files. Returns the totals, and the channels.
+fn write_named<H: AllocGlobal + Files + Clock, E: Write>(
+    rt: &H,
+    words: &SaveWords<'_>,
+    plan: &Plan<'_>,
+    channels: ChannelPlan,
+    main: &mut Outlet<H::File>,
+    errors: &mut E,
+) -> Result<(Saved, Vec<Outlet<H::File>>), Trouble> {
+    let outlets = open_channels(rt, words, channels.count)?;
+    match write_all(rt, words, plan, channels, main, outlets, errors) {
+        Ok(written) => Ok(written),
+        Err(trouble) => Err(of_main(main, trouble)),
+    }
+}
+
+// Writes all files, and renames them. That of the main stream is made.
+fn save_into<H: AllocGlobal + Files + Clock, E: Write>(
+    rt: &H,
+    words: &SaveWords<'_>,
+    plan: &Plan<'_>,
+    channels: ChannelPlan,
+    main: &mut Outlet<H::File>,
+    errors: &mut E,
+) -> Result<Saved, Trouble> {
+    let (saved, outlets) = write_named(rt, words, plan, channels, main, errors)?;
+    rename_all(rt, main, &outlets)?;
+    Ok(saved)
+}
+
+// Makes and writes all files, and renames them.
 fn save_all<H: AllocGlobal + Files + Clock, E: Write>(
     rt: &H,
     words: &SaveWords<'_>,
@@ -165,17 +233,9 @@ fn save_all<H: AllocGlobal + Files + Clock, E: Write>(
     channels: ChannelPlan,
     errors: &mut E,
 ) -> Result<Saved, Trouble> {
-    let alloc = rt.alloc();
-    let mut main = open_outlet(rt, String::from_str(alloc, words.file)?)?;
-    let outlets = open_channels(rt, words, channels.count)?;
-    match write_all(rt, words, plan, channels, &mut main, outlets, errors) {
-        Ok((saved, outlets)) => {
-            rename_all(rt, &main, &outlets)?;
-            Ok(saved)
-        }
-        Err(Trouble::Output(error)) => Err(unwritten(alloc, &main.partial, error)),
-        Err(trouble) => Err(trouble),
-    }
+    let path = String::from_str(rt.alloc(), words.file)?;
+    let mut main = open_outlet(rt, path)?;
+    save_into(rt, words, plan, channels, &mut main, errors)
 }
 
 /// Saves into a main stream and channels, which get their final names when all are complete.
