@@ -1,12 +1,15 @@
 //! `inspect`: lists what a single stream has, in lines or as JSON.
 
 use crate::verifying::end_name;
-use serde_json::{Value, json};
+use mig_stream::StreamFault;
+use serde_json::{Map, Value, json, put};
 use std::alloc::{AllocError, Global};
 use std::io::{self, Write};
 use zimgasol_files::Trouble;
 use zimgasol_names::{id_text, shown};
-use zimgasol_reading::{Blocks, Note, Noted, Survey, block_at, fault_of, kind_name};
+use zimgasol_reading::{
+    Blocks, FaultPlace, Note, Noted, SectionKind, Survey, block_at, fault_of, kind_name,
+};
 
 // ---- lines
 
@@ -161,6 +164,20 @@ pub fn put_lines<W: Write>(
 
 // ---- JSON
 
+/// The members of a JSON object.
+pub(crate) type Object = Map<String, Value>;
+
+/// Puts the name of a file, as it is printed, and its length.
+pub(crate) fn put_file(
+    alloc: Global,
+    object: &mut Object,
+    name: &str,
+    len: u64,
+) -> Result<(), AllocError> {
+    put(object, alloc, "file", Value::try_from_str(alloc, name)?)?;
+    put(object, alloc, "bytes", Value::from(len))
+}
+
 fn array(alloc: Global) -> Vec<Value> {
     Vec::new(alloc)
 }
@@ -216,27 +233,51 @@ pub(crate) fn blocks_value(alloc: Global, blocks: &Blocks) -> Result<Value, Allo
     Ok(Value::Array(list))
 }
 
-fn fault_value(alloc: Global, survey: &Survey) -> Result<Value, AllocError> {
-    let Some(place) = fault_of(survey) else {
-        return Ok(Value::Null);
-    };
-    let fault = place.fault;
+// Puts the number, the name and the text of a fault.
+fn put_found(alloc: Global, object: &mut Object, fault: StreamFault) -> Result<(), AllocError> {
     let name = format!(in alloc; "{fault:?}")?;
+    put(object, alloc, "name", Value::String(name))?;
     let text = format!(in alloc; "{fault}")?;
-    let kind = match place.kind {
+    put(object, alloc, "text", Value::String(text))?;
+    put(object, alloc, "number", Value::from(fault.number()))
+}
+
+// Returns the name of the section of a fault.
+fn section_name(kind: Option<SectionKind>) -> &'static str {
+    match kind {
         Some(kind) => kind_name(kind),
         None => "none",
-    };
-    let block = block_value(alloc, survey)?;
-    json!(in alloc; {
-        "number": fault.number(),
-        "name": &name,
-        "text": &text,
-        "byte": place.byte,
-        "complete_sections": place.sections,
-        "section": kind,
-        "block": block
-    })
+    }
+}
+
+// Puts the place of a fault, but for its block.
+fn put_place(alloc: Global, object: &mut Object, place: &FaultPlace) -> Result<(), AllocError> {
+    let section = Value::try_from_str(alloc, section_name(place.kind))?;
+    put(object, alloc, "section", section)?;
+    put(object, alloc, "byte", Value::from(place.byte))?;
+    let sections = Value::from(place.sections);
+    put(object, alloc, "complete_sections", sections)
+}
+
+// Puts the block at a fault.
+fn put_block(alloc: Global, object: &mut Object, survey: &Survey) -> Result<(), AllocError> {
+    put(object, alloc, "block", block_value(alloc, survey)?)
+}
+
+// Returns the JSON of the fault at `place`.
+fn value_at(alloc: Global, place: &FaultPlace, survey: &Survey) -> Result<Value, AllocError> {
+    let mut object = Map::new(alloc);
+    put_found(alloc, &mut object, place.fault)?;
+    put_place(alloc, &mut object, place)?;
+    put_block(alloc, &mut object, survey)?;
+    Ok(Value::Object(object))
+}
+
+fn fault_value(alloc: Global, survey: &Survey) -> Result<Value, AllocError> {
+    match fault_of(survey) {
+        Some(place) => value_at(alloc, &place, survey),
+        None => Ok(Value::Null),
+    }
 }
 
 fn block_value(alloc: Global, survey: &Survey) -> Result<Value, AllocError> {
@@ -253,27 +294,38 @@ fn libvirt_value(alloc: Global, survey: &Survey) -> Result<Value, AllocError> {
     }
 }
 
-fn survey_value(alloc: Global, name: &str, survey: &Survey) -> Result<Value, AllocError> {
+// Returns the JSON of the blocks; an empty list while there is no table.
+fn table_value(alloc: Global, blocks: &Option<Blocks>) -> Result<Value, AllocError> {
+    match blocks {
+        Some(blocks) => blocks_value(alloc, blocks),
+        None => Ok(Value::Array(array(alloc))),
+    }
+}
+
+// Puts the numbers of a stream, and whether it is complete.
+fn put_numbers(alloc: Global, object: &mut Object, survey: &Survey) -> Result<(), AllocError> {
     let end = survey.before().saturating_add(survey.valid);
-    let notes = notes_value(alloc, survey)?;
-    let blocks = match &survey.blocks {
-        Some(blocks) => blocks_value(alloc, blocks)?,
-        None => Value::Array(array(alloc)),
-    };
-    let libvirt = libvirt_value(alloc, survey)?;
-    let fault = fault_value(alloc, survey)?;
-    json!(in alloc; {
-        "file": name,
-        "bytes": survey.len,
-        "libvirt": libvirt,
-        "notes": notes,
-        "page_size": survey.page_size,
-        "blocks": blocks,
-        "sections": survey.sections,
-        "end": end,
-        "complete": fault_of(survey).is_none(),
-        "fault": fault
-    })
+    put(object, alloc, "page_size", Value::from(survey.page_size))?;
+    put(object, alloc, "sections", Value::from(survey.sections))?;
+    put(object, alloc, "end", Value::from(end))?;
+    let is_complete = fault_of(survey).is_none();
+    put(object, alloc, "complete", Value::Bool(is_complete))
+}
+
+// Puts libvirt's header, the items between the sections, the blocks, and the fault.
+fn put_parts(alloc: Global, object: &mut Object, survey: &Survey) -> Result<(), AllocError> {
+    put(object, alloc, "libvirt", libvirt_value(alloc, survey)?)?;
+    put(object, alloc, "notes", notes_value(alloc, survey)?)?;
+    put(object, alloc, "blocks", table_value(alloc, &survey.blocks)?)?;
+    put(object, alloc, "fault", fault_value(alloc, survey)?)
+}
+
+fn survey_value(alloc: Global, name: &str, survey: &Survey) -> Result<Value, AllocError> {
+    let mut object = Map::new(alloc);
+    put_file(alloc, &mut object, name, survey.len)?;
+    put_numbers(alloc, &mut object, survey)?;
+    put_parts(alloc, &mut object, survey)?;
+    Ok(Value::Object(object))
 }
 
 /// Writes what a stream has, as JSON. `name` is the file's, as it is printed.

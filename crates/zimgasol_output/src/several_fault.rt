@@ -81,18 +81,30 @@ pub(crate) fn put_spotted<W: Write>(
     block: &Option<String>,
 ) -> io::Result<()> {
     write!(output, "{name}: ")?;
-    match spot.byte {
-        Some(byte) => {
-            write!(output, "byte {byte} (")?;
-            put_within(output, fault.round, spot.within, block)?;
-            write!(output, ")")?;
-        }
-        None => put_within(output, fault.round, spot.within, block)?,
+    put_spot(output, fault.round, spot, block)?;
+    put_found(output, fault.fault)
+}
+
+// Writes a fault's place: the byte, if it has one, and where that is.
+fn put_spot<W: Write>(
+    output: &mut W,
+    round: u64,
+    spot: Spot,
+    block: &Option<String>,
+) -> io::Result<()> {
+    let Some(byte) = spot.byte else {
+        return put_within(output, round, spot.within, block);
+    };
+    write!(output, "byte {byte} (")?;
+    put_within(output, round, spot.within, block)?;
+    write!(output, ")")
+}
+
+// Writes the fault, and advice on it.
+fn put_found<W: Write>(output: &mut W, fault: Fault) -> io::Result<()> {
+    write!(output, ": fault {fault}")?;
+    match advice_of(fault) {
+        Some(advice) => writeln!(output, "; {advice}"),
+        None => writeln!(output),
     }
-    let found = fault.fault;
-    write!(output, ": fault {found}")?;
-    if let Some(advice) = advice_of(found) {
-        write!(output, "; {advice}")?;
-    }
-    writeln!(output)
 }

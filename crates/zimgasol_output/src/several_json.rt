@@ -2,21 +2,42 @@
 
 ghost use Rattle.std.specs.Prelude.{◌≤◌};
 
-use crate::inspecting::{blocks_value, note_value};
-use mig_single_load::{LoadFault, Origin};
-use serde_json::{Value, json};
+use crate::inspecting::{Object, blocks_value, note_value, put_file};
+use mig_single_load::{Fault, LoadFault, Origin};
+use serde_json::{Map, Value, json, put};
 use std::alloc::{AllocError, Global};
 use std::fs::OpenFile;
 use std::io::{Read, Write};
 use zimgasol_files::Trouble;
-use zimgasol_reading::{Channel, Several, Within};
+use zimgasol_reading::{Channel, ChannelCounts, Guest, Several, Spot, Within};
 
 // Returns the JSON of a number, or null.
-fn number_value(alloc: Global, number: Option<u64>) -> Result<Value, AllocError> {
+fn number_value(number: Option<u64>) -> Value {
     match number {
-        Some(number) => json!(in alloc; number),
-        None => Ok(Value::Null),
+        Some(number) => Value::from(number),
+        None => Value::Null,
     }
+}
+
+// Puts the file of a channel, and its id.
+fn put_inlet<F: Read + OpenFile + Drop>(
+    alloc: Global,
+    object: &mut Object,
+    channel: &Channel<F>,
+) -> Result<(), AllocError> {
+    put_file(alloc, object, &channel.inlet.name, channel.inlet.len())?;
+    let id = channel.lane.hello().map(u64::from);
+    put(object, alloc, "id", number_value(id))
+}
+
+// Puts the counts of a channel.
+fn put_counts(alloc: Global, object: &mut Object, counts: ChannelCounts) -> Result<(), AllocError> {
+    put(object, alloc, "packets", Value::from(counts.packets))?;
+    put(object, alloc, "first_number", number_value(counts.first))?;
+    put(object, alloc, "last_number", number_value(counts.last))?;
+    put(object, alloc, "pages", Value::from(counts.pages))?;
+    put(object, alloc, "zero_pages", Value::from(counts.zeros))?;
+    put(object, alloc, "end", Value::from(counts.valid))
 }
 
 // Returns the JSON of a channel.
@@ -24,21 +45,10 @@ fn channel_value<F: Read + OpenFile + Drop>(
     alloc: Global,
     channel: &Channel<F>,
 ) -> Result<Value, AllocError> {
-    let counts = channel.lane.counts;
-    let id = number_value(alloc, channel.lane.hello().map(u64::from))?;
-    let first = number_value(alloc, counts.first)?;
-    let last = number_value(alloc, counts.last)?;
-    json!(in alloc; {
-        "file": &channel.inlet.name,
-        "bytes": channel.inlet.len(),
-        "id": id,
-        "packets": counts.packets,
-        "first_number": first,
-        "last_number": last,
-        "pages": counts.pages,
-        "zero_pages": counts.zeros,
-        "end": counts.valid
-    })
+    let mut object = Map::new(alloc);
+    put_inlet(alloc, &mut object, channel)?;
+    put_counts(alloc, &mut object, channel.lane.counts)?;
+    Ok(Value::Object(object))
 }
 
 // Returns the JSON of the source that a fault is in.
@@ -75,43 +85,111 @@ fn notes_value<F: Drop>(alloc: Global, several: &Several<F>) -> Result<Value, Al
 fn fault_value<F: Read + OpenFile + Drop>(
     alloc: Global,
     several: &Several<F>,
-) -> Result<Value, Trouble> {
-    let Some(fault) = several.fault() else {
-        return Ok(Value::Null);
-    };
-    Ok(value_of(alloc, several, fault)?)
+) -> Result<Value, AllocError> {
+    match several.fault() {
+        Some(fault) => value_of(alloc, fault, several.spot(fault)),
+        None => Ok(Value::Null),
+    }
 }
 
-// Returns the JSON of `fault`.
-fn value_of<F: Read + OpenFile + Drop>(
-    alloc: Global,
-    several: &Several<F>,
-    fault: LoadFault,
-) -> Result<Value, AllocError> {
-    let spot = several.spot(fault);
-    let found = fault.fault;
-    let name = format!(in alloc; "{found:?}")?;
-    let text = format!(in alloc; "{found}")?;
-    let source = source_value(alloc, fault.source)?;
-    let byte = number_value(alloc, spot.byte)?;
-    let (sections, packets) = match spot.within {
+// Returns the JSON of `fault`, which is at `spot`.
+fn value_of(alloc: Global, fault: LoadFault, spot: Spot) -> Result<Value, AllocError> {
+    let mut object = Map::new(alloc);
+    put_found(alloc, &mut object, fault.fault)?;
+    put_source(alloc, &mut object, fault)?;
+    put_spot(alloc, &mut object, spot)?;
+    Ok(Value::Object(object))
+}
+
+// Puts the number, the name and the text of a fault.
+fn put_found(alloc: Global, object: &mut Object, fault: Fault) -> Result<(), AllocError> {
+    let name = format!(in alloc; "{fault:?}")?;
+    put(object, alloc, "name", Value::String(name))?;
+    let text = format!(in alloc; "{fault}")?;
+    put(object, alloc, "text", Value::String(text))?;
+    put(object, alloc, "number", Value::from(fault.number()))
+}
+
+// Puts the source of a fault, and the complete rounds.
+fn put_source(alloc: Global, object: &mut Object, fault: LoadFault) -> Result<(), AllocError> {
+    put(object, alloc, "source", source_value(alloc, fault.source)?)?;
+    put(object, alloc, "complete_rounds", Value::from(fault.round))
+}
+
+// Returns how many sections of the main stream are complete before a fault there, and how many
+// packets of a channel before a fault there.
+fn complete_before(within: Within) -> (Option<u64>, Option<u64>) {
+    match within {
         Within::Main(sections, _) => (Some(sections), None),
         Within::Hello => (None, Some(0)),
         Within::Channel(packets) => (None, Some(packets)),
         Within::Round => (None, None),
-    };
-    let sections = number_value(alloc, sections)?;
-    let packets = number_value(alloc, packets)?;
-    json!(in alloc; {
-        "number": found.number(),
-        "name": &name,
-        "text": &text,
-        "source": source,
-        "byte": byte,
-        "complete_rounds": fault.round,
-        "complete_sections": sections,
-        "complete_packets": packets
-    })
+    }
+}
+
+// Puts the place of a fault.
+fn put_spot(alloc: Global, object: &mut Object, spot: Spot) -> Result<(), AllocError> {
+    let (sections, packets) = complete_before(spot.within);
+    put(object, alloc, "byte", number_value(spot.byte))?;
+    put(object, alloc, "complete_sections", number_value(sections))?;
+    put(object, alloc, "complete_packets", number_value(packets))
+}
+
+// Returns the JSON of the blocks; an empty list while there is no guest.
+fn guest_value(alloc: Global, guest: &Option<Guest>) -> Result<Value, AllocError> {
+    match guest {
+        Some(guest) => blocks_value(alloc, &guest.blocks),
+        None => Ok(Value::Array(Vec::new(alloc))),
+    }
+}
+
+// Puts the UUID.
+fn put_uuid<F: Drop>(
+    alloc: Global,
+    object: &mut Object,
+    several: &Several<F>,
+) -> Result<(), AllocError> {
+    let uuid = format!(in alloc; "{}", several.uuid)?;
+    put(object, alloc, "uuid", Value::String(uuid))
+}
+
+// Puts the numbers of the main stream, and whether all sources are complete.
+fn put_numbers<F: Read + OpenFile + Drop>(
+    alloc: Global,
+    object: &mut Object,
+    several: &Several<F>,
+) -> Result<(), AllocError> {
+    put(object, alloc, "page_size", Value::from(several.page_size))?;
+    put(object, alloc, "rounds", Value::from(several.rounds))?;
+    put(object, alloc, "end", Value::from(several.main.valid()))?;
+    let is_complete = several.fault().is_none();
+    put(object, alloc, "complete", Value::Bool(is_complete))
+}
+
+// Puts the items between the sections, the channels, the blocks, and the fault.
+fn put_parts<F: Read + OpenFile + Drop>(
+    alloc: Global,
+    object: &mut Object,
+    several: &Several<F>,
+) -> Result<(), AllocError> {
+    put(object, alloc, "notes", notes_value(alloc, several)?)?;
+    put(object, alloc, "channels", channels_value(alloc, several)?)?;
+    put(object, alloc, "blocks", guest_value(alloc, &several.guest)?)?;
+    put(object, alloc, "fault", fault_value(alloc, several)?)
+}
+
+// Returns the JSON of what the main stream and the channels have.
+fn several_value<F: Read + OpenFile + Drop>(
+    alloc: Global,
+    name: &str,
+    several: &Several<F>,
+) -> Result<Value, AllocError> {
+    let mut object = Map::new(alloc);
+    put_file(alloc, &mut object, name, several.main.len())?;
+    put_uuid(alloc, &mut object, several)?;
+    put_numbers(alloc, &mut object, several)?;
+    put_parts(alloc, &mut object, several)?;
+    Ok(Value::Object(object))
 }
 
 /// Writes what the main stream and the channels have, as JSON.
@@ -125,28 +203,7 @@ pub fn put_several_json<F: Read + OpenFile + Drop, W: Write>(
     name: &str,
     several: &Several<F>,
 ) -> Result<(), Trouble> {
-    let notes = notes_value(alloc, several)?;
-    let channels = channels_value(alloc, several)?;
-    let blocks = match &several.guest {
-        Some(guest) => blocks_value(alloc, &guest.blocks)?,
-        None => Value::Array(Vec::new(alloc)),
-    };
-    let fault = fault_value(alloc, several)?;
-    let uuid = format!(in alloc; "{}", several.uuid)?;
-    let value = json!(in alloc; {
-        "file": name,
-        "bytes": several.main.len(),
-        "notes": notes,
-        "page_size": several.page_size,
-        "uuid": &uuid,
-        "channels": channels,
-        "blocks": blocks,
-        "rounds": several.rounds,
-        "end": several.main.valid(),
-        "complete": several.fault().is_none(),
-        "fault": fault
-    })?;
-    let text = value.to_string_pretty(alloc)?;
+    let text = several_value(alloc, name, several)?.to_string_pretty(alloc)?;
     match writeln!(output, "{text}") {
         Ok(()) => Ok(()),
         Err(error) => Err(Trouble::Output(error)),

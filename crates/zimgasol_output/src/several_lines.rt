@@ -12,7 +12,7 @@ use std::alloc::Global;
 use std::fs::OpenFile;
 use std::io::{self, Read, Write};
 use zimgasol_files::{Talk, Trouble};
-use zimgasol_reading::{Channel, Several};
+use zimgasol_reading::{Channel, ChannelCounts, Guest, Note, Several};
 
 /// An explanation of a complete guest without records of all its pages.
 const OTHERS: &str = "it may be the changes since another stream";
@@ -32,8 +32,8 @@ fn source_name<'a, F: Drop>(several: &'a Several<F>, name: &'a str, fault: LoadF
     }
 }
 
-// Writes the line of complete sources.
-fn put_complete<F: Read + OpenFile + Drop, W: Write>(
+// Writes how many rounds, channels and packets complete sources have.
+fn put_totals<F: Read + OpenFile + Drop, W: Write>(
     output: &mut W,
     name: &str,
     several: &Several<F>,
@@ -44,14 +44,34 @@ fn put_complete<F: Read + OpenFile + Drop, W: Write>(
     write!(
         output,
         "{name}: complete: rounds {rounds}, channels {channels}, packets {packets}, "
-    )?;
-    if let Some(guest) = &several.guest {
-        let count = guest.blocks.table.len();
-        let total = guest.blocks.total();
-        write!(output, "blocks {count}, memory {total} bytes, ")?;
-    }
+    )
+}
+
+// Writes how many blocks and bytes a guest has, if there is one.
+fn put_guest<W: Write>(output: &mut W, guest: &Option<Guest>) -> io::Result<()> {
+    let Some(guest) = guest else {
+        return Ok(());
+    };
+    let count = guest.blocks.table.len();
+    let total = guest.blocks.total();
+    write!(output, "blocks {count}, memory {total} bytes, ")
+}
+
+// Writes the UUID of complete sources.
+fn put_uuid<F: Drop, W: Write>(output: &mut W, several: &Several<F>) -> io::Result<()> {
     let uuid = several.uuid;
-    write!(output, "UUID {uuid}, ")?;
+    write!(output, "UUID {uuid}, ")
+}
+
+// Writes the line of complete sources.
+fn put_complete<F: Read + OpenFile + Drop, W: Write>(
+    output: &mut W,
+    name: &str,
+    several: &Several<F>,
+) -> io::Result<()> {
+    put_totals(output, name, several)?;
+    put_guest(output, &several.guest)?;
+    put_uuid(output, several)?;
     put_end(output, several)
 }
 
@@ -127,13 +147,24 @@ fn put_head<F: Drop, W: Write>(
 ) -> Result<(), Trouble> {
     let len = several.main.len();
     writeln!(output, "file {name}, {len} bytes").map_err(output_failed)?;
-    for note in several.main.read_notes() {
+    put_notes(alloc, output, several.main.read_notes())?;
+    put_settings(output, several).map_err(output_failed)
+}
+
+// Writes the lines on the items between the sections.
+fn put_notes<W: Write>(alloc: Global, output: &mut W, notes: &[Note]) -> Result<(), Trouble> {
+    for note in notes {
         put_note(alloc, output, note)?;
     }
+    Ok(())
+}
+
+// Writes the lines on the page size and the UUID.
+fn put_settings<F: Drop, W: Write>(output: &mut W, several: &Several<F>) -> io::Result<()> {
     let page_size = several.page_size;
     let uuid = several.uuid;
-    writeln!(output, "page size {page_size}").map_err(output_failed)?;
-    writeln!(output, "UUID {uuid}").map_err(output_failed)
+    writeln!(output, "page size {page_size}")?;
+    writeln!(output, "UUID {uuid}")
 }
 
 /// Writes what the main stream and the channels have, in lines.
@@ -180,16 +211,26 @@ fn put_channel<F: Read + OpenFile + Drop, W: Write>(
     let name = &channel.inlet.name;
     let len = channel.inlet.len();
     write!(output, "channel {name}, {len} bytes")?;
-    let Some(id) = channel.lane.hello() else {
-        return writeln!(output);
-    };
-    let counts = channel.lane.counts;
+    match channel.lane.hello() {
+        Some(id) => put_counts(output, id, channel.lane.counts),
+        None => writeln!(output),
+    }
+}
+
+// Writes the rest of the line on a channel: its id and its counts.
+fn put_counts<W: Write>(output: &mut W, id: u8, counts: ChannelCounts) -> io::Result<()> {
     let packets = counts.packets;
     write!(output, ", id {id}, packets {packets}")?;
-    if let (Some(first), Some(last)) = (counts.first, counts.last) {
-        write!(output, ", numbers {first}-{last}")?;
-    }
+    put_numbers(output, counts.first, counts.last)?;
     let pages = counts.pages;
     let zeros = counts.zeros;
     writeln!(output, ", {pages} pages, {zeros} zero pages")
+}
+
+// Writes the least and the greatest number of a channel's packets, if it has any.
+fn put_numbers<W: Write>(output: &mut W, first: Option<u64>, last: Option<u64>) -> io::Result<()> {
+    match (first, last) {
+        (Some(first), Some(last)) => write!(output, ", numbers {first}-{last}"),
+        _ => Ok(()),
+    }
 }
