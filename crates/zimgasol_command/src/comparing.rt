@@ -18,6 +18,7 @@ use zimgasol_files::{
 };
 use zimgasol_names::{path_in, shown, shown_name};
 use zimgasol_output::put_wrongs;
+use zimgasol_reading::Survey;
 
 /// The name of the folder that streams are extracted into.
 const TEMPORARY_NAME: &str = ".zimgasol-compare.partial";
@@ -81,6 +82,42 @@ fn of_stream(alloc: Global, name: &str, trouble: Trouble) -> Trouble {
     }
 }
 
+// Extracts a stream, as `words` say. Adds its name to an error of reading it.
+fn named_survey<H: AllocGlobal + Files + Clock, R: Read, E: Write>(
+    rt: &H,
+    words: &ExtractWords<'_>,
+    input: &mut R,
+    errors: &mut E,
+) -> Result<Survey, Trouble> {
+    match extract_survey(rt, words, input, errors) {
+        Ok(survey) => Ok(survey),
+        Err(trouble) => Err(of_stream(rt.alloc(), words.stream.file, trouble)),
+    }
+}
+
+// Writes what is wrong with the stream in `file` to `errors`. Returns whether it is complete.
+fn put_wrongs_of<E: Write>(
+    alloc: Global,
+    errors: &mut E,
+    file: &str,
+    survey: &Survey,
+) -> Result<bool, Trouble> {
+    let name = shown_name(alloc, file)?;
+    put_wrongs(alloc, errors, &name, survey)
+}
+
+// Extracts a stream, as `words` say. Returns whether it is complete; a fault is written to
+// `errors`.
+fn is_extracted<H: AllocGlobal + Files + Clock, R: Read, E: Write>(
+    rt: &H,
+    words: &ExtractWords<'_>,
+    input: &mut R,
+    errors: &mut E,
+) -> Result<bool, Trouble> {
+    let survey = named_survey(rt, words, input, errors)?;
+    put_wrongs_of(rt.alloc(), errors, words.stream.file, &survey)
+}
+
 // Extracts a stream into the folder `path`. Returns the list of its blocks; None if the stream has
 // a fault, which is written to `errors`.
 fn extracted<'a, H: AllocGlobal + Files + Clock, R: Read, E: Write>(
@@ -90,7 +127,6 @@ fn extracted<'a, H: AllocGlobal + Files + Clock, R: Read, E: Write>(
     input: &mut R,
     errors: &mut E,
 ) -> Result<Option<Folder>, Trouble> {
-    let alloc = rt.alloc();
     let extract = ExtractWords {
         stream: *words,
         folder: path,
@@ -100,12 +136,7 @@ fn extracted<'a, H: AllocGlobal + Files + Clock, R: Read, E: Write>(
         digest: false,
         durable: false,
     };
-    let survey = match extract_survey(rt, &extract, input, errors) {
-        Ok(survey) => survey,
-        Err(trouble) => return Err(of_stream(alloc, words.file, trouble)),
-    };
-    let name = shown_name(alloc, words.file)?;
-    if !put_wrongs(alloc, errors, &name, &survey)? {
+    if !is_extracted(rt, &extract, input, errors)? {
         return Ok(None);
     }
     Ok(Some(read_folder(rt, path)?))
@@ -207,6 +238,19 @@ struct Comparing<'a> {
     b_name: &'a str,
 }
 
+// Writes the line on the pages that differ of a block with `pages` pages; `id` is printable.
+fn put_differing<W: Write>(
+    output: &mut W,
+    id: &str,
+    pages: u64,
+    differing: &Differing,
+) -> io::Result<()> {
+    let count = differing.count;
+    write!(output, "block \"{id}\": {count} of {pages} pages differ: ")?;
+    differing.put(output)?;
+    writeln!(output)
+}
+
 fn output_failed(error: io::Error) -> Trouble {
     Trouble::Output(error)
 }
@@ -222,27 +266,46 @@ impl Comparing<'_> {
         b: &FolderBlock,
     ) -> Result<bool, Trouble> {
         let id = shown(self.alloc, a.id.as_bytes())?;
-        if a.len != b.len {
-            let a_len = a.len;
-            let b_len = b.len;
-            let a_name = self.a_name;
-            let b_name = self.b_name;
-            writeln!(
-                output,
-                "block \"{id}\": {a_len} bytes in {a_name}, {b_len} in {b_name}"
-            )
-            .map_err(output_failed)?;
-            return Ok(false);
+        if a.len == b.len {
+            return self.compare_pages(rt, output, &id, a, b);
         }
+        self.put_lens(output, &id, a.len, b.len)
+            .map_err(output_failed)?;
+        Ok(false)
+    }
+
+    // Writes the line on a block that has different lengths; `id` is printable.
+    fn put_lens<W: Write>(
+        &self,
+        output: &mut W,
+        id: &str,
+        a_len: u64,
+        b_len: u64,
+    ) -> io::Result<()> {
+        let a_name = self.a_name;
+        let b_name = self.b_name;
+        writeln!(
+            output,
+            "block \"{id}\": {a_len} bytes in {a_name}, {b_len} in {b_name}"
+        )
+    }
+
+    // Compares the pages of a block that has the same length in both folders, and writes the line
+    // on those that differ; `id` is printable. Returns whether none does.
+    fn compare_pages<H: AllocGlobal + Files, W: Write>(
+        &self,
+        rt: &H,
+        output: &mut W,
+        id: &str,
+        a: &FolderBlock,
+        b: &FolderBlock,
+    ) -> Result<bool, Trouble> {
         let differing = differing_pages(rt, a, b, self.a.page_size)?;
         if differing.count == 0 {
             return Ok(true);
         }
-        let count = differing.count;
         let pages = a.len / self.a.page_size.max(1);
-        write!(output, "block \"{id}\": {count} of {pages} pages differ: ").map_err(output_failed)?;
-        differing.put(output).map_err(output_failed)?;
-        writeln!(output).map_err(output_failed)?;
+        put_differing(output, id, pages, &differing).map_err(output_failed)?;
         Ok(false)
     }
 

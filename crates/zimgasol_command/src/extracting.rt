@@ -8,18 +8,18 @@ use mig_mem::{Dirty, Place, Table};
 use mig_zero::is_zero;
 use serde_json::{Value, json};
 use std::alloc::{AllocGlobal, Global};
-use std::fs::Files;
+use std::fs::{Files, OpenFile};
 use std::io::{ErrorKind, Read, Write};
 use std::rt::Clock;
 use std::str;
 use zimgasol_files::{
-    BlockFile, BlockNames, ChannelWords, ExtractWords, Folder, LIST_NAME, PARTIAL, Trouble, Unfit,
-    block_value, complete_file, create, is_free, names_in, open, piece_buffer, read_folder, rename,
-    unfit, unwritten, write_at, write_text,
+    BlockFile, BlockNames, ChannelWords, ExtractWords, Folder, LIST_NAME, PARTIAL, StreamWords,
+    Trouble, Unfit, block_value, complete_file, create, is_free, names_in, open, piece_buffer,
+    read_folder, rename, unfit, unwritten, write_at, write_text,
 };
 use zimgasol_names::{path_in, shown, shown_name};
 use zimgasol_output::{put_judgement, put_several_judgement};
-use zimgasol_reading::{PageSink, Survey, fault_of, read_several, read_stream};
+use zimgasol_reading::{PageSink, Several, Survey, fault_of, read_several, read_stream};
 
 /// The most bytes of consecutive pages that are written at once.
 const RUN_LEN: usize = 262_144;
@@ -410,6 +410,45 @@ fn since_of<H: AllocGlobal + Files>(
     Ok(Some(since))
 }
 
+// Returns an extraction that has no file yet.
+fn extraction_of<H: AllocGlobal + Files>(
+    rt: &H,
+    words: &ExtractWords<'_>,
+) -> Result<Extraction<H>, Trouble> {
+    let since = since_of(rt, words)?;
+    Extraction::<H>::new(rt.alloc(), words, since)
+}
+
+// Reads a single stream into the files of `extraction`. After an error they are removed.
+fn read_single<H: AllocGlobal + Files + Clock, R: Read, E: Write>(
+    rt: &H,
+    words: &StreamWords<'_>,
+    extraction: &mut Extraction<H>,
+    input: &mut R,
+    errors: &mut E,
+) -> Result<Survey, Trouble> {
+    let read = read_stream(rt, words, input, extraction, errors);
+    if read.is_err() {
+        extraction.remove(rt);
+    }
+    read
+}
+
+// Reads a single stream into the files of `extraction`, and completes or removes them. Returns the
+// survey of the stream.
+fn fill_single<H: AllocGlobal + Files + Clock, R: Read, E: Write>(
+    rt: &H,
+    words: &ExtractWords<'_>,
+    extraction: &mut Extraction<H>,
+    input: &mut R,
+    errors: &mut E,
+) -> Result<Survey, Trouble> {
+    let mut survey = read_single(rt, &words.stream, extraction, input, errors)?;
+    survey.is_laid_over = words.since.is_some();
+    extraction.finish(rt, fault_of(&survey).is_none())?;
+    Ok(survey)
+}
+
 /// Extracts the memory of a single stream. Returns the survey of the stream. If the stream has a
 /// fault, all files are removed.
 ///
@@ -423,19 +462,77 @@ pub(crate) fn extract_survey<H: AllocGlobal + Files + Clock, R: Read, E: Write>(
     input: &mut R,
     errors: &mut E,
 ) -> Result<Survey, Trouble> {
-    let since = since_of(rt, words)?;
-    let mut extraction = Extraction::<H>::new(rt.alloc(), words, since)?;
-    let read = read_stream(rt, &words.stream, input, &mut extraction, errors);
-    let mut survey = match read {
-        Ok(survey) => survey,
-        Err(trouble) => {
-            extraction.remove(rt);
-            return Err(trouble);
-        }
-    };
-    survey.is_laid_over = words.since.is_some();
-    extraction.finish(rt, fault_of(&survey).is_none())?;
-    Ok(survey)
+    let mut extraction = extraction_of(rt, words)?;
+    fill_single(rt, words, &mut extraction, input, errors)
+}
+
+// Prints the verdict on a single stream. Returns whether it is complete.
+fn judge_single<W: Write, E: Write>(
+    alloc: Global,
+    words: &StreamWords<'_>,
+    survey: &Survey,
+    output: &mut W,
+    errors: &mut E,
+) -> Result<bool, Trouble> {
+    let name = shown_name(alloc, words.file)?;
+    put_judgement(alloc, output, errors, &name, survey, words.talk)
+}
+
+// Reads a main stream and its channels into the files of `extraction`. After an error they are
+// removed.
+fn read_channels<H: AllocGlobal + Files + Clock, R: Read, E: Write>(
+    rt: &H,
+    words: &StreamWords<'_>,
+    channels: &ChannelWords<'_>,
+    extraction: &mut Extraction<H>,
+    input: &mut R,
+    errors: &mut E,
+) -> Result<Several<H::File>, Trouble> {
+    let read = read_several(rt, words, channels, input, extraction, errors);
+    if read.is_err() {
+        extraction.remove(rt);
+    }
+    read
+}
+
+// Reads a main stream and its channels into the files of `extraction`, and completes or removes
+// them. Returns the survey of all sources.
+fn fill_several<H: AllocGlobal + Files + Clock, R: Read, E: Write>(
+    rt: &H,
+    words: &ExtractWords<'_>,
+    channels: &ChannelWords<'_>,
+    extraction: &mut Extraction<H>,
+    input: &mut R,
+    errors: &mut E,
+) -> Result<Several<H::File>, Trouble> {
+    let mut several = read_channels(rt, &words.stream, channels, extraction, input, errors)?;
+    several.is_laid_over = words.since.is_some();
+    extraction.finish(rt, several.fault().is_none())?;
+    Ok(several)
+}
+
+// Extracts the memory of a main stream and its channels. Returns the survey of all sources.
+fn survey_several<H: AllocGlobal + Files + Clock, R: Read, E: Write>(
+    rt: &H,
+    words: &ExtractWords<'_>,
+    channels: &ChannelWords<'_>,
+    input: &mut R,
+    errors: &mut E,
+) -> Result<Several<H::File>, Trouble> {
+    let mut extraction = extraction_of(rt, words)?;
+    fill_several(rt, words, channels, &mut extraction, input, errors)
+}
+
+// Prints the verdict on a main stream and its channels. Returns whether all sources are complete.
+fn judge_several<F: Read + OpenFile + Drop, W: Write, E: Write>(
+    alloc: Global,
+    words: &StreamWords<'_>,
+    several: &Several<F>,
+    output: &mut W,
+    errors: &mut E,
+) -> Result<bool, Trouble> {
+    let name = shown_name(alloc, words.file)?;
+    put_several_judgement(alloc, output, errors, &name, several, words.talk)
 }
 
 // Extracts the memory of a main stream and its channels, and prints the verdict. Returns whether
@@ -448,21 +545,8 @@ fn extract_several<H: AllocGlobal + Files + Clock, R: Read, W: Write, E: Write>(
     output: &mut W,
     errors: &mut E,
 ) -> Result<bool, Trouble> {
-    let alloc = rt.alloc();
-    let since = since_of(rt, words)?;
-    let mut extraction = Extraction::<H>::new(alloc, words, since)?;
-    let read = read_several(rt, &words.stream, channels, input, &mut extraction, errors);
-    let mut several = match read {
-        Ok(several) => several,
-        Err(trouble) => {
-            extraction.remove(rt);
-            return Err(trouble);
-        }
-    };
-    several.is_laid_over = words.since.is_some();
-    extraction.finish(rt, several.fault().is_none())?;
-    let name = shown_name(alloc, words.stream.file)?;
-    put_several_judgement(alloc, output, errors, &name, &several, words.stream.talk)
+    let several = survey_several(rt, words, channels, input, errors)?;
+    judge_several(rt.alloc(), &words.stream, &several, output, errors)
 }
 
 /// Extracts the memory of a stream, with its channels, and prints the verdict. Returns whether it
@@ -479,11 +563,9 @@ pub(crate) fn extract<H: AllocGlobal + Files + Clock, R: Read, W: Write, E: Writ
     output: &mut W,
     errors: &mut E,
 ) -> Result<bool, Trouble> {
-    let alloc = rt.alloc();
-    if !channels.is_single(alloc)? {
+    if !channels.is_single(rt.alloc())? {
         return extract_several(rt, words, channels, input, output, errors);
     }
     let survey = extract_survey(rt, words, input, errors)?;
-    let name = shown_name(alloc, words.stream.file)?;
-    put_judgement(alloc, output, errors, &name, &survey, words.stream.talk)
+    judge_single(rt.alloc(), &words.stream, &survey, output, errors)
 }

@@ -7,7 +7,7 @@ use crate::extracting::extract;
 use clap::Error;
 use clap::error::ErrorKind;
 use std::alloc::{AllocGlobal, Global};
-use std::fs::Files;
+use std::fs::{Files, OpenFile};
 use std::io::{self, Read, Write};
 use std::rt::Clock;
 use zimgasol_files::{ChannelWords, Request, StreamWords, Trouble, Unfit, asked};
@@ -16,7 +16,7 @@ use zimgasol_output::{
     put_json, put_judgement, put_lines, put_several_json, put_several_judgement, put_several_lines,
     put_several_wrongs, put_wrongs,
 };
-use zimgasol_reading::{NoSink, read_several, read_stream};
+use zimgasol_reading::{NoSink, Several, Survey, read_several, read_stream};
 use zimgasol_saving::save;
 
 /// The exit status of success.
@@ -206,14 +206,49 @@ fn verify<H: AllocGlobal + Files + Clock, R: Read, W: Write, E: Write>(
     output: &mut W,
     errors: &mut E,
 ) -> Result<bool, Trouble> {
-    let alloc = rt.alloc();
-    let name = shown_name(alloc, words.file)?;
-    if channels.is_single(alloc)? {
-        let survey = read_stream(rt, words, input, &mut NoSink, errors)?;
-        return put_judgement(alloc, output, errors, &name, &survey, words.talk);
+    let name = shown_name(rt.alloc(), words.file)?;
+    if channels.is_single(rt.alloc())? {
+        return verify_single(rt, words, &name, input, output, errors);
     }
+    verify_several(rt, words, channels, &name, input, output, errors)
+}
+
+// Reads a single stream, and prints whether it is complete. Returns whether it is; `name` is
+// printable.
+fn verify_single<H: AllocGlobal + Files + Clock, R: Read, W: Write, E: Write>(
+    rt: &H,
+    words: &StreamWords<'_>,
+    name: &str,
+    input: &mut R,
+    output: &mut W,
+    errors: &mut E,
+) -> Result<bool, Trouble> {
+    let survey = read_stream(rt, words, input, &mut NoSink, errors)?;
+    put_judgement(rt.alloc(), output, errors, name, &survey, words.talk)
+}
+
+// Reads a main stream and its channels, and prints whether they are complete. Returns whether they
+// are; `name` is printable.
+fn verify_several<H: AllocGlobal + Files + Clock, R: Read, W: Write, E: Write>(
+    rt: &H,
+    words: &StreamWords<'_>,
+    channels: &ChannelWords<'_>,
+    name: &str,
+    input: &mut R,
+    output: &mut W,
+    errors: &mut E,
+) -> Result<bool, Trouble> {
     let several = read_several(rt, words, channels, input, &mut NoSink, errors)?;
-    put_several_judgement(alloc, output, errors, &name, &several, words.talk)
+    put_several_judgement(rt.alloc(), output, errors, name, &several, words.talk)
+}
+
+// How the contents of a stream are listed.
+#[derive(Clone, Copy)]
+struct Listing<'a> {
+    // the file's name, as it is printed
+    name: &'a str,
+    // whether as JSON, in place of lines
+    json: bool,
 }
 
 // Reads a stream, with its channels, and lists what it has. Returns whether it is complete.
@@ -226,22 +261,70 @@ fn inspect<H: AllocGlobal + Files + Clock, R: Read, W: Write, E: Write>(
     output: &mut W,
     errors: &mut E,
 ) -> Result<bool, Trouble> {
-    let alloc = rt.alloc();
-    let name = shown_name(alloc, words.file)?;
-    if !channels.is_single(alloc)? {
-        let several = read_several(rt, words, channels, input, &mut NoSink, errors)?;
-        if json {
-            put_several_json(alloc, output, &name, &several)?;
-        } else {
-            put_several_lines(alloc, output, &name, &several)?;
-        }
-        return put_several_wrongs(alloc, errors, &name, &several);
+    let name = shown_name(rt.alloc(), words.file)?;
+    let listing = Listing { name: &name, json };
+    if channels.is_single(rt.alloc())? {
+        return inspect_single(rt, words, listing, input, output, errors);
     }
+    inspect_several(rt, words, channels, listing, input, output, errors)
+}
+
+// Reads a single stream, and lists what it has. Returns whether it is complete.
+fn inspect_single<H: AllocGlobal + Files + Clock, R: Read, W: Write, E: Write>(
+    rt: &H,
+    words: &StreamWords<'_>,
+    listing: Listing<'_>,
+    input: &mut R,
+    output: &mut W,
+    errors: &mut E,
+) -> Result<bool, Trouble> {
     let survey = read_stream(rt, words, input, &mut NoSink, errors)?;
-    if json {
-        put_json(alloc, output, &name, &survey)?;
+    list_single(rt.alloc(), listing, &survey, output, errors)
+}
+
+// Lists what a single stream has. Returns whether it is complete.
+fn list_single<W: Write, E: Write>(
+    alloc: Global,
+    listing: Listing<'_>,
+    survey: &Survey,
+    output: &mut W,
+    errors: &mut E,
+) -> Result<bool, Trouble> {
+    if listing.json {
+        put_json(alloc, output, listing.name, survey)?;
     } else {
-        put_lines(alloc, output, &name, &survey)?;
+        put_lines(alloc, output, listing.name, survey)?;
     }
-    put_wrongs(alloc, errors, &name, &survey)
+    put_wrongs(alloc, errors, listing.name, survey)
+}
+
+// Reads a main stream and its channels, and lists what they have. Returns whether they are
+// complete.
+fn inspect_several<H: AllocGlobal + Files + Clock, R: Read, W: Write, E: Write>(
+    rt: &H,
+    words: &StreamWords<'_>,
+    channels: &ChannelWords<'_>,
+    listing: Listing<'_>,
+    input: &mut R,
+    output: &mut W,
+    errors: &mut E,
+) -> Result<bool, Trouble> {
+    let several = read_several(rt, words, channels, input, &mut NoSink, errors)?;
+    list_several(rt.alloc(), listing, &several, output, errors)
+}
+
+// Lists what a main stream and its channels have. Returns whether they are complete.
+fn list_several<F: Read + OpenFile + Drop, W: Write, E: Write>(
+    alloc: Global,
+    listing: Listing<'_>,
+    several: &Several<F>,
+    output: &mut W,
+    errors: &mut E,
+) -> Result<bool, Trouble> {
+    if listing.json {
+        put_several_json(alloc, output, listing.name, several)?;
+    } else {
+        put_several_lines(alloc, output, listing.name, several)?;
+    }
+    put_several_wrongs(alloc, errors, listing.name, several)
 }
