@@ -32,7 +32,7 @@ lib: header ## half an hour and more | proves and builds the library for C: out/
 install: ## at once, after lib or program | puts what was built, and its page, below PREFIX=DIR
 	@tools/install.sh "$(PREFIX)"
 
-example: lib ## a minute, after lib | builds and runs the C programs of examples/c
+example: lib ## three minutes, after lib | builds and runs the C programs of examples/c
 	@tools/example.py
 
 header: ## at once | compares include/zimgasol.h with the library's exports
