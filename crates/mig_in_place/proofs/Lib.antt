@@ -30,6 +30,7 @@ pub mod Beginning
 pub mod Feeding
 pub mod Taking
 pub mod Turns
+pub mod Behind
 pub mod Turning
 pub mod ChannelEnds
 pub mod Ended

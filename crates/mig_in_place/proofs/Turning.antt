@@ -3,12 +3,14 @@ use Rattle.std.proofs.Common.{ℕ, ◌≡◌, ◌≢◌, ◌+◌, ◌-◌, ◌<�
 use Rattle.std.specs.Prelude.{◌==◌, IsFalse, IfSome, IfNone}
 use Rattle.std.specs.Io.KnownBytes.{Consumes}
 use Rattle.std.proofs.KnownBytes.{Consumes-nil, Consumes-trans, Consumes-kept}
-use Rattle.std.proofs.Math.Seq.{drop-drop}
+use Rattle.std.proofs.Math.Seq.{drop-drop, take-add}
 use Rattle.std.proofs.lemmas.Bool.{false≢true, cases_eq, cases_lt, eqb-true}
 use Rattle.std.proofs.Math.ListN.{get_or-eq_default}
-use Rattle.std.proofs.lemmas.List.{append-nil, drop-take, take-append-drop, length-take, length-drop, length-append, length-map, length-set, get_or-set_same, get_or-set_other, get_or_default}
+use Rattle.std.proofs.lemmas.List.{append-nil, drop-take, take-append-drop, take-take, length-take, length-drop, length-append, length-map, length-set, get_or-set_same, get_or-set_other, get_or_default}
 use Rattle.std.proofs.lemmas.Slice.Zip.{AllZip-long, length-zip}
 use Rattle.mig_mem.specs.Image.{Image}
+use Rattle.mig_stream.specs.Reading.{Settings}
+use Rattle.mig_single_load.specs.Settings.{for_table, main_of}
 use Rattle.mig_single_load.specs.declared.settings.LoadSettings.{LoadSettings}
 use Rattle.mig_answer.specs.declared.verdict.Verdict.{Verdict}
 use Rattle.mig_answer.specs.declared.verdict.Verdict.TheVariants.{Running}
@@ -25,9 +27,14 @@ use Rattle.mig_in_place.specs.declared.source_reader.TurnFault.{TurnFault}
 use Rattle.mig_in_place.specs.declared.source_reader.TurnFault.TheVariants as fault
 use Rattle.mig_in_place.specs.Sources.{channel_count, counts_of}
 use Rattle.mig_in_place.specs.Session.{InPlaceLoad, StandsFor, text_of}
-use Rattle.mig_in_place.specs.Turns.{KeptSource, FindsEnd, FailsToRead, HasBytes, without_first, HasTaken, HasEnded, AtTurns, TakesTurn, TakeTurns, Pumps, Came, came_in, IsOver, ComesTo, HaveCome, KeepsBytes, HasRoom, TakesNone, NoneIsNext, no_source, number_of, source_in, one_source}
+use Rattle.mig_in_place.specs.Turns.{KeptSource, FindsEnd, FailsToRead, HasBytes, without_first, HasTaken, HasEnded, HasFailedRead, IsOfOther, EndsWithTaken, HasLastPiece, AtTurns, TakesTurn, TakeTurns, Pumps, Came, came_in, IsOver, ComesTo, HaveCome, KeepsBytes, HasRoom, TakesNone, NoneIsNext, no_source, number_of, source_in, one_source}
+use Rattle.mig_in_place.proofs.Behind.{takes_open, none_of_it, with_bytes_read, with_failed_read, with_bytes_taken}
 
 -- ---- a buffer
+
+-- what was taken with the first n bytes that wait
+pub more_taken : (l : List ℕ) (a b n : ℕ) → a + n ≤ b → take (a + n) l ≡ take a l ++ take n (take (b - a) (drop a l))
+more_taken l a b n le = take-add a n l ∙ ap (λ (x : List ℕ). take a l ++ x) (sym (take-take n (b - a) (drop a l) (omega (arith, le))))
 
 -- what waits without its first n bytes
 pub rest_waits : (l : List ℕ) (a b n : ℕ) → a + n ≤ b → take (b - (a + n)) (drop (a + n) l) ≡ drop n (take (b - a) (drop a l))
@@ -237,6 +244,7 @@ kept_none t = λ given uuid first texts stands. (
   texts,
   record { same_sources = refl; same_channels = refl; comes = λ from. comes_none (source_in t.sources from) (came_in t texts from) },
   stands,
+  λ last. last,
 )
 
 pub kept_both : {O : Type 0} (a b c : AtTurns O) → KeepsBytes a b → KeepsBytes b c → KeepsBytes a c
@@ -251,7 +259,51 @@ kept_both a b c p q = λ given uuid first texts stands.
             (came_in a texts from) (came_in b x.0 from) (came_in c y.0 from) (x.1.comes from) (y.1.comes from);
       },
       y.2,
+      λ last. y.3 (x.3 last),
     )
+
+-- ---- the main stream's last piece
+
+module _ {O : Type 0} (old new : AtTurns O) (given : LoadSettings) (uuid : List ℕ) (first : Image) (texts : Texts) (stands : StandsFor given uuid first texts old.memory old.load)
+    (last : HasLastPiece given first texts (source_in old.sources source.Main)) where
+  abbrev settings : Settings
+  settings = main_of (for_table first.table given)
+
+  abbrev bytes : List ℕ
+  bytes = texts.main.bytes
+
+  -- a channel has a turn
+  last_other : (j : ℕ) → new.sources ≡ set old.sources (j + 1) (source_in new.sources (source.Channel j)) → HasLastPiece given first texts (source_in new.sources source.Main)
+  last_other j stay =
+      let kept : source_in new.sources source.Main ≡ source_in old.sources source.Main =
+      ap (λ (l : List KeptSource). get_or l 0 no_source) stay ∙ get_or-set_other old.sources (j + 1) 0 (source_in new.sources (source.Channel j)) no_source (λ (e : 0 ≡ j + 1). absurd (omega (arith, e))) in
+      subst (λ (s : KeptSource). HasLastPiece given first texts s) (sym kept) last
+
+  last_taken : (from : Source) (n : ℕ) (p : HasTaken from n (one_source old from) (one_source new from)) → new.sources ≡ set old.sources (number_of from) (source_in new.sources from)
+      → HasLastPiece given first (feed_step from (take n p.full.waiting) texts) (source_in new.sources source.Main)
+  last_taken source.Main n p stay =
+      subst (λ (s : KeptSource). EndsWithTaken settings (bytes ++ take n p.full.waiting) s) (sym p.is_left)
+      (with_bytes_taken settings bytes p.full n (with_bytes_read settings bytes (source_in old.sources source.Main) p.full p.has_bytes
+      (takes_open given uuid first texts old.memory old.load stands p.takes) last))
+  last_taken (source.Channel j) n p stay = last_other j stay
+
+  last_ended : (from : Source) → HasEnded from (one_source old from) (one_source new from) → new.sources ≡ set old.sources (number_of from) (source_in new.sources from)
+      → HasLastPiece given first (end_step from texts) (source_in new.sources source.Main)
+  last_ended source.Main p stay =
+      none_of_it settings bytes (source_in new.sources source.Main) p.finds_end.none_taken (takes_open given uuid first texts old.memory old.load stands p.takes)
+  last_ended (source.Channel j) p stay = last_other j stay
+
+  last_failed : (from : Source) → HasFailedRead from (one_source old from) (one_source new from) → new.sources ≡ set old.sources (number_of from) (source_in new.sources from)
+      → HasLastPiece given first texts (source_in new.sources source.Main)
+  last_failed source.Main p stay =
+      with_failed_read settings bytes (source_in old.sources source.Main) (source_in new.sources source.Main) p.fails (takes_open given uuid first texts old.memory old.load stands p.takes) last
+  last_failed (source.Channel j) p stay = last_other j stay
+
+  last_filled : (from : Source) → IsOfOther from (one_source old from) (one_source new from) → new.sources ≡ set old.sources (number_of from) (source_in new.sources from)
+      → HasLastPiece given first texts (source_in new.sources source.Main)
+  last_filled source.Main p stay =
+      with_bytes_read settings bytes (source_in old.sources source.Main) (source_in new.sources source.Main) p.has_bytes (takes_open given uuid first texts old.memory old.load stands p.takes) last
+  last_filled (source.Channel j) p stay = last_other j stay
 
 -- ---- one turn
 
@@ -273,6 +325,7 @@ module _ {O : Type 0} (chooses : O → InPlaceLoad → ℕ → O → Type 0) (fr
             (λ other ne. ap (λ (c : Counts). count_of c other) counted ∙ count_other from other count (counts_of old.load.sources) ne)
             (subst (λ (s : KeptSource). ComesTo (source_in old.sources from) s (came_in old texts from) (came_in new after from)) (sym p.is_left) comes),
         p.steps given uuid first texts stands,
+        λ last. last_taken old new given uuid first texts stands last from n p t.others_stay,
       )
 
   kept_ended : (old new : AtTurns O) → TakesTurn chooses from (Ok turn.Ended) old new → KeepsBytes old new
@@ -289,18 +342,23 @@ module _ {O : Type 0} (chooses : O → InPlaceLoad → ℕ → O → Type 0) (fr
             (comes_over (source_in old.sources from) (source_in new.sources from) (came_in old texts from) (came_in new after from) p.finds_end p.takes.is_open
             (text_same from over texts there) (ap (λ (c : Counts). count_of c from) counted ∙ count_same from count (counts_of old.load.sources) has)),
         p.steps given uuid first texts stands,
+        λ last. last_ended old new given uuid first texts stands last from p t.others_stay,
       )
 
   -- a turn that leaves the load and the memory as they were
   kept_still : (answer : Result Turn TurnFault) (old new : AtTurns O) → TakesTurn chooses from answer old new → new.load ≡ old.load → new.memory ≡ old.memory
-      → ((c : Came) → IsFalse c.count.ended → ComesTo (source_in old.sources from) (source_in new.sources from) c c) → KeepsBytes old new
-  kept_still answer old new t load memory comes = λ given uuid first texts stands.
+      → ((c : Came) → IsFalse c.count.ended → ComesTo (source_in old.sources from) (source_in new.sources from) c c)
+      → ((given : LoadSettings) (uuid : List ℕ) (first : Image) (texts : Texts) → StandsFor given uuid first texts old.memory old.load
+      → HasLastPiece given first texts (source_in old.sources source.Main) → HasLastPiece given first texts (source_in new.sources source.Main))
+      → KeepsBytes old new
+  kept_still answer old new t load memory comes piece = λ given uuid first texts stands.
       let same : (other : Source) → count_of (counts_of new.load.sources) other ≡ count_of (counts_of old.load.sources) other = λ other. ap (λ (s : InPlaceLoad). count_of (counts_of s.sources) other) load in
       let came : came_in new texts from ≡ came_in old texts from = ap (λ (n : Count). let c : Came = record { text = text_of texts from; count = n } in c) (same from) in (
         texts,
         have_come from old new texts texts t.others_stay refl (λ other ne. refl) (λ other ne. same other)
             (subst (λ (c : Came). ComesTo (source_in old.sources from) (source_in new.sources from) (came_in old texts from) c) (sym came) (comes (came_in old texts from) t.is_next.can.takes.is_open)),
         subst (λ (s : InPlaceLoad). StandsFor given uuid first texts new.memory s) (sym load) (subst (λ (m : Image). StandsFor given uuid first texts m old.load) (sym memory) stands),
+        piece given uuid first texts stands,
       )
 
   kept_turn : (t : Turn) (old new : AtTurns O) → TakesTurn chooses from (Ok t) old new → KeepsBytes old new
@@ -312,9 +370,11 @@ module _ {O : Type 0} (chooses : O → InPlaceLoad → ℕ → O → Type 0) (fr
   kept_fault fault.Read old new ne t =
       let p = t.turns in
       kept_still (Err fault.Read) old new t p.same_load p.same_memory (λ c unended. comes_failed (source_in old.sources from) (source_in new.sources from) c p.fails unended)
+      (λ given uuid first texts stands last. last_failed old new given uuid first texts stands last from p t.others_stay)
   kept_fault fault.OtherTable old new ne t =
       let p = t.turns in
       kept_still (Err fault.OtherTable) old new t p.same_load p.same_memory (λ c unended. comes_filled (source_in old.sources from) (source_in new.sources from) c p.has_bytes unended)
+      (λ given uuid first texts stands last. last_filled old new given uuid first texts stands last from p t.others_stay)
   kept_fault fault.NoMemory old new ne t = absurd (ne refl)
 
 -- ---- all turns
@@ -332,7 +392,7 @@ kept_turns chooses (t ∷ turns) old new (mid, first, rest) = kept_both old mid 
 kept_order : {O : Type 0} (old mid : AtTurns O) (order : O) → KeepsBytes old mid → KeepsBytes old (record mid { order = order })
 kept_order old mid order p = λ given uuid first texts stands.
     let x = p given uuid first texts stands in
-    (x.0, record { same_sources = x.1.same_sources; same_channels = x.1.same_channels; comes = x.1.comes }, x.2)
+    (x.0, record { same_sources = x.1.same_sources; same_channels = x.1.same_channels; comes = x.1.comes }, x.2, x.3)
 
 pub kept_pump : {O : Type 0} (chooses : O → InPlaceLoad → ℕ → O → Type 0) (most : ℕ) (result : Result Verdict TurnFault) (old new : AtTurns O) → Pumps chooses most result old new → result ≢ Err fault.NoMemory
     → KeepsBytes old new

@@ -3,7 +3,9 @@
 use Rattle.std.specs.Prelude.{ℕ, ◌≡◌, ◌≢◌, ◌+◌, ◌<◌, ◌≤◌, ◌^◌, ◌⊎◌, true, List, [], ◌∷◌, ◌++◌, length, take, drop, get_or, slice_set, IsTrue, IsFalse, Option, None, Some, Result, Ok, Err, if◌then◌else◌, nat_lt}
 use Rattle.std.specs.Io.KnownBytes.{Consumes, IsAtEnd, Keeps}
 use Rattle.mig_mem.specs.Image.{Image}
-use Rattle.mig_single_load.specs.Settings.{for_table}
+use Rattle.mig_stream.specs.Reading.{Settings}
+use Rattle.mig_stream.specs.Reader.{IsClosedAt, HasClosedAt}
+use Rattle.mig_single_load.specs.Settings.{for_table, main_of}
 use Rattle.mig_single_load.specs.declared.settings.LoadSettings.{LoadSettings}
 use Rattle.mig_answer.specs.declared.verdict.Verdict.{Verdict}
 use Rattle.mig_answer.specs.declared.verdict.Verdict.TheVariants.{Running}
@@ -30,6 +32,8 @@ pub record KeptSource : Type 0 where
   pub left : ℕ
   -- the bytes that the reader will give, if they are known
   pub remaining : Option (List ℕ)
+  -- the bytes of the last piece that were taken
+  pub taken : List ℕ
   -- the bytes that were read, and weren't taken yet
   pub waiting : List ℕ
 
@@ -39,7 +43,7 @@ read_limit = 2 ^ 62
 
 -- a source before its first read
 abbrev pub new_source : ReadsSoFar → Option (List ℕ) → KeptSource
-new_source reads remaining = record { reads = reads; left = read_limit; remaining = remaining; waiting = [] }
+new_source reads remaining = record { reads = reads; left = read_limit; remaining = remaining; taken = []; waiting = [] }
 
 -- The reader was read once more, and this is how it counts that.
 pub record ReadsOn (counts : ReadsSoFar → ReadsSoFar) (old new : KeptSource) : Type 0 where
@@ -50,6 +54,7 @@ pub record ReadsOn (counts : ReadsSoFar → ReadsSoFar) (old new : KeptSource) :
 pub record Fills (old new : KeptSource) : Type 0 where
   pub was_empty : old.waiting ≡ []
   pub is_piece : IsPiece new.waiting
+  pub none_taken : new.taken ≡ []
   pub reads_on : ReadsOn (λ reads. after_pieces reads 1) old new
   pub is_given : Consumes old.remaining new.remaining new.waiting
 
@@ -57,6 +62,7 @@ pub record Fills (old new : KeptSource) : Type 0 where
 pub record FindsEnd (old new : KeptSource) : Type 0 where
   pub was_empty : old.waiting ≡ []
   pub is_empty : new.waiting ≡ []
+  pub none_taken : new.taken ≡ []
   pub reads_on : ReadsOn after_end old new
   pub none_given : Consumes old.remaining new.remaining []
   pub is_at_end : IsAtEnd new.remaining
@@ -65,16 +71,16 @@ pub record FindsEnd (old new : KeptSource) : Type 0 where
 pub record FailsToRead (old new : KeptSource) : Type 0 where
   pub was_empty : old.waiting ≡ []
   pub is_empty : new.waiting ≡ []
-  pub reads_on : ReadsOn after_failure old new ⊎ ((old.left ≡ 0) × (new ≡ old))
+  pub reads_on : ((new.taken ≡ []) × ReadsOn after_failure old new) ⊎ ((old.left ≡ 0) × (new ≡ old))
   pub is_kept : Keeps old.remaining new.remaining
 
 -- The source with the bytes that are fed: those that wait, or, if none do, a piece that is read.
 abbrev pub HasBytes : KeptSource → KeptSource → Type 0
 HasBytes old full = ((old.waiting ≢ []) × (full ≡ old)) ⊎ Fills old full
 
--- the source without the first of the bytes that wait
+-- the source whose first n bytes that wait were taken
 abbrev pub without_first : ℕ → KeptSource → KeptSource
-without_first n s = record s { waiting = drop n s.waiting }
+without_first n s = record s { taken = s.taken ++ take n s.waiting; waiting = drop n s.waiting }
 
 -- ---- the sources whose bytes are taken
 
@@ -170,7 +176,7 @@ number_of source.Main = 0
 number_of (source.Channel j) = j + 1
 
 abbrev pub no_source : KeptSource
-no_source = record { reads = no_reads; left = 0; remaining = None; waiting = [] }
+no_source = record { reads = no_reads; left = 0; remaining = None; taken = []; waiting = [] }
 
 abbrev pub source_in : List KeptSource → Source → KeptSource
 source_in sources from = get_or sources (number_of from) no_source
@@ -276,11 +282,32 @@ pub record HaveCome {O : Type 0} (old new : AtTurns O) (before after : Texts) : 
   pub same_channels : length after.channels ≡ length before.channels
   pub comes : (from : Source) → ComesTo (source_in old.sources from) (source_in new.sources from) (came_in old before from) (came_in new after from)
 
+-- A main stream, whose last bytes are those taken of its source's last piece, wasn't closed before
+-- them.
+pub record EndsWithTaken (given : Settings) (text : List ℕ) (main : KeptSource) : Type 0 where
+  pub before : List ℕ
+  pub has_text : text ≡ before ++ main.taken
+  pub was_open : HasClosedAt given before None
+
+-- this holds of the main stream of a load into memory of a table
+abbrev pub HasLastPiece : LoadSettings → Image → Texts → KeptSource → Type 0
+HasLastPiece given first texts main = EndsWithTaken (main_of (for_table first.table given)) texts.main.bytes main
+
 -- If the load represented some streams, it represents them with the bytes that were taken: no byte
--- that was read is lost, and none is taken twice.
+-- that was read is lost, and none is taken twice. A main stream is closed by its last piece, if it
+-- is closed.
 abbrev pub KeepsBytes : {O : Type 0} → AtTurns O → AtTurns O → Type 0
 KeepsBytes old new = (given : LoadSettings) (uuid : List ℕ) (first : Image) (texts : Texts) → StandsFor given uuid first texts old.memory old.load
     → (after : Texts) × HaveCome old new texts after × StandsFor given uuid first after new.memory new.load
+    × (HasLastPiece given first texts (source_in old.sources source.Main) → HasLastPiece given first after (source_in new.sources source.Main))
+
+-- ---- the bytes behind the main stream's end
+
+-- These bytes of a main stream's source were read behind its end: those that were taken, and those
+-- that wait. There are none before it is closed.
+abbrev pub HasBehind : Settings → List ℕ → KeptSource → Option (List ℕ) → Type 0
+HasBehind given text main None = HasClosedAt given text None
+HasBehind given text main (Some rest) = (n : ℕ) × IsClosedAt given text n × (rest ≡ drop n text ++ main.waiting)
 
 -- ---- an order of all sources
 

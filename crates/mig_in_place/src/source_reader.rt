@@ -2,14 +2,17 @@
 //! some of them, and fed from there. So live connections don't wait for one another.
 
 ghost use Rattle.std.specs.Prelude.{ℕ, ◌≡◌, ◌≢◌, ◌+◌, ◌<◌, ◌≤◌, ◌^◌, ◌↔◌, List, [], length, take, drop, IsTrue, IsFalse, IfOk, OnErr, Ok, Err};
+ghost use Rattle.std.specs.Option.{option_copied};
 ghost use Rattle.mig_mem.specs.Image.{Image};
 ghost use Rattle.mig_single_load.specs.declared.fault.InPlaceFault.TheVariants as in_place_fault;
+ghost use Rattle.mig_stream.specs.Reading.{Settings};
+ghost use Rattle.mig_single_load.specs.Settings.{main_of, for_table};
 ghost use Rattle.mig_session.specs.Pumping.{piece_limit};
 ghost use Rattle.mig_session.specs.Session.{HasSource, count_of, with_fed, feed_step};
 ghost use Rattle.mig_in_place.specs.declared.source_reader.Turn.TheVariants as turn;
 ghost use Rattle.mig_in_place.specs.Sources.{counts_of};
-ghost use Rattle.mig_in_place.specs.Session.{StepsOn, RunsOut};
-ghost use Rattle.mig_in_place.specs.Turns.{HasBytes, Fills, FindsEnd, FailsToRead, Takes, TakesNone, TurnsTo, new_source, without_first};
+ghost use Rattle.mig_in_place.specs.Session.{StepsOn, RunsOut, Tells};
+ghost use Rattle.mig_in_place.specs.Turns.{HasBytes, Fills, FindsEnd, FailsToRead, Takes, TakesNone, TurnsTo, EndsWithTaken, HasLastPiece, HasBehind, new_source, without_first};
 ghost use Rattle.mig_in_place.specs.TurnFaultNumber.{turn_fault_number};
 
 use crate::InPlaceSession;
@@ -82,7 +85,7 @@ pub struct SourceReader<P: PieceReader, A: Allocator = Global> {
     // how often it may still be read
     left: u64,
     buffer: Vec<u8, A>,
-    // the bytes that wait begin and end there
+    // the bytes that wait begin and end there, behind those that were taken
     from: usize,
     to: usize,
 }
@@ -98,6 +101,7 @@ impl<P: PieceReader, A: Allocator> Model for SourceReader<P, A> {
       reads = P.reads s.reader;
       left = s.left;
       remaining = P.remaining s.reader;
+      taken = take s.from s.buffer.items;
       waiting = take (s.to - s.from) (drop s.from s.buffer.items);
     } };
 
@@ -119,7 +123,8 @@ impl<P: PieceReader + Drop, A: Allocator> SourceReader<P, A> {
     /// `NoMemory`: the buffer's allocation was refused. The reader is dropped.
     pub fn new(alloc: A, reader: P) -> Result<SourceReader<P, A>, NoMemory>
         requires { (P.reads reader).reads ≤ 2 ^ 62 }
-        ensures { IfOk result (λ s. s ≡ new_source (P.reads reader) (P.remaining reader)) }
+        ensures value { IfOk result (λ s. s ≡ new_source (P.reads reader) (P.remaining reader)) }
+        ensures first { IfOk result (λ s. (given : Settings) → EndsWithTaken given [] s) }
     {
         Ok(SourceReader {
             reader,
@@ -140,6 +145,20 @@ impl<P: PieceReader, A: Allocator> SourceReader<P, A> {
         &self.buffer[self.from..self.to]
     }
 
+    /// Returns the bytes that were read behind the end of the main stream, whose reader this is: in
+    /// a machine's stream, the first ones of its devices. The reader gives those that follow. None
+    /// as long as the main stream isn't closed. The reader of a channel has no such bytes: don't
+    /// ask it.
+    pub fn behind<B: Allocator + Copy>(&self, load: &InPlaceSession<B>) -> Option<&[u8]>
+        ensures { (memory : Image) → Tells memory load.now (λ given uuid first texts. HasLastPiece given first texts self.now
+            → HasBehind (main_of (for_table first.table given)) texts.main.bytes self.now (option_copied result)) }
+    {
+        let closed = load.closed_at()?;
+        let count = load.fed(Source::Main).checked_sub(closed)?;
+        let first = (self.from as u64).checked_sub(count)?;
+        Some(&self.buffer[first as usize..self.to])
+    }
+
     // Reads a piece into the buffer, which is empty. Returns false at the end of the input.
     fn fill(&mut self) -> Result<bool, ReadFailed>
         requires { self.old.waiting ≡ [] }
@@ -151,8 +170,9 @@ impl<P: PieceReader, A: Allocator> SourceReader<P, A> {
             return Err(ReadFailed);
         }
         self.left -= 1;
-        let count = self.reader.read_piece(&mut self.buffer)?;
         self.from = 0;
+        self.to = 0;
+        let count = self.reader.read_piece(&mut self.buffer)?;
         self.to = count;
         Ok(count != 0)
     }

@@ -19,7 +19,7 @@ const CHANNEL: Source = Source::Channel(0);
 // Returns a main stream of RAM's sections as a machine's: with the configuration `pc` and
 // OPEN_RETURN_PATH before START, and a device's section after the 18 bytes of END, which begin at
 // byte 82.
-fn machine_of(rt: &(impl AllocGlobal + Abort), ram: &[u8]) -> Vec<u8> {
+pub(crate) fn machine_of(rt: &(impl AllocGlobal + Abort), ram: &[u8]) -> Vec<u8> {
     let mut main = Vec::new(rt.alloc());
     for piece in [
         ram.get(..8).expect(rt, "a header"),

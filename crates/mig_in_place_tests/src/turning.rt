@@ -1,6 +1,7 @@
 //! Loads in place that are fed by turns, from readers with short reads and readers that fail.
 
 use crate::both::{LIMIT, below, failed, source_at, text_of};
+use crate::framed::machine_of;
 use crate::texts::{page_and_zeros, sevens_on_two, sevens_then_zeros_on_two};
 use mig_answer::Verdict;
 use mig_fixtures::{TestHeap, at, is_full, zeroed};
@@ -10,7 +11,8 @@ use mig_in_place::{
 use mig_mem::Memory;
 use mig_send::Sent;
 use mig_session::{Counted, Source};
-use mig_single_load::{Fault, Origin};
+use mig_single_load::{Fault, LoadSettings, Origin};
+use mig_stream::Frame;
 use rand_pcg::Pcg32;
 use std::alloc::{AllocGlobal, Allocator};
 use std::io::{self, Read};
@@ -152,6 +154,12 @@ impl<'a> Turning<'a> {
             .waiting()
             .len()
     }
+
+    // Returns the bytes that were read behind the main stream's end.
+    fn behind(&self, rt: &impl Abort) -> Option<&[u8]> {
+        let main = self.sources.get(0).expect(rt, "a reader");
+        main.behind(&self.load)
+    }
 }
 
 // Pumps streams of two rounds from readers of at most `len` bytes, and asserts the verdict.
@@ -262,6 +270,86 @@ fn pumped_by_chance(rt: HostRuntime) {
         assert!(rt; is_full(&turning.memory, at(0, 0), 7));
         assert!(rt; is_full(&turning.memory, at(0, 128), 7));
     }
+}
+
+// Returns the streams of `page_and_zeros` with a machine's main stream. Its first 117 bytes close
+// it, and 11 bytes of a device are behind them.
+fn machines_texts(rt: &(impl AllocGlobal + Abort)) -> Sent {
+    let mut texts = page_and_zeros(rt);
+    texts.main = machine_of(rt, &texts.main);
+    texts
+}
+
+// Returns a load of such streams into a memory.
+fn machines_load(rt: &(impl AllocGlobal + Abort), memory: &Memory) -> InPlaceSession {
+    let settings = LoadSettings::new(4096, LIMIT).with_frame(Frame::Machine);
+    let load = InPlaceSession::new_in(rt.alloc(), memory.table(), settings, &Uuid::nil(), 1);
+    load.expect(rt, "a load")
+}
+
+// Pumps a machine's streams from readers of at most `len` bytes. Asserts that `count` bytes of the
+// device were read with the main stream's end.
+fn assert_behind(rt: &(impl AllocGlobal + Abort), len: usize, count: usize) {
+    let texts = machines_texts(rt);
+    let mut turning = made(rt, 2, &texts, len);
+    turning.load = machines_load(rt, &turning.memory);
+    assert!(rt; turning.behind(rt).is_none());
+    assert!(rt; turning.pump(&mut RoundRobin::new(), 100_000) == Ok(Verdict::Done));
+    assert!(rt; turning.load.closed_at() == Some(117));
+    let end = count.wrapping_add(117);
+    assert!(rt; turning.behind(rt) == texts.main.get(117..end));
+}
+
+#[test]
+fn bytes_behind_the_main_stream(rt: HostRuntime) {
+    assert_behind(&rt, 1, 0);
+    assert_behind(&rt, 117, 0);
+    assert_behind(&rt, 60, 3);
+    assert_behind(&rt, 1000, 11);
+}
+
+// Reads a machine's main stream of which a read gives 60 bytes, up to its end and 3 bytes behind
+// it, which are `rest`.
+fn assert_read<R: Read + Drop>(
+    rt: &(impl AllocGlobal + Abort),
+    memory: &mut Memory,
+    connection: R,
+    rest: Option<&[u8]>,
+) {
+    let mut load = machines_load(rt, memory);
+    let main = SourceReader::new(rt.alloc(), Counted::new(connection));
+    let mut main = main.expect(rt, "a buffer");
+    for _ in 0..2 {
+        assert!(rt; load.has(Source::Main) && load.has_room(Source::Main, 65_536));
+        let turn = main.turn(&mut load, memory, Source::Main);
+        assert!(rt; turn == Ok(Turn::Taken(60)));
+    }
+    assert!(rt; main.behind(&load) == rest);
+}
+
+// A reader that was lent gives the device's other bytes.
+#[test]
+fn reader_that_was_lent(rt: HostRuntime) {
+    let texts = machines_texts(&rt);
+    let mut memory = zeroed(rt.alloc(), &[("a", 2)]).expect(&rt, "a memory");
+    let mut connection = Slow {
+        rest: &texts.main,
+        len: 60,
+        fails_at: 0,
+    };
+    let rest = texts.main.get(117..120);
+    assert_read(&rt, &mut memory, &mut connection, rest);
+    assert!(rt; texts.main.get(120..) == Some(connection.rest));
+}
+
+// Without a device nothing is behind it.
+#[test]
+fn nothing_behind_the_main_stream(rt: HostRuntime) {
+    let texts = page_and_zeros(&rt);
+    let mut turning = made(&rt, 2, &texts, 1000);
+    assert!(rt; turning.behind(&rt).is_none());
+    assert!(rt; turning.turn(&rt, Source::Main) == Ok(Turn::Taken(101)));
+    assert!(rt; turning.behind(&rt).is_some_and(|rest| rest.is_empty()));
 }
 
 // Bytes that were read for a memory of another table wait, and are taken for the right memory.
