@@ -5,7 +5,7 @@ WORDS ?=
 CRATES ?=
 PREFIX ?= /usr/local
 
-.PHONY: help run check build program lib install example header try interop promises documents site test gate
+.PHONY: help run check build program lib install example header try runs mutants interop promises documents site test gate
 
 help: ## at once | lists the targets
 	@echo "Times on 4 processors, from a fresh clone:"
@@ -17,6 +17,12 @@ run: ## about a minute | runs the tool, proved or not; SCENARIO=FILE WORDS='..'
 
 check: ## up to 10 minutes | runs tests, stored runs and cases, unproved; CRATES='..'
 	@tools/check.py $(CRATES)
+
+runs: ## seconds, after test | runs the proved programs on cases, commands and captures, and refuses allocations
+	@tools/runs/runs.py
+
+mutants: ## minutes a crate, after lib | tries the planted bugs that the gate leaves out; CRATES='..'
+	@tools/mutants.py $(CRATES)
 
 build: ## half an hour and more | proves and builds the tool: crates/mig_tool/out/mig_tool
 	@tools/prove.py mig_tool "half an hour and more"
@@ -54,14 +60,13 @@ documents: header ## at once | compares header, case lists, contracts, examples 
 	@tools/proof_map.py --check
 	@tools/tool_page.py --check
 	@tools/zimgasol_page.py --check
-	@cmp crates/mig_tool/src/main.rt crates/mig_tool_words/src/main.rt
 	@tools/quotes.py
 
 site: ## at once | builds the documents as HTML into out/site, and checks their links
 	@tools/site.py
 
-test: ## 1.5 to 2.5 hours | the gate: all proofs, planted bugs, tests and programs
+test: ## 1 to 2 hours | the gate: all proofs, the named planted bugs, tests and programs
 	@.ci/run
 
-gate: ## 1.5 to 2.5 hours | the gate, taking nothing from earlier runs
+gate: ## 1 to 2 hours | the gate, taking nothing from earlier runs
 	@.ci/run --anew

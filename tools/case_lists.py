@@ -1,5 +1,5 @@
 #!/usr/bin/env python3
-"""The lists of cases in docs/EXAMPLES.md, from the names in the data of mig_rows and mig_tool_cases.
+"""The lists of cases in docs/EXAMPLES.md, from the names in the data of mig_rows and in runs/tool.
 
     tools/case_lists.py            writes them between the two marks there
     tools/case_lists.py --check    compares them with the files, and fails if they differ
@@ -9,8 +9,8 @@ import textwrap
 from pathlib import Path
 
 TOP = Path(__file__).resolve().parent.parent
-# The programs that play cases, each with what the headings say of its files.
-PROGRAMS = ((TOP / "crates" / "mig_rows", ""), (TOP / "crates" / "mig_tool_cases", " of the tool"))
+ROWS = TOP / "crates" / "mig_rows"
+TOOL = TOP / "runs" / "tool"
 PAGE = TOP / "docs" / "EXAMPLES.md"
 BEGIN = "<!-- made by tools/case_lists.py -->\n"
 END = "<!-- end of what is made -->\n"
@@ -37,13 +37,13 @@ def part(file, whose):
     return "".join(lines)
 
 
-def parts(program, whose):
-    """The lists of the files that a program's stored run names, which have to be all that it has."""
-    files = [Path(it).name for it in (program / "args").read_text().split()]
-    unrun = sorted({it.name for it in (program / "data").glob("*.txt")} - set(files))
+def rows():
+    """The files that the stored run of mig_rows names, which have to be all that it has."""
+    files = [ROWS / "data" / it for it in (ROWS / "args").read_text().split()]
+    unrun = sorted(it.name for it in {*(ROWS / "data").glob("*.txt")} - {*files})
     if unrun:
-        sys.exit(f"crates/{program.name}/args doesn't name {', '.join(unrun)}")
-    return [part(program / "data" / file, whose) for file in files]
+        sys.exit(f"crates/mig_rows/args doesn't name {', '.join(unrun)}")
+    return files
 
 
 def main(words):
@@ -53,7 +53,8 @@ def main(words):
     if BEGIN not in page or END not in page:
         sys.exit("docs/EXAMPLES.md lacks the marks of the part that is made")
     before, behind = page[:page.index(BEGIN)], page[page.index(END) + len(END):]
-    made = before + BEGIN + "\n" + "\n".join(it for program in PROGRAMS for it in parts(*program)) + "\n" + END + behind
+    parts = [part(it, "") for it in rows()] + [part(it, " of the tool") for it in sorted(TOOL.glob("*.txt"))]
+    made = before + BEGIN + "\n" + "\n".join(parts) + "\n" + END + behind
     if not words:
         PAGE.write_text(made)
     elif made != page:

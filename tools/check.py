@@ -4,13 +4,15 @@
     tools/check.py [CRATE..]
 
 Tests run by `rt try --test`. A program runs by `rt try`, on the files stdin, args and data/ next to
-its src/, and has to print its file stdout and end with the status in its file status; the files of
-cases are in data/. Each is compiled with checks of memory and arithmetic. The interpreter of `rt
-try` also runs it if it can, which it can't for tests and for most programs.
+its src/, and has to print its file stdout and end with the status in its file status. Each is
+compiled with checks of memory and arithmetic. The interpreter of `rt try` also runs it if it can,
+which it can't for tests and for most programs. The tool and `zimgasol` are built in this way, too,
+and then run on what the gate runs them on: cases, commands and captures (tools/runs/runs.py).
 
-Several run in parallel, as many as processors and free memory allow, or RT_JOBS of them. A run
-without an answer has failed. Each test and each stored run counts one in the last line, 'N passed,
-M failed'.
+Several run in parallel, as many as processors and free memory allow, or RT_JOBS of them; those that
+take longest begin first. A run without an answer has failed, unless it was stopped for its time,
+which a busy machine may do: these are said apart. Each test, stored run, case and command counts
+one in the last line, 'N passed, M failed'.
 """
 import os
 import re
@@ -19,15 +21,21 @@ import subprocess
 import sys
 import time
 from concurrent.futures import ThreadPoolExecutor, as_completed
+from pathlib import Path
 
 from crates import CRATES, is_program, uses
 
+RUNS = Path(__file__).resolve().parent / "runs" / "runs.py"
+# The kinds of runs of each program.
+PLAYED = {"mig_tool": ("tool",), "zimgasol_cli": ("zimgasol", "captures")}
+
 # The most memory that one `rt try` takes, with its compiler.
 MEMORY = 2 << 30
-# The seconds that a program or a test may take. Without this flag `rt try` stops it after 60.
-SECONDS = "900"
+# The seconds that a program or a test may take, on a machine that is busy with ten times as much as it has
+# processors for. Without this flag `rt try` stops it after 60.
+SECONDS = 3600
 # These take longest, so they begin first.
-LONG = ("mig_session_tests", "mig_rows")
+LONG = ("mig_rows", "mig_session_tests", "mig_tool", "zimgasol_cli")
 ENDED = re.compile(rb"^run=ended status=(\d+) ", re.M)
 TESTS = re.compile(rb"^test result: ok\. ([1-9]\d*) passed; 0 failed; 0 ignored; 0 filtered out$", re.M)
 PASSED_TEST = re.compile(rb"^test \S+ \.\.\. ok\n", re.M)
@@ -50,7 +58,7 @@ def tried(name, words, arguments=()):
     crate = CRATES / name
     given = crate / "stdin" if "--test" not in words and (crate / "stdin").is_file() else os.devnull
     with open(given, "rb") as stdin:
-        command = ["rt", "try", "--seconds", SECONDS, *words, "--", *arguments]
+        command = ["rt", "try", "--seconds", str(SECONDS), *words, "--", *arguments]
         ran = subprocess.run(command, cwd=crate, stdin=stdin, stdout=subprocess.PIPE, stderr=subprocess.PIPE)
     ended = ENDED.search(ran.stderr)
     return ran.stdout, ran.stderr, int(ended[1]) if ended else None
@@ -96,11 +104,27 @@ def lanes():
     return max(1, min(len(os.sched_getaffinity(0)), free // MEMORY))
 
 
+def run_played(name):
+    """Runs a program on the cases, commands and captures of runs/. Returns what run_tests returns."""
+    kinds = PLAYED[name]
+    ran = subprocess.run([sys.executable, RUNS, *kinds], stdin=subprocess.DEVNULL, stdout=subprocess.PIPE, text=True)
+    found = re.search(r"^(\d+) passed, (\d+) failed$", ran.stdout, re.M)
+    passed, failed = (int(found[1]), int(found[2])) if found else (0, 1)
+    what = " and ".join(kinds)
+    if not failed and not ran.returncode:
+        return passed, 0, f"{name}: {passed} runs of {what} passed"
+    return passed, max(1, failed), f"{name}: runs of {what} FAILED\n" + last_lines(ran.stdout.encode())
+
+
 def timed(run, name):
+    """Runs one. Returns how many passed, failed and were stopped for their time, and what to say."""
     start = time.monotonic()
     passed, failed, said = run(name)
+    seconds = time.monotonic() - start
     head, end, rest = said.partition("\n")
-    return passed, failed, f"{head} ({time.monotonic() - start:.0f} s){end}{rest.rstrip()}"
+    if failed and seconds >= SECONDS:
+        return passed, 0, 1, f"{name}: stopped after {seconds / 60:.0f} minutes, without an answer"
+    return passed, failed, 0, f"{head} ({seconds:.0f} s){end}{rest.rstrip()}"
 
 
 def main(names):
@@ -113,17 +137,18 @@ def main(names):
     unknown = [it for it in names if it not in known]
     if unknown:
         sys.exit(f"crates.txt names no crate {', '.join(unknown)}")
-    names = sorted(names or known, key=lambda it: (it not in LONG, -lines_of(it)))
-    kinds = ((is_program, run_program), (has_tests, run_tests))
+    first = {it: number for number, it in enumerate(LONG)}
+    names = sorted(names or known, key=lambda it: (first.get(it, len(first)), -lines_of(it)))
+    kinds = ((PLAYED.__contains__, run_played), (is_program, run_program), (has_tests, run_tests))
     runs = [(run, it) for it in names for has, run in kinds if has(it)]
     print(f"{len(runs)} runs, from the source and unproved, {lanes()} side by side", flush=True)
-    passed = failed = 0
+    passed = failed = stopped = 0
     with ThreadPoolExecutor(lanes()) as pool:
         futures = [pool.submit(timed, run, it) for run, it in runs]
         try:
             for future in as_completed(futures):
-                one, other, said = future.result()
-                passed, failed = passed + one, failed + other
+                one, other, late, said = future.result()
+                passed, failed, stopped = passed + one, failed + other, stopped + late
                 print(said, flush=True)
         finally:
             # (where it is interrupted, none is begun any more)
@@ -133,8 +158,10 @@ def main(names):
     if nothing:
         print(f"with no test and no program: {', '.join(nothing)}"
               " (docs/ARCHITECTURE.md lists the crates with their tests)")
+    if stopped:
+        print(f"{stopped} stopped for their time, which says nothing of them: try these again alone")
     print(f"{passed} passed, {failed} failed")
-    return 1 if failed or not passed else 0
+    return 1 if failed or stopped or not passed else 0
 
 
 if __name__ == "__main__":

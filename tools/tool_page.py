@@ -1,10 +1,10 @@
 #!/usr/bin/env python3
-"""The examples of docs/TOOL.md as a case of the tool: crates/mig_tool_cases/data/page.txt.
+"""The examples of docs/TOOL.md as a case of the tool: runs/tool/page.txt.
 
     tools/tool_page.py            writes the file
     tools/tool_page.py --check    compares it with the page, and fails if they differ
 
-The gate runs the case, so each example prints the page's output. Those on pipes and connections,
+tools/runs/runs.py plays the case, so each example prints the page's output. Those on pipes and connections,
 below the heading BEYOND, need a shell: tools/try_tool.py runs them with the built program.
 """
 import re
@@ -13,7 +13,7 @@ from pathlib import Path
 
 TOP = Path(__file__).resolve().parent.parent
 PAGE = TOP / "docs" / "TOOL.md"
-CASES = TOP / "crates" / "mig_tool_cases" / "data" / "page.txt"
+CASES = TOP / "runs" / "tool" / "page.txt"
 BEYOND = "## From one machine to another"
 HEAD = """# The examples of docs/TOOL.md, in their order, made by tools/tool_page.py: don't edit.
 

@@ -26,7 +26,7 @@ from zimgasol_page import END_OF_RECORDS, be, opening, part, record
 
 TOP = Path(__file__).resolve().parent.parent
 BUILT = TOP / "crates" / "zimgasol_cli" / "out" / "zimgasol_cli"
-DATA = TOP / "crates" / "zimgasol_runs" / "data"
+DATA = TOP / "runs" / "zimgasol" / "data"
 SECONDS = 60
 WHOLE = ("guest.sav: complete: sections 3, blocks 1, memory 131072 bytes, RAM ends at byte 86395, "
          "1011 bytes follow\n")

@@ -1,7 +1,7 @@
-"""Reads captures of QEMU and libvirt with `zimgasol`: `tools/captures.py --zimgasol`.
+"""Reads captures of QEMU and libvirt with `zimgasol`: `tools/captures.py`.
 
 The expected values of a capture come from its own files: the blocks and the items between the
-sections from NAME.blocks, the memory from NAME.image, the end of RAM from the last footer, and the
+sections from NAME.blocks, the memory from NAME.image or NAME.sums, the end of RAM from the last footer, and the
 counts of sections, records and packets from tools/stream_facts.py and tools/channel_facts.py, which
 share nothing with the program. These two readers have to find NAME's memory, too.
 """
@@ -129,7 +129,7 @@ class Run:
     def ran(self, *words, status=0):
         """What the program prints and what it says of errors. It has to end with a status."""
         how = {"cwd": self.room, "capture_output": True, "text": True, "timeout": SECONDS}
-        done = subprocess.run([self.program, *words], stdin=subprocess.DEVNULL, **how)
+        done = subprocess.run([*self.program, *words], stdin=subprocess.DEVNULL, **how)
         if done.returncode != status:
             error = done.stderr.strip()[-300:]
             raise Differs(f"{words[0]}: expected status {status}, came {done.returncode}: {error}")

@@ -1,12 +1,12 @@
 #!/usr/bin/env python3
-"""The examples of docs/ZIMGASOL.md as a stored run: stdin and stdout of crates/zimgasol_runs.
+"""The examples of docs/ZIMGASOL.md as commands to run, with what they print: runs/zimgasol.
 
     tools/zimgasol_page.py            writes both and data/main.sav, and the output in the page
     tools/zimgasol_page.py --check    compares them, and fails if they differ
 
 The expected output of a command is made here from the results of tools/stream_facts.py and
 tools/channel_facts.py on the files, and from streams that are written here: none of this shares
-anything with the library. The gate runs the commands and compares their output with it.
+anything with the library. tools/runs/runs.py runs the commands and compares their output with it.
 """
 import json
 import re
@@ -21,7 +21,7 @@ import stream_facts
 TOP = Path(__file__).resolve().parent.parent
 # In the order in which their examples run.
 PAGES = [TOP / "docs" / "ZIMGASOL.md"]
-RUNS = TOP / "crates" / "zimgasol_runs"
+RUNS = TOP / "runs" / "zimgasol"
 COMMANDS = {11: "SWITCHOVER_START"}
 SIX = " ".join(f"--block {it}=half.bin" for it in "abcdef")
 EXISTS = "is there already; `--replace` replaces it"
@@ -549,8 +549,8 @@ def made():
         answers += said
     for command, wanted in CASES:
         answers += of_case(shell, command, wanted)
-    files[RUNS / "stdin"] = "".join(f"{command}\n" for command, _ in answers).encode()
-    files[RUNS / "stdout"] = "".join(f"$ {command}\n" + "".join(f"{line}\n" for line in answer)
+    files[RUNS / "commands.txt"] = "".join(f"{command}\n" for command, _ in answers).encode()
+    files[RUNS / "expected.txt"] = "".join(f"$ {command}\n" + "".join(f"{line}\n" for line in answer)
                                      for command, answer in answers).encode()
     return files
 

@@ -42,7 +42,7 @@ use uuid::Uuid;
 ///
 /// All bytes of a source are fed in pieces of `len` bytes, and the source is ended:
 ///
-/// <!-- quoted from crates/mig_captures/src/load.rt -->
+/// <!-- quoted from crates/mig_uses/src/machine.rt -->
 /// ```rust
 /// for piece in text.chunks(len.max(1)) {
 ///     if !session.has(source) {

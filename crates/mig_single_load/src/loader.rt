@@ -30,11 +30,11 @@ use std::marker::Model;
 ///
 /// A machine's stream is loaded in pieces of `len` bytes:
 ///
-/// <!-- quoted from crates/mig_captures/src/load.rt -->
+/// <!-- quoted from crates/mig_uses/src/machine.rt -->
 /// ```rust
 /// let settings = LoadSettings::new(PAGE_SIZE_4K, MAX_TOTAL).with_frame(Frame::Machine);
 /// let mut loader = SingleLoader::new_in(alloc, settings);
-/// for piece in text.chunks(len) {
+/// for piece in text.chunks(len.max(1)) {
 ///     if loader.ended() || loader.fed() > MAX_TOTAL || piece.len() as u64 > MAX_TOTAL {
 ///         return Err(Trouble::Input);
 ///     }

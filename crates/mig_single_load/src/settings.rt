@@ -12,15 +12,11 @@ use mig_stream::Frame;
 ///
 /// A machine's stream is loaded at once. `single_closed_at` finds its end:
 ///
-/// <!-- quoted from crates/mig_captures/src/load.rt -->
+/// <!-- quoted from crates/mig_uses/src/machine.rt -->
 /// ```rust
 /// let settings = LoadSettings::new(PAGE_SIZE_4K, MAX_TOTAL).with_frame(Frame::Machine);
 /// let loaded = load_single_in(alloc, settings, text);
-/// Ok(Answer {
-///     fault: loaded.verdict.err(),
-///     closed_at: single_closed_at(alloc, settings, text)?,
-///     sum: loaded.memory.as_ref().map(|memory| sum_of(memory)),
-/// })
+/// let closed_at = single_closed_at(alloc, settings, text)?;
 /// ```
 #[derive(Clone, Copy, Debug, PartialEq, Eq)]
 pub struct LoadSettings {

@@ -34,7 +34,7 @@ use std::marker::Model;
 ///
 /// A main stream is fed in pieces of `len` bytes, to find where RAM's part of it ends:
 ///
-/// <!-- quoted from crates/mig_captures/src/load.rt -->
+/// <!-- quoted from crates/mig_uses/src/machine.rt -->
 /// ```rust
 /// let frame = Frame::Machine;
 /// let mut reader = StreamReader::new_in(alloc, frame, Mode::Main, PAGE_SIZE_4K, MAX_TOTAL);

@@ -9,6 +9,7 @@
 //!   where the guest is to run;
 //! - `migration` moves a guest on several channels, and `two_readers` loads a main stream and one
 //!   channel from readers;
+//! - `machine` loads a machine's stream, as QEMU writes it, and finds where RAM's part ends;
 //! - `by_turns` loads from several connections into the blocks where the guest is to run;
 //! - `comparison` and `notice` follow a load: whether two memories are equal, and the error
 //!   message.
@@ -28,6 +29,8 @@ mod in_place;
 mod incoming;
 mod live_guest;
 #[cfg(test)]
+mod machine;
+#[cfg(test)]
 mod migration;
 #[cfg(test)]
 mod notice;
@@ -45,6 +48,8 @@ pub use first::copy;
 pub use in_place::load_onto;
 pub use incoming::{Incoming, take_piece};
 pub use live_guest::LiveGuest;
+#[cfg(test)]
+pub use machine::{LoadedMachine, Trouble, feed_all, load_in_pieces, load_machine, main_closed_at};
 #[cfg(test)]
 pub use migration::{begin, deliver, finish, load_arrived, send_round};
 #[cfg(test)]

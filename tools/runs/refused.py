@@ -1,0 +1,176 @@
+"""Refuses allocations of the programs, and compares what they print and leave.
+
+`refuse.c` beside this is loaded into a program (LD_PRELOAD), and refuses the allocations of chosen
+numbers: also those of the command line and of the C library.
+
+Of the commands of `mig_tool` and `zimgasol` each allocation is refused in turn. A run either ends
+as one with memory does, where the program did without the allocation, or it says that memory was
+refused, and leaves each file as it was.
+
+Of `mig_rows` every so many allocations are refused in one run. It makes a call that was refused
+again, so its answers have to be those of a run with memory: a refused call leaves what it was
+passed as it was.
+"""
+import shutil
+import subprocess
+import tempfile
+from concurrent.futures import ThreadPoolExecutor
+from dataclasses import dataclass
+from os import cpu_count
+from pathlib import Path
+
+HERE = Path(__file__).resolve().parent
+SECONDS = 120
+# More allocations than any of the commands makes.
+MOST = 20_000
+# Of `mig_rows`: the allocations that read the files of cases, the distances from one refused allocation to the
+# next, which are more than a line of a case makes outside of the library's calls, and the runs of each.
+BEGUN = 200
+EVERY = (4001, 10007)
+ROWS_RUNS = 12
+
+SCENARIO = "block 2 a\nblock 3 b\nset 0 0 7\nset 1 4096 9\nround\ntouch 1 0\nset 0 4096 1\nround\n"
+TOOL = ("send s o", "send s p --channels 2", "check", "check --channels 2", "load o i", "load o i --feed",
+        "load p i --channels 2", "load p i --channels 2 --feed", "compare s i")
+ZIMGASOL = ("verify guest.sav", "inspect guest.sav", "inspect guest.sav --json", "extract guest.sav memory",
+            "compare memory guest.sav", "save --block ram=memory/ram.bin one.sav",
+            "save --block ram=memory/ram.bin --channels 2 two.sav",
+            "verify --frame ram two.sav --channel two.sav.0 --channel two.sav.1",
+            "inspect --frame ram two.sav --channel two.sav.0 --channel two.sav.1",
+            "extract --frame ram two.sav back --channel two.sav.0 --channel two.sav.1",
+            "save --block ram=memory/ram.bin --since back three.sav")
+
+
+@dataclass(frozen=True)
+class Ended:
+    """How a run ended: its status, what it printed, and the files that lie in its folder then."""
+
+    status: int
+    printed: bytes
+    errors: bytes
+    files: tuple
+
+
+def files_in(folder):
+    return tuple(sorted((str(it.relative_to(folder)), it.read_bytes()) for it in folder.rglob("*") if it.is_file()))
+
+
+class Refusing:
+    """A program, in a folder that is laid out anew for each run."""
+
+    def __init__(self, program, shim, start, given=b""):
+        self.program, self.shim, self.start, self.given = program, shim, start, given
+
+    def run(self, line, number):
+        """Runs a command with one allocation refused, or with none for 0. Returns how it ended, and whether it was refused."""
+        with tempfile.TemporaryDirectory(prefix="refused-") as room:
+            folder, log = Path(room) / "at", Path(room) / "log"
+            shutil.copytree(self.start, folder)
+            settings = {"LD_PRELOAD": str(self.shim), "REFUSE_FIRST": str(number), "REFUSE_LOG": str(log)}
+            done = subprocess.run([*self.program, *line.split(" ")], cwd=folder, env=settings, input=self.given,
+                                  capture_output=True, timeout=SECONDS)
+            refused = log.is_file() and log.read_text().split()[1] != "0"
+            return Ended(done.returncode, done.stdout, done.stderr, files_in(folder)), refused
+
+    def each(self, line, is_refusal):
+        """Refuses each allocation of a command. Returns how many runs there were, and what is wrong."""
+        whole, _ = self.run(line, 0)
+        before, wrong, runs = files_in(self.start), [], 0
+        with ThreadPoolExecutor(cpu_count()) as pool:
+            for first in range(1, MOST, 64):
+                ends = list(pool.map(lambda it: (it, *self.run(line, it)), range(first, first + 64)))
+                refused = [(number, end) for number, end, was in ends if was]
+                runs += len(refused)
+                wrong += [f"{line}: allocation {number}: {end.status} {(end.printed + end.errors)[:200]!r}"
+                          for number, end in refused if end != whole and not is_refusal(end, before)]
+                if len(refused) < len(ends):
+                    break
+        if whole.status != 0:
+            wrong.append(f"{line}: status {whole.status} with memory: {whole.errors[:200]!r}")
+        if runs < 3:
+            wrong.append(f"{line}: {runs} allocations were refused: the program doesn't call this malloc")
+        return runs, wrong
+
+
+def built(folder):
+    shim = Path(folder) / "refuse.so"
+    subprocess.run(["gcc", "-O2", "-Wall", "-Wextra", "-shared", "-fPIC", "-o", shim, HERE / "refuse.c"], check=True)
+    return shim
+
+
+def of_tool(end, before):
+    """The tool reports fault 60, with status 1, and leaves each file as it was."""
+    lines = [b"fault 60", *(b"fault 60 round %d in round" % it for it in range(8))]
+    return end.status == 1 and end.printed.rstrip(b"\n") in lines and end.files == before
+
+
+def of_zimgasol(end, before):
+    """`zimgasol` says that memory was refused, with status 3, and leaves each file as it was."""
+    return end.status == 3 and end.errors.endswith(b": no memory\n") and end.files == before
+
+
+def play_commands(program, shim, start, lines, is_refusal, given=b""):
+    """Plays commands one after another: each begins with the files that those before it left."""
+    runs, wrong = 0, []
+    for line in lines:
+        count, found = Refusing(program, shim, start, given).each(line, is_refusal)
+        runs, wrong = runs + count, wrong + found
+        if not found:
+            subprocess.run([*program, *line.split(" ")], cwd=start, input=given, stdout=subprocess.DEVNULL, check=True)
+    return runs, wrong
+
+
+def play_tool(program, shim):
+    with tempfile.TemporaryDirectory() as room:
+        start = Path(room) / "start"
+        start.mkdir()
+        (start / "s").write_text(SCENARIO)
+        (start / "i").write_bytes(b"as it was")
+        return play_commands(program, shim, start, TOOL, of_tool, SCENARIO.encode())
+
+
+def play_zimgasol(program, shim, data):
+    with tempfile.TemporaryDirectory() as room:
+        start = Path(room) / "start"
+        start.mkdir()
+        shutil.copy(data / "guest.sav", start)
+        return play_commands(program, shim, start, ZIMGASOL, of_zimgasol)
+
+
+def rows_run(program, shim, folder, names, first, every):
+    """Runs files of cases with many allocations refused. Returns what it printed, and how many were refused."""
+    with tempfile.TemporaryDirectory() as room:
+        log = Path(room) / "log"
+        settings = {"LD_PRELOAD": str(shim), "REFUSE_FIRST": str(first), "REFUSE_EVERY": str(every), "REFUSE_LOG": str(log)}
+        done = subprocess.run([*program, *names], cwd=folder, env=settings, stdin=subprocess.DEVNULL,
+                              stdout=subprocess.PIPE, stderr=subprocess.STDOUT, timeout=SECONDS)
+        return done.stdout, int(log.read_text().split()[1])
+
+
+def play_rows(program, shim, folder):
+    """Plays the files of cases with every so many allocations refused, from several first ones on."""
+    names = (folder.parent / "args").read_text().split()
+    whole, _ = rows_run(program, shim, folder, names, 0, 0)
+    tries = [(BEGUN + number * every // ROWS_RUNS, every) for every in EVERY for number in range(ROWS_RUNS)]
+    with ThreadPoolExecutor(cpu_count()) as pool:
+        ends = list(pool.map(lambda it: (it, *rows_run(program, shim, folder, names, *it)), tries))
+    wrong = [f"mig_rows, from allocation {first} on every {every}: {printed.decode(errors='replace')[:300]}"
+             for (first, every), printed, _ in ends if printed != whole]
+    return sum(count for _, _, count in ends), wrong
+
+
+def play(programs, zimgasol_data, rows_data):
+    """Plays all three programs. Prints what is wrong. Returns how many passed and failed."""
+    with tempfile.TemporaryDirectory() as room:
+        shim = built(room)
+        tool = play_tool(programs["mig_tool"], shim)
+        zimgasol = play_zimgasol(programs["zimgasol_cli"], shim, zimgasol_data)
+        rows = play_rows(programs["mig_rows"], shim, rows_data)
+    wrong = [*tool[1], *zimgasol[1], *rows[1]]
+    for it in wrong[:20]:
+        print(it)
+    tried = len(TOOL) + len(ZIMGASOL) + len(EVERY) * ROWS_RUNS
+    failed = min(tried, len(wrong))
+    print(f"refused allocations: {len(TOOL) + len(ZIMGASOL)} commands with {tool[0] + zimgasol[0]} refused one by one, "
+          f"{len(EVERY) * ROWS_RUNS} runs of the cases with {rows[0]}, {len(wrong) or 'none'} wrong", flush=True)
+    return tried - failed, failed
