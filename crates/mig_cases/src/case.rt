@@ -118,7 +118,10 @@ impl Case {
         if !is_page_size(self.page_size) {
             return Err(Trouble::Line);
         }
-        Ok(Table::new(self.alloc, self.page_size, list))
+        match Table::new(self.alloc, self.page_size, list) {
+            Err(TableFault::NoMemory) => Err(Trouble::NoMemory),
+            made => Ok(made),
+        }
     }
 
     /// Returns the guest. The first line that needs it makes it from the blocks.

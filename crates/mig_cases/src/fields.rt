@@ -1,5 +1,6 @@
 //! The fields of a packet, for the lines of `texts` that write one.
 
+use crate::again;
 use crate::trouble::{Done, Trouble};
 use crate::words::{Words, id_of, offsets_of};
 use mig_mem::{PAGE_SIZE_4K, is_page_size};
@@ -79,16 +80,9 @@ impl Fields {
         if !has_room || !is_whole || self.id.len() > 255 {
             return Err(Trouble::Line);
         }
-        put_packet(
-            page_size,
-            text,
-            self.number,
-            self.sync,
-            &self.id,
-            &self.normal,
-            contents,
-            &self.zero,
-        )?;
+        let (normal, zero) = (self.normal.as_slice(), self.zero.as_slice());
+        let (number, sync, id) = (self.number, self.sync, self.id.as_slice());
+        again!(put_packet(page_size, text, number, sync, id, normal, contents, zero))?;
         Ok(())
     }
 }

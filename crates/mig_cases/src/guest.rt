@@ -1,5 +1,6 @@
 //! The guest of a case: its memory and its marks.
 
+use crate::again;
 use crate::trouble::{Done, Trouble};
 use crate::words::Words;
 use mig_mem::{Dirty, Memory, Place, Table};
@@ -23,11 +24,11 @@ impl Guest {
     }
 
     /// Marks a page, and returns whether it is new. None if the table lacks it.
-    pub fn mark(&mut self, place: Place) -> Option<bool> {
+    pub fn mark(&mut self, place: Place) -> Result<Option<bool>, Trouble> {
         if !self.dirty.table().holds(place) {
-            return None;
+            return Ok(None);
         }
-        self.dirty.mark(place).ok()
+        Ok(Some(again!(self.dirty.mark(place))?))
     }
 
     /// Removes the mark of a page, and returns how many marks are left. None if the table lacks the
@@ -52,7 +53,7 @@ impl Guest {
         }
         self.image.set(block, offset, byte);
         let page = offset.checked_div(page_size).ok_or(Trouble::Line)?;
-        let _ = self.mark(Place { block, page });
+        let _ = self.mark(Place { block, page })?;
         Ok(())
     }
 
@@ -63,7 +64,7 @@ impl Guest {
         let byte = words.byte()?;
         for page in first..=last {
             let place = Place { block, page };
-            let _ = self.mark(place).ok_or(Trouble::Line)?;
+            let _ = self.mark(place)?.ok_or(Trouble::Line)?;
             self.fill_page(alloc, place, byte)?;
         }
         Ok(())
@@ -85,7 +86,7 @@ impl Guest {
         let (first, last) = words.range()?;
         for page in first..=last {
             let place = Place { block, page };
-            let _ = self.mark(place).ok_or(Trouble::Line)?;
+            let _ = self.mark(place)?.ok_or(Trouble::Line)?;
             self.wipe_page(place)?;
         }
         Ok(())
@@ -107,7 +108,7 @@ impl Guest {
 
     /// Returns the guest's memory and marks, and clears the marks.
     pub fn take_round(&mut self, alloc: Global) -> Result<Guest, Trouble> {
-        let image = self.image.try_copy()?;
+        let image = again!(self.image.try_copy())?;
         let unmarked = Dirty::none(alloc, self.image.table())?;
         let dirty = mem::replace(&mut self.dirty, unmarked);
         Ok(Guest { image, dirty })
@@ -118,7 +119,7 @@ impl Guest {
         let block = words.size()?;
         let (first, last) = words.range()?;
         for page in first..=last {
-            let _ = self.mark(Place { block, page }).ok_or(Trouble::Line)?;
+            let _ = self.mark(Place { block, page })?.ok_or(Trouble::Line)?;
         }
         Ok(())
     }

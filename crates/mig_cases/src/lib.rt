@@ -1,10 +1,12 @@
 //! Worked examples as data: the cases. It has a file of cases and its words; the guest and the
 //! streams that a case's lines build; and the questions about guest memory and packets.
 //!
-//! `mig_rows` runs such files: it adds rounds, streams and loads. `mig_tool_cases` runs files whose
-//! questions are the tool's words. `Count` compares the answers, for each of the two.
+//! `mig_rows` runs such files: it adds rounds, streams and loads. `Count` compares the answers.
 //! `docs/EXAMPLES.md` has all the lines. This crate depends on guest memory and packets only, and
 //! is proved beside the stream. It is no part of the product, and no function here has a contract.
+//!
+//! A call that was refused memory is made again (`again`), so answers are those of a run that had
+//! it. That shows that a refused call leaves what it was passed as it was.
 #![tactic(auto)]
 
 mod book;

@@ -43,7 +43,7 @@ fn ask_place(
         "holds" => put_answer(out, guest.image.table().holds(place))?,
         "has" => put_answer(out, guest.dirty.has(place))?,
         "first_from" => put_place(out, guest.dirty.first_from(place))?,
-        "mark" => out.push_str(match guest.mark(place) {
+        "mark" => out.push_str(match guest.mark(place)? {
             Some(true) => "new",
             Some(false) => "there",
             None => "outside",

@@ -1,6 +1,7 @@
 //! Questions about the last stream as bytes, as a hello, a packet or a channel, as `mig_rows` asks
 //! them.
 
+use crate::again;
 use crate::case::Case;
 use crate::show::{put_bytes, put_channel_fault, put_channel_state, put_number, put_packet};
 use crate::trouble::{Done, Trouble};
@@ -74,7 +75,7 @@ fn feed(reader: &mut ChannelReader, piece: &[u8]) -> Done {
     if reader.ended() || reader.fed().checked_add(piece.len() as u64).is_none() {
         return Err(Trouble::Line);
     }
-    reader.feed(piece)?;
+    again!(reader.feed(piece))?;
     Ok(())
 }
 
@@ -87,7 +88,7 @@ fn put_channel(out: &mut String, reader: &mut ChannelReader) -> Done {
     }
     let mut before = "";
     for _ in 0..u64::MAX {
-        let Some(round) = reader.take_round()? else {
+        let Some(round) = again!(reader.take_round())? else {
             break;
         };
         out.push_str(before)?;

@@ -1,6 +1,7 @@
 //! Counts cases and their answers, and prints the lines on them. The program that runs a case has
 //! the meaning of its lines and the answers to its questions.
 
+use crate::again;
 use crate::book::Book;
 use crate::trouble::Trouble;
 use std::alloc::Global;
@@ -65,7 +66,7 @@ impl Count {
         out: &mut W,
         text: &'a str,
     ) -> io::Result<Option<Book<'a>>> {
-        let Ok(book) = Book::new(alloc, text) else {
+        let Ok(book) = again!(Book::new(alloc, text)) else {
             self.add(false);
             writeln!(
                 out,

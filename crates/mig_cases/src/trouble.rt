@@ -1,4 +1,5 @@
-//! Why a line of a case can't be run: the error that every module returns, and `play` prints.
+//! Why a line of a case can't be run: the error that every module returns, and `play` prints; and
+//! the second call after a refused one.
 
 use mig_mem::NoMemory;
 use std::alloc::{AllocError, AllocFailed};
@@ -12,6 +13,19 @@ pub enum Trouble {
 }
 
 pub type Done = Result<(), Trouble>;
+
+/// Makes a call, and makes it again if it was refused. A refused call leaves what it was passed as it
+/// was, so the second one returns what the first one would have returned with memory, and for any
+/// other reason the same refusal.
+#[macro_export]
+macro_rules! again {
+    ($call:expr) => {
+        match $call {
+            Err(_) => $call,
+            done => done,
+        }
+    };
+}
 
 impl Trouble {
     /// Returns the words that are printed for it.

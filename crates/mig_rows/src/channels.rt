@@ -6,7 +6,7 @@
 //! channel that breaks them is reported.
 
 use crate::rounds::Rounds;
-use mig_cases::{Case, Done, Guest, Trouble, Words, put_packet, reader_of_channel};
+use mig_cases::{Case, Done, Guest, Trouble, Words, again, put_packet, reader_of_channel};
 use mig_packet::{ChannelReader, ChannelState, OpenGate, Packet, PacketRound};
 use mig_send::{MultiSender, SendFault, Sent};
 use std::alloc::Global;
@@ -23,10 +23,11 @@ fn sender_of<R: Threads + Sync>(
     let table = case.guest()?.image.table();
     let mut sender = match MultiSender::new(alloc, table, uuid, channels, limit) {
         Ok(sender) => sender,
+        Err(SendFault::NoMemory) => return Err(Trouble::NoMemory),
         Err(fault) => return Ok(Err(fault)),
     };
     for round in rounds {
-        if let Err(fault) = sender.round(rt, &round.image, &round.dirty, &OpenGate) {
+        if let Err(fault) = again!(sender.round(rt, &round.image, &round.dirty, &OpenGate)) {
             return Ok(Err(fault));
         }
     }
@@ -34,7 +35,10 @@ fn sender_of<R: Threads + Sync>(
 }
 
 fn finish(sender: MultiSender) -> Result<Sent, Trouble> {
-    sender.finish().ok().ok_or(Trouble::NoMemory)
+    match sender.finish() {
+        Ok(sent) => Ok(sent),
+        Err(sender) => sender.finish().ok().ok_or(Trouble::NoMemory),
+    }
 }
 
 impl Rounds {
@@ -126,7 +130,7 @@ fn rounds_of_each(
 fn rounds_of(alloc: Global, reader: &mut ChannelReader) -> Result<Vec<PacketRound>, Trouble> {
     let mut rounds = Vec::new(alloc);
     for _ in 0..u64::MAX {
-        match reader.take_round()? {
+        match again!(reader.take_round())? {
             Some(round) => rounds.push(round)?,
             None => return Ok(rounds),
         }

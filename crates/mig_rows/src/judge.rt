@@ -5,7 +5,7 @@ ghost use Rattle.std.specs.Prelude.{◌≡◌, All, IfOk};
 use crate::show::put_round_fault;
 use crate::streams::{feed, reader_of, rounds_of};
 use mig_assemble::{Gathered, RoundFault, Target};
-use mig_cases::{Case, Done, Trouble, put_memory};
+use mig_cases::{Case, Done, Trouble, again, put_memory};
 use mig_mem::{Table, is_page_size};
 use mig_packet::{Packet, PacketRead, read_packet};
 use mig_stream::{Mode, StreamReader, StreamRound};
@@ -88,7 +88,7 @@ fn gathered<'a>(
         if packet.page_size() != page_size {
             return Err(Trouble::Line);
         }
-        gathered.push(*packet)?;
+        again!(gathered.push(*packet))?;
     }
     Ok(gathered)
 }
@@ -106,7 +106,7 @@ fn put_round(
     if !has_room || !target.fits(round) {
         return Err(Trouble::Line);
     }
-    Ok(target.round(round, &gathered))
+    Ok(again!(target.round(round, &gathered)))
 }
 
 /// The streams of rounds, read: stream 0 is a single stream, and each further one has the packets

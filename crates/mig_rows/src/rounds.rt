@@ -3,7 +3,7 @@
 ghost use Rattle.std.specs.Prelude.{All, IfOk};
 ghost use Rattle.mig_send.specs.Batches.{IsBatch};
 
-use mig_cases::{Case, Done, Guest, Trouble, Words, put_number};
+use mig_cases::{Case, Done, Guest, Trouble, Words, again, put_number};
 use mig_mem::{Dirty, Memory};
 use mig_send::{Batch, SingleSender, cut, pack};
 use mig_stream::StreamWriter;
@@ -86,10 +86,10 @@ impl Rounds {
             if !guest.image.table().same(table) || !guest.dirty.table().same(table) {
                 return Err(Trouble::Line);
             }
-            writer.part(&guest.image, &guest.dirty)?;
+            again!(writer.part(&guest.image, &guest.dirty))?;
         }
         if let Some(sender) = senders.sender.as_mut() {
-            if sender.round(&guest.image, &guest.dirty).is_err() {
+            if again!(sender.round(&guest.image, &guest.dirty)).is_err() {
                 return Err(Trouble::NoMemory);
             }
         }
@@ -99,7 +99,7 @@ impl Rounds {
 
     fn flush(&mut self) -> Done {
         if let Some(writer) = self.senders()?.writer.as_mut() {
-            writer.flush_part()?;
+            again!(writer.flush_part())?;
         }
         Ok(())
     }
@@ -107,20 +107,22 @@ impl Rounds {
     // `stream`: the writer's stream of the rounds
     fn stream(&mut self) -> Done {
         let writer = self.senders()?.writer.take().ok_or(Trouble::Line)?;
-        match writer.finish() {
-            Ok(text) => self.case.texts.push(text)?,
-            Err(_) => return Err(Trouble::NoMemory),
-        }
+        let text = match writer.finish() {
+            Ok(text) => text,
+            Err(writer) => writer.finish().ok().ok_or(Trouble::NoMemory)?,
+        };
+        self.case.texts.push(text)?;
         Ok(())
     }
 
     // `sent`: the sender's stream of the rounds
     fn sent(&mut self) -> Done {
         let sender = self.senders()?.sender.take().ok_or(Trouble::Line)?;
-        match sender.finish() {
-            Ok(text) => self.case.texts.push(text)?,
-            Err(_) => return Err(Trouble::NoMemory),
-        }
+        let text = match sender.finish() {
+            Ok(text) => text,
+            Err(sender) => sender.finish().ok().ok_or(Trouble::NoMemory)?,
+        };
+        self.case.texts.push(text)?;
         Ok(())
     }
 

@@ -5,8 +5,8 @@ use crate::rounds::Rounds;
 use crate::several::load_several;
 use crate::streams::ask_stream;
 use mig_cases::{
-    Book, Case, Count, Done, Line, Section, Trouble, Words, ask_memory, ask_packets, difference,
-    same_bytes,
+    Book, Case, Count, Done, Line, Section, Trouble, Words, again, ask_memory, ask_packets,
+    difference, same_bytes,
 };
 use std::alloc::Global;
 use std::io::{self, Write};
@@ -47,15 +47,40 @@ fn play_case<R: Files + Threads + Wait + Sync, W: Write>(
         Ok(built) => built,
         Err(trouble) => return count.refuse(out, section.name, trouble),
     };
-    for line in &section.lines {
+    for (i, line) in section.lines.iter().enumerate() {
         let line = Line::new(line);
         let mut answer = String::new(alloc);
-        let asked = follow(&mut answer, rt, book, &mut built, line);
+        let mut asked = follow(&mut answer, rt, book, &mut built, line);
+        if let Err(Trouble::NoMemory) = asked {
+            let before = section.lines.get(..i).unwrap_or(&[]);
+            asked = follow_again(&mut answer, rt, book, &mut built, before, line);
+        }
         if !count.take(out, section.name, line, asked, &answer)? {
             break;
         }
     }
     Ok(())
+}
+
+// Runs a line that was refused memory again, after the lines before it in a new case.
+fn follow_again<R: Files + Threads + Wait + Sync>(
+    out: &mut String,
+    rt: &R,
+    book: &Book<'_>,
+    built: &mut Rounds,
+    before: &[&str],
+    line: Line<'_>,
+) -> Result<bool, Trouble> {
+    *built = Rounds::new(built.case.alloc)?;
+    for line in before {
+        let mut words = Words::new(Line::new(line).text);
+        let name = words.word()?;
+        if !built.take(rt, name, words)? && (name == "mark" || name == "unmark") {
+            ask(out, rt, book, built, name, words)?;
+        }
+    }
+    out.clear();
+    follow(out, rt, book, built, line)
 }
 
 // Runs a line: writes the answer to its question. Returns false if it isn't a question.
@@ -167,7 +192,7 @@ fn each(out: &mut String, case: &mut Case, mut words: Words, wanted: Option<&str
     let whole = Vec::from_slice(case.alloc, case.text()?)?;
     for len in first..=last {
         let front = whole.get(..len).ok_or(Trouble::Line)?;
-        ask_front(out, case, front, name)?;
+        again!(ask_front(out, case, front, name))?;
         let answer = out.trim_start();
         if wanted.is_some_and(|wanted| wanted != answer) {
             write!(out, " of the first {len} bytes")?;

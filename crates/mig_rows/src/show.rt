@@ -1,7 +1,7 @@
 //! Formats answers about streams, rounds and loads.
 
 use mig_assemble::RoundFault;
-use mig_cases::{Done, Pages, put_memory};
+use mig_cases::{Done, Pages, Trouble, put_memory};
 use mig_single_load::{Fault, LoadFault, Loaded, Origin};
 use mig_stream::{StreamFault, StreamRound, StreamState};
 
@@ -16,6 +16,9 @@ fn put_stream_fault(out: &mut String, fault: StreamFault) -> Done {
 }
 
 pub fn put_round_fault(out: &mut String, fault: RoundFault) -> Done {
+    if fault == RoundFault::NoMemory {
+        return Err(Trouble::NoMemory);
+    }
     write!(out, "fault {}", fault.number())?;
     match fault {
         RoundFault::Foreign(number)
@@ -54,6 +57,9 @@ pub fn put_records(out: &mut String, round: &StreamRound) -> Done {
 }
 
 fn put_load_fault(out: &mut String, fault: LoadFault) -> Done {
+    if fault.fault == Fault::NoMemory {
+        return Err(Trouble::NoMemory);
+    }
     match fault.fault {
         Fault::Stream(fault) => put_stream_fault(out, fault)?,
         Fault::Round(fault) => put_round_fault(out, fault)?,

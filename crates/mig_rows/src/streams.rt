@@ -1,7 +1,7 @@
 //! Questions about the last stream of a case.
 
 use crate::show::{put_loaded, put_records, put_stream_state};
-use mig_cases::{Case, Done, Trouble, agree, put_fed, put_table};
+use mig_cases::{Case, Done, Trouble, again, agree, put_fed, put_table};
 use mig_mem::{MAX_TOTAL, is_page_size};
 use mig_single_load::{LoadSettings, SingleLoader, load_single, load_single_in, single_closed_at};
 use mig_stream::{Frame, Mode, StreamReader, StreamRound, StreamState};
@@ -63,7 +63,7 @@ fn closed_in_pieces(out: &mut String, case: &Case, text: &[u8], len: usize) -> D
         if loader.ended() || loader.fed() > MAX_TOTAL || piece.len() as u64 > MAX_TOTAL {
             return Err(Trouble::Line);
         }
-        loader.feed(piece).ok().ok_or(Trouble::NoMemory)?;
+        again!(loader.feed(piece)).ok().ok_or(Trouble::NoMemory)?;
     }
     put_place_closed(out, loader.closed_at())
 }
@@ -99,7 +99,7 @@ pub fn feed(reader: &mut StreamReader, piece: &[u8]) -> Done {
     if reader.ended() || reader.fed().checked_add(piece.len() as u64).is_none() {
         return Err(Trouble::Line);
     }
-    reader.feed(piece)?;
+    again!(reader.feed(piece))?;
     Ok(())
 }
 
@@ -110,7 +110,7 @@ pub fn rounds_of<'a>(
 ) -> Result<Vec<StreamRound<'a>>, Trouble> {
     let mut rounds = Vec::new(alloc);
     for _ in 0..u64::MAX {
-        match reader.take_round()? {
+        match again!(reader.take_round())? {
             Some(round) => rounds.push(round)?,
             None => return Ok(rounds),
         }
