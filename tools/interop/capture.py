@@ -1,5 +1,5 @@
 #!/usr/bin/env python3
-"""Has QEMU write the captures that a stored run of the gate reads: guests of machine `none`.
+"""Has QEMU write the captures of runs/captures: guests of machine `none`.
 
     tools/interop/capture.py FOLDER QEMU ..
 

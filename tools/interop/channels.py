@@ -39,31 +39,24 @@ def channel_words(files):
     return [word for file in files[1:] for word in ("--channel", file)]
 
 
-def write_several(bench, kind, channels, name, faults=(), **parameters):
-    """QEMU writes on several channels, and `zimgasol` extracts that, where it takes channels.
+def write_several(bench, kind, channels, faults=(), **parameters):
+    """QEMU writes on several channels, and `zimgasol` extracts that.
 
-    `mig_captures` loads it later, with all others. It is to be refused where there are `faults`.
+    It is to be refused where there are `faults`, with one of these.
     """
     with bench.guest(kind) as guest:
         guest.set((), **parameters)
         main, streams = qemu.written(guest, channels, rounds_of(kind))
         wanted = guest.blocks()
-    if faults:
-        bench.captures.add_refused(name, main, streams, faults)
-    else:
-        bench.captures.add(name, main, streams, wanted, uuid_of(kind))
-    if bench.programs.has_channels:
-        read_several(bench, put(bench, main, streams), wanted, faults)
-
-
-def read_several(bench, files, wanted, faults):
+    files = put(bench, main, streams)
     zimgasol, words = bench.programs.zimgasol, channel_words(files)
     if not faults:
-        compare(wanted, extracted(zimgasol, files[0], bench.file("memory"), *words))
-        return
+        uuid = ("--uuid", uuid_of(kind)) if uuid_of(kind) else ()
+        return compare(wanted, extracted(zimgasol, files[0], bench.file("memory"), *words, *uuid))
     said = ran(zimgasol, "verify", files[0], *words, status=1)
     if fault_of(said) not in faults:
         raise Differs(f"{said}; expected fault {' or '.join(map(str, faults))}")
+    return f"fault {fault_of(said)}"
 
 
 def refuse_main(bench, fault):

@@ -8,7 +8,7 @@ from pathlib import Path
 
 import qemu
 from guests import MIB, NONE, PAGE, memory, memory_of, words_of
-from ours import (Captures, Differs, Programs, block_words, compare, extracted, fault_of, inspected,
+from ours import (Differs, Programs, block_words, compare, extracted, fault_of, inspected,
                   pages_that_differ, ran)
 
 # The rounds after which a guest that writes is stopped.
@@ -19,12 +19,11 @@ NO_CONFIGURATION = ("-global", "migration.send-configuration=off")
 
 @dataclass(frozen=True)
 class Bench:
-    """A QEMU, the programs, a folder for files, and the captures that are loaded at the end."""
+    """A QEMU, the programs, and a folder for files."""
 
     qemu: str
     programs: Programs
     folder: Path
-    captures: Captures
 
     def guest(self, kind, **how):
         words = words_of(kind, self.folder)

@@ -7,8 +7,7 @@
 SUITE is one of Debian's, for example `trixie-backports`. Its QEMU is downloaded into out/interop if
 it isn't there yet (packages.py). PROGRAM is an installed qemu-system-x86_64; with it nothing is
 downloaded. Otherwise the one in PATH is used in addition to those of the suites. FOLDER has
-`zimgasol_cli`, `mig_tool` and `mig_captures`, in place of crates/NAME/out. If `mig_captures` isn't
-built, it runs from its source.
+`zimgasol_cli` and `mig_tool`, in place of crates/NAME/out.
 
 Each row has the writer and the reader, and `ok` or the difference. The exit status is 0 if all rows
 are `ok`. The gate doesn't run it.
@@ -26,13 +25,11 @@ import qemu
 from checks import (NO_CONFIGURATION, Bench, chain, chain_devices, load_saved, read_between,
                     read_single, refuse_single, refuse_xbzrle)
 from guests import KINDS, NONE, PC, PC_UUID, PC_WRITING, SMALL
-from ours import Captures, Differs, Programs
+from ours import Differs, Programs
 
 CHANNELS = (1, 2, 4)
 # QEMU's multifd before 8.1 has no FLUSH: the faults of docs/EMBEDDING.md
 NO_FLUSH = (33, 52, 54, 55, 56, 59)
-# what a row of channels has until they are loaded, at the end
-WRITTEN = "written"
 HEADS = ("QEMU", "from, to", "guest", "how", "compared", "")
 
 
@@ -59,11 +56,11 @@ class Table:
     def __init__(self):
         self.rows = []
 
-    def try_(self, row, check, result="ok"):
-        """Runs a check, and adds its row, with a result where nothing differs."""
+    def try_(self, row, check):
+        """Runs a check, and adds its row."""
         self.rows.append(row)
         try:
-            row.compared, row.result = check() or "", result
+            row.compared, row.result = check() or "", "ok"
         except Differs as differs:
             row.result = str(differs)
         except (RuntimeError, OSError, ValueError, KeyError, StopIteration) as error:
@@ -110,8 +107,8 @@ def refuse_files(table, bench, version):
         table.try_(row, lambda: channels.refuse_main(bench, 32))
 
 
-def read_channels(table, bench, version, later):
-    """QEMU's channels, which `mig_captures` loads at the end. `later` gets the rows by name."""
+def read_channels(table, bench, version):
+    """QEMU's channels, which `zimgasol` extracts."""
     has_flush = qemu.number(version) >= (8, 1)
     tries = [(kind, count, () if has_flush else NO_FLUSH, "", {})
              for kind in SMALL for count in CHANNELS]
@@ -122,13 +119,10 @@ def read_channels(table, bench, version, later):
         for way in ("none", "legacy"):
             how = f", zero-page-detection={way}"
             tries.append((SMALL[-1], 2, (), how, {"zero_page_detection": way}))
-    way = "QEMU, extract, mig_captures" if bench.programs.has_channels else "QEMU, mig_captures"
-    for number, (kind, count, faults, how, parameters) in enumerate(tries):
-        name, row = f"{version}-{number}", Row(version, way, kind.name, on_channels(count) + how)
+    for kind, count, faults, how, parameters in tries:
+        row = Row(version, "QEMU, extract", kind.name, on_channels(count) + how)
         write = channels.write_several
-        table.try_(row, lambda: write(bench, kind, count, name, faults, **parameters), WRITTEN)
-        if row.result == WRITTEN:
-            later[name] = row
+        table.try_(row, lambda: write(bench, kind, count, faults, **parameters))
 
 
 def load_ours(table, bench, version):
@@ -143,10 +137,7 @@ def load_ours(table, bench, version):
                lambda: channels.load(bench, channels.send(bench, 0)))
     has_flush = qemu.number(version) >= (8, 1)
     load = channels.load if has_flush else channels.cannot_load
-    writers = [("mig_tool send", channels.send)]
-    if bench.programs.has_channels:
-        writers.append(("save --channels", channels.save))
-    for name, write in writers:
+    for name, write in (("mig_tool send", channels.send), ("save --channels", channels.save)):
         for count in CHANNELS:
             row = Row(version, f"{name}, QEMU", NONE.name, on_channels(count))
             table.try_(row, lambda: load(bench, write(bench, count)))
@@ -157,28 +148,13 @@ def run_chains(table, bench, version, programs):
     for other, program in programs.items():
         row = Row(version, f"QEMU, extract, save, QEMU {other}", NONE.name, "and extracted again")
         table.try_(row, lambda: chain(bench, program))
-    if bench.programs.has_channels and qemu.number(version) >= (8, 1):
+    if qemu.number(version) >= (8, 1):
         row = Row(version, "QEMU, extract, save, QEMU", NONE.name, on_channels(2))
         table.try_(row, lambda: channels.chain_several(bench, 2))
     for kind in (PC, PC_WRITING):
         how = "with its devices" + (", and runs on" if kind.writes else "")
         row = Row(version, "QEMU, extract, save, QEMU", kind.name, how)
         table.try_(row, lambda: chain_devices(bench, kind))
-
-
-def settle(table, captures, rows, programs):
-    """Loads the captures of all channels, and writes what came into their rows."""
-    try:
-        lines = captures.lines(programs.captures)
-    except Differs as differs:
-        lines = None
-        for row in rows.values():
-            row.result = str(differs)
-    for name, row in rows.items() if lines else ():
-        try:
-            row.compared, row.result = captures.answer(name, lines[name]), "ok"
-        except Differs as differs:
-            row.result = str(differs)
 
 
 def at_hand(words):
@@ -206,20 +182,16 @@ def main():
     for number in (signal.SIGTERM, signal.SIGHUP):
         signal.signal(number, lambda number, _: sys.exit(128 + number))
     programs = Programs(words.programs)
-    found, table, later = at_hand(words), Table(), {}
+    found, table = at_hand(words), Table()
     with tempfile.TemporaryDirectory(prefix="interop-") as room:
-        folder, kept = Path(room), Path(room) / "captures"
-        kept.mkdir()
-        captures = Captures(kept)
         for version, program in found.items():
             say(f"QEMU {version}: {program}")
-            bench = Bench(program, programs, folder, captures)
+            bench = Bench(program, programs, Path(room))
             read_files(table, bench, version)
             refuse_files(table, bench, version)
-            read_channels(table, bench, version, later)
+            read_channels(table, bench, version)
             load_ours(table, bench, version)
             run_chains(table, bench, version, found)
-        settle(table, captures, later, programs)
     table.show()
     wrong = table.wrong()
     print(f"{len(table.rows)} rows, {wrong or 'none'} that {'differs' if wrong == 1 else 'differ'}")

@@ -1,4 +1,4 @@
-"""The project's programs, as interop runs them: `zimgasol`, `mig_tool` and `mig_captures`."""
+"""The project's programs, as interop runs them: `zimgasol` and `mig_tool`."""
 import hashlib
 import json
 import os
@@ -15,7 +15,6 @@ CRATES = TOP / "crates"
 SECONDS = 300
 # which target of make builds a program
 TARGETS = {"zimgasol_cli": "make program", "mig_tool": "make build"}
-NO_UUID = "00000000-0000-0000-0000-000000000000"
 EOS = (16).to_bytes(8, "big")
 RAM_HEAD = b"\x03ram" + bytes(4) + (4).to_bytes(4, "big")
 
@@ -28,17 +27,13 @@ class Programs:
     """Where the programs are: in a folder, or where make builds them."""
 
     def __init__(self, folder=None):
-        places = {name: CRATES / name / "out" / name for name in (*TARGETS, "mig_captures")}
+        places = {name: CRATES / name / "out" / name for name in TARGETS}
         if folder:
             places = {name: Path(folder).resolve() / name for name in places}
         missing = [name for name in TARGETS if not os.access(places[name], os.X_OK)]
         if missing:
             sys.exit("\n".join(f"there is no {places[it]}: {TARGETS[it]}" for it in missing))
         self.zimgasol, self.tool = str(places["zimgasol_cli"]), str(places["mig_tool"])
-        # whether `zimgasol` reads and writes several channels
-        self.has_channels = "--channel " in ran(self.zimgasol, "help", "extract")
-        captures = places["mig_captures"]
-        self.captures = str(captures) if os.access(captures, os.X_OK) else None
 
 
 def ran(*words, status=0, folder=None, seconds=SECONDS):
@@ -119,81 +114,8 @@ def fault_of(said):
     return int(found[1]) if found else None
 
 
-def size_list(main):
-    """The ids of the blocks, in the order of a stream's size list."""
-    at = main.find(RAM_HEAD) + len(RAM_HEAD)
-    left, at, names = int.from_bytes(main[at:at + 8], "big") & -PAGE, at + 8, []
-    while left > 0:
-        end = at + 1 + main[at]
-        names.append(main[at + 1:end].decode("ascii"))
-        left, at = left - int.from_bytes(main[end:end + 8], "big"), end + 8
-    return names
-
-
 def ram_end(main):
     """Where RAM ends: after the last footer of its section, whose id stands before its name."""
     at = main.find(RAM_HEAD)
     footer = EOS + b"\x7e" + main[at - 4:at]
     return main.rfind(footer) + len(footer)
-
-
-class Captures:
-    """Migrations on several channels, which `mig_captures` loads in one run at the end.
-
-    From its source it takes a minute to start, and no more for many captures.
-    """
-
-    PIECES = (0, 1000)
-    # enough for a run from the source
-    SECONDS = 3600
-
-    def __init__(self, folder):
-        self.folder, self.expected = folder, {}
-
-    def add(self, name, main, channels, memory, uuid):
-        """Adds a capture, which is to be loaded as the memory of these blocks."""
-        digest = hashlib.sha256(b"".join(memory[it] for it in size_list(main))).hexdigest()
-        self.put(name, main, channels, f"ok, closed at {ram_end(main)}, memory {digest}", uuid)
-
-    def add_refused(self, name, main, channels, faults):
-        """Adds a capture that is to be refused, with one of some faults."""
-        self.put(name, main, channels, faults, None)
-
-    def put(self, name, main, channels, expected, uuid):
-        (self.folder / f"{name}.main").write_bytes(main)
-        for number, channel in enumerate(channels):
-            (self.folder / f"{name}.{number}").write_bytes(channel)
-        self.expected[name] = expected, len(channels), uuid or NO_UUID
-
-    def words(self):
-        return [word for name, (_, count, uuid) in self.expected.items() for pieces in self.PIECES
-                for word in (f"uuid={uuid}", f"pieces={pieces}", f"{name}.main",
-                             *(f"{name}.{number}" for number in range(count)))]
-
-    def lines(self, program):
-        """What `mig_captures` prints of all: each capture's lines by its name."""
-        if program:
-            said = ran(program, *self.words(), folder=self.folder, seconds=self.SECONDS)
-        else:
-            files = sorted(it for it in self.folder.iterdir() if it.is_file())
-            data = [word for it in files for word in ("--data", f"{it.name}={it}")]
-            command = ("rt", "try", "--seconds", self.SECONDS, *data, "--", *self.words())
-            said = ran(*command, folder=CRATES / "mig_captures", seconds=2 * self.SECONDS)
-        found = {name: [] for name in self.expected}
-        for line in said.splitlines():
-            name = line.split(".main ")[0]
-            if name in found and ": " in line:
-                found[name].append(line.split(": ", 1)[1])
-        return found
-
-    def answer(self, name, lines):
-        """Compares a capture's lines. Returns what was compared."""
-        expected = self.expected[name][0]
-        if len(lines) != len(self.PIECES):
-            raise Differs(f"{len(lines)} lines of mig_captures, not {len(self.PIECES)}")
-        for line in lines:
-            if isinstance(expected, str) and line != expected:
-                raise Differs(f"{line}; expected {expected}")
-            if not isinstance(expected, str) and fault_of(line) not in expected:
-                raise Differs(f"{line}; expected fault {' or '.join(map(str, expected))}")
-        return "all blocks" if isinstance(expected, str) else f"fault {fault_of(lines[0])}"
