@@ -5,7 +5,7 @@ WORDS ?=
 CRATES ?=
 PREFIX ?= /usr/local
 
-.PHONY: help run check build program lib install example header try runs mutants interop promises documents site test gate
+.PHONY: help run check build program lib install example bench header try runs mutants interop promises documents site test gate
 
 help: ## at once | lists the targets
 	@echo "Times on 4 processors, from a fresh clone:"
@@ -40,6 +40,11 @@ install: ## at once, after lib or program | puts what was built, and its page, b
 
 example: lib ## three minutes, after lib | builds and runs the C programs of examples/c
 	@tools/example.py
+
+bench: ## at once, after lib | builds the benchmarks of the library for C: out/bench
+	@test -f out/libzimgasol.a || { echo "out/libzimgasol.a isn't there: make lib" >&2; exit 1; }
+	@$(CC) -O2 -Wall -Wextra -Wpedantic -pthread -Iinclude -o out/bench bench/*.c out/libzimgasol.a
+	@out/bench
 
 header: ## at once | compares include/zimgasol.h with the library's exports
 	@tools/header.py
