@@ -1,93 +1,200 @@
-//! Measures how long a work takes, compares that with another, and reports how much memory is
-//! resident.
-ghost use Rattle.std.specs.Prelude.{◌≡◌, ◌+◌, ◌*◌, ◌/◌, ◌%◌, ◌<◌, ◌++◌, Some, codes};
-ghost use Rattle.std.specs.Fmt.{decimal};
+//! Times works, and prints each time beside those of copies of the same bytes.
 
-use std::rt::{Clock, Files};
+use crate::guest::Guest;
+use mig_mem::{MAX_TOTAL, PAGE_SIZE_4K};
+use mig_packet::OpenGate;
+use mig_relay::load_multi;
+use mig_send::Sent;
+use mig_single_load::load_single;
+use mig_zero::is_zero;
+use std::alloc::Global;
+use std::io;
+use std::rt::Clock;
+use std::sync::Wait;
+use std::thread::Threads;
 use std::time::Instant;
-use std::{fmt, fs, io};
+use uuid::Uuid;
+
+pub const PAGE_SIZE: usize = 4096;
 
 const RUNS: usize = 5;
 
-/// The least time of the runs of a work, and what the last of them returned.
+/// What is timed. Each returns a number that depends on all that it did, so that no compiler leaves
+/// out a part.
 #[derive(Clone, Copy)]
-pub struct Measured {
-    pub nanos: u64,
-    pub answer: usize,
-    ghost positive: { 0 < nanos },
+pub enum Work<'a> {
+    /// A copy to another buffer, of as many bytes as both have, so many of them at once.
+    Copy(&'a [u8], usize),
+    /// The zero test of each page of a memory. Returns how many are zeros.
+    ZeroTest(&'a [u8]),
+    /// One round as one stream. Returns the stream's length, or 0 if an allocation is refused.
+    Send(&'a Guest),
+    /// A load of a complete stream. Returns how many of its sections were applied.
+    Load(&'a [u8]),
+    /// A load of complete streams of several channels. Returns how many rounds were applied.
+    LoadMulti(&'a Sent),
 }
 
-/// Runs a work five times, and takes the least time, since other load on the machine only adds to
-/// it. The work returns a number that depends on all that it did, so that no compiler leaves out a
-/// part.
-pub fn best_of_five<F: FnMut() -> usize>(rt: &impl Clock, mut work: F) -> io::Result<Measured>
-    requires { F.IsAlwaysCallable work }
-{
-    let mut answer = 0;
-    let mut nanos = u64::MAX;
+// Does a work, of which a copy alone writes to `to`.
+fn run<R: Threads + Wait + Sync>(rt: &R, alloc: Global, work: Work, to: &mut [u8]) -> usize {
+    match work {
+        Work::Copy(from, step) => copy(from, to, step),
+        Work::ZeroTest(memory) => zero_pages(memory),
+        Work::Send(guest) => len_of(guest.sent(alloc)),
+        Work::Load(stream) => load_single(alloc, PAGE_SIZE_4K, stream, MAX_TOTAL).rounds as usize,
+        Work::LoadMulti(sent) => rounds_of(rt, alloc, sent),
+    }
+}
+
+fn len_of(stream: Option<Vec<u8>>) -> usize {
+    match stream {
+        Some(stream) => stream.len(),
+        None => 0,
+    }
+}
+
+fn copy(from: &[u8], to: &mut [u8], step: usize) -> usize {
+    if step == 0 {
+        return 0;
+    }
+    for (from, to) in from.chunks_exact(step).zip(to.chunks_exact_mut(step)) {
+        to.copy_from_slice(from);
+    }
+    to.len()
+}
+
+fn zero_pages(memory: &[u8]) -> usize {
+    memory
+        .chunks_exact(PAGE_SIZE)
+        .filter(|page| is_zero(page))
+        .count()
+}
+
+fn rounds_of<R: Threads + Wait + Sync>(rt: &R, alloc: Global, sent: &Sent) -> usize {
+    let channels = sent.channels.as_slice();
+    if channels.is_empty() || channels.len() > 255 {
+        return 0;
+    }
+    let uuid = Uuid::nil();
+    let main = &sent.main;
+    load_multi(
+        rt,
+        alloc,
+        PAGE_SIZE_4K,
+        &uuid,
+        main,
+        channels,
+        MAX_TOTAL,
+        &OpenGate,
+    )
+    .rounds as usize
+}
+
+/// The times of copies of the same bytes in nanoseconds: page by page, as a guest's pages are
+/// handled, and at once. Each copies the bytes, and each work is done, `times` times in a run.
+#[derive(Clone, Copy)]
+pub struct Yardstick {
+    by_pages: u64,
+    at_once: u64,
+    times: usize,
+}
+
+impl Yardstick {
+    /// Copies `from` to `to`, as many bytes as both have.
+    pub fn new<R: Clock + Threads + Wait + Sync>(
+        rt: &R,
+        alloc: Global,
+        from: &[u8],
+        to: &mut [u8],
+        times: usize,
+    ) -> io::Result<Yardstick> {
+        let len = from.len();
+        let by_pages = least_time(rt, alloc, Work::Copy(from, PAGE_SIZE), to, times)?;
+        let at_once = least_time(rt, alloc, Work::Copy(from, len), to, times)?;
+        Ok(Yardstick {
+            by_pages: by_pages.0,
+            at_once: at_once.0,
+            times,
+        })
+    }
+
+    /// Copies `len` bytes, in memory that it frees.
+    pub fn in_buffers<R: Clock + Threads + Wait + Sync>(
+        rt: &R,
+        alloc: Global,
+        len: usize,
+    ) -> io::Result<Yardstick> {
+        let from = vec![in alloc; 1u8; len]?;
+        let mut to = vec![in alloc; 1u8; len]?;
+        Yardstick::new(rt, alloc, &from, &mut to, 1)
+    }
+}
+
+// Runs a work five times, and returns the least time in nanoseconds, since other load on the machine
+// only adds to it, and what the last run returned.
+fn least_time<R: Clock + Threads + Wait + Sync>(
+    rt: &R,
+    alloc: Global,
+    work: Work,
+    to: &mut [u8],
+    times: usize,
+) -> io::Result<(u64, usize)> {
+    let mut least = (u64::MAX, 0);
     for _ in 0..RUNS {
         let start = Instant::now(rt)?;
-        answer = work();
-        let time = start.elapsed(rt)?.as_nanos();
-        nanos = nanos.min(u64::try_from(time).unwrap_or(u64::MAX));
+        least.1 = run_times(rt, alloc, work, to, times);
+        let time = u64::try_from(start.elapsed(rt)?.as_nanos()).unwrap_or(u64::MAX);
+        least.0 = time.min(least.0);
     }
-    let nanos = nanos.max(1);
-    Ok(Measured { nanos, answer })
+    Ok(least)
 }
 
-/// The ratio of two numbers, as of two times, rounded to hundredths.
-#[derive(Clone, Copy)]
-pub struct Ratio {
-    hundredths: u128,
-}
-
-impl Ratio {
-    /// The ratio of two numbers; a number to 0 is as that to 1.
-    pub fn of(number: u64, unit: u64) -> Ratio {
-        let unit = u128::from(unit.max(1));
-        Ratio {
-            hundredths: (100 * u128::from(number) + unit / 2) / unit,
-        }
+fn run_times<R: Threads + Wait + Sync>(
+    rt: &R,
+    alloc: Global,
+    work: Work,
+    to: &mut [u8],
+    times: usize,
+) -> usize {
+    let mut answer = 0;
+    for _ in 0..times {
+        answer = run(rt, alloc, work, to);
     }
+    answer
 }
 
-impl Measured {
-    pub fn ratio_to(&self, yardstick: &Measured) -> Ratio
-        ensures { result.hundredths ≡ (100 * self.now.nanos + yardstick.now.nanos / 2) / yardstick.now.nanos }
-    {
-        let time = u128::from(self.nanos);
-        let unit = u128::from(yardstick.nanos);
-        Ratio {
-            hundredths: (100 * time + unit / 2) / unit,
-        }
-    }
+/// Prints what is measured, on how many pages.
+pub fn put_title(rt: &impl Print, title: &str, pages: u64) -> io::Result<()> {
+    println!(rt;
+        "{title}, {pages} pages of {PAGE_SIZE} bytes: the least time of five runs, as a ratio to a copy of them"
+    )
 }
 
-impl fmt::Display for Ratio {
-    ghost output = { λ r. let h = r.hundredths in
-        Some (decimal (h / 100) ++ codes "." ++ decimal (h / 10 % 10) ++ decimal (h % 10)) };
-
-    fn fmt<W: fmt::Write>(&self, f: &mut fmt::Formatter<W>) -> fmt::Result {
-        let h = self.hundredths;
-        write!(f, "{}.{}{}", h / 100, h / 10 % 10, h % 10)
-    }
+/// Measures a work, and prints its time beside those of the copies, and what it returned.
+pub fn report<R: Clock + Print + Threads + Wait + Sync>(
+    rt: &R,
+    alloc: Global,
+    name: &str,
+    unit: &str,
+    copies: &Yardstick,
+    work: Work,
+) -> io::Result<()> {
+    let mut nowhere = [0u8; 0];
+    let (time, answer) = least_time(rt, alloc, work, &mut nowhere, copies.times)?;
+    print!(rt; "{name:<22}")?;
+    put_ratio(rt, time, copies.by_pages)?;
+    print!(rt; " by pages, ")?;
+    put_ratio(rt, time, copies.at_once)?;
+    println!(rt; " at once; {answer} {unit}")
 }
 
-/// Resets the peak to what is resident now, and returns that in bytes, or None if the system can't.
-pub fn reset_peak<R: Files + AllocGlobal>(rt: &R) -> Option<u64> {
-    fs::write(rt, "/proc/self/clear_refs", "5").ok()?;
-    peak(rt)
-}
-
-/// Returns the most bytes that were resident, or None if the system doesn't report it.
-pub fn peak<R: Files + AllocGlobal>(rt: &R) -> Option<u64> {
-    let status = fs::read_to_string(rt, "/proc/self/status").ok()?;
-    peak_in(&status)
-}
-
-// Returns the peak in `status`, the contents of that file, which has it in KiB.
-fn peak_in(status: &str) -> Option<u64> {
-    let line = status.lines().find(|line| line.starts_with("VmHWM:"))?;
-    let word = line.split_whitespace().nth(1)?;
-    word.parse::<u64>().ok()?.checked_mul(1024)
+// Prints the ratio of two times, rounded to hundredths.
+fn put_ratio(rt: &impl Print, time: u64, unit: u64) -> io::Result<()> {
+    let hundredths = (100 * u128::from(time) + u128::from(unit / 2)) / u128::from(unit.max(1));
+    print!(rt;
+        "{}.{}{}",
+        hundredths / 100,
+        hundredths / 10 % 10,
+        hundredths % 10
+    )
 }
