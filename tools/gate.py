@@ -19,7 +19,7 @@ from crates import TOP, uses
 FIRST = """From nothing this takes {times}. `make check` shows every test in ten minutes,
 unproved. What passed before on this machine is taken from there."""
 # (docs/BENCHMARKS.md, "The gate")
-TIMES = "an hour to an hour and a half on 4 processors, two hours on 2"
+TIMES = "1 to 2 hours on 4 processors"
 LAST = re.compile(r"(\d+) passed, (\d+) failed")
 PROVED = re.compile(r"^rt: (\S+)( proved| is kept: .*)$")
 # A check takes 2 to 4 GB.

@@ -1,20 +1,20 @@
-// Refuses chosen allocations of a program that is started with it (LD_PRELOAD), and counts all.
+// Refuses chosen allocations of a program that is started with it (LD_PRELOAD).
 //
 // REFUSE_FIRST is the number of the first allocation to refuse, counted from 1; 0 refuses none.
 // REFUSE_EVERY is the distance from one refused allocation to the next; 0 refuses only the first.
-// REFUSE_LOG names a file, to which the end of the program writes how many there were and how many
-// of them were refused. Giving memory back is never refused.
+// REFUSE_LOG names a file, to which each refusal appends a byte. Giving memory back is never refused.
 #include <errno.h>
+#include <fcntl.h>
 #include <stdatomic.h>
-#include <stdio.h>
 #include <stdlib.h>
+#include <unistd.h>
 
 void *__libc_malloc(size_t size);
 void *__libc_calloc(size_t count, size_t size);
 void *__libc_realloc(void *block, size_t size);
 void *__libc_memalign(size_t align, size_t size);
 
-static atomic_long made, refused;
+static atomic_long made;
 static long first, every;
 
 // Returns the number that a variable of the environment has; 0 if it isn't there.
@@ -31,16 +31,13 @@ __attribute__((constructor)) static void begin(void)
 	atomic_store(&made, 0);
 }
 
-__attribute__((destructor)) static void end(void)
+// Appends a byte to the log: a program that ends by _exit runs nothing at its end.
+static void note(void)
 {
 	const char *name = getenv("REFUSE_LOG");
-	FILE *log = name ? fopen(name, "w") : NULL;
-	long count = atomic_load(&made);
-	first = 0;
-	if (log) {
-		fprintf(log, "%ld %ld\n", count, atomic_load(&refused));
-		fclose(log);
-	}
+	int log = name ? open(name, O_WRONLY | O_CREAT | O_APPEND, 0666) : -1;
+	if (log >= 0 && (write(log, "r", 1) != 1 || close(log) != 0))
+		_exit(99);
 }
 
 // Counts an allocation, and returns whether it is refused.
@@ -49,7 +46,7 @@ static int is_refused(void)
 	long past = atomic_fetch_add(&made, 1) + 1 - first;
 	if (first == 0 || past < 0 || (past > 0 && (every == 0 || past % every != 0)))
 		return 0;
-	atomic_fetch_add(&refused, 1);
+	note();
 	errno = ENOMEM;
 	return 1;
 }

@@ -5,12 +5,16 @@ numbers: also those of the command line and of the C library.
 
 Of the commands of `mig_tool` and `zimgasol` each allocation is refused in turn. A run either ends
 as one with memory does, where the program did without the allocation, or it says that memory was
-refused, and leaves each file as it was.
+refused, and leaves the files that were there as they were. `mig_tool` leaves no other: but for the
+channels' files of `send`, which it writes one after another, and of which the schedule decides
+which packets each has. `zimgasol` leaves no other either, but one that is complete, and what is
+named `.partial`.
 
 Of `mig_rows` every so many allocations are refused in one run. It makes a call that was refused
 again, so its answers have to be those of a run with memory: a refused call leaves what it was
 passed as it was.
 """
+import re
 import shutil
 import subprocess
 import tempfile
@@ -26,11 +30,13 @@ MOST = 20_000
 # Of `mig_rows`: the allocations that read the files of cases, the distances from one refused allocation to the
 # next, which are more than a line of a case makes outside of the library's calls, and the runs of each.
 BEGUN = 200
-EVERY = (4001, 10007)
-ROWS_RUNS = 12
+EVERY = (10007, 20011)
+ROWS_RUNS = 16
 
+# What `mig_tool send` writes over channels.
+LOOSE = ("p", "p.0", "p.1")
 SCENARIO = "block 2 a\nblock 3 b\nset 0 0 7\nset 1 4096 9\nround\ntouch 1 0\nset 0 4096 1\nround\n"
-TOOL = ("send s o", "send s p --channels 2", "check", "check --channels 2", "load o i", "load o i --feed",
+TOOL = ("send s o", "send s p --channels 2", "check", "check --channels 2", "load o i",
         "load p i --channels 2", "load p i --channels 2 --feed", "compare s i")
 ZIMGASOL = ("verify guest.sav", "inspect guest.sav", "inspect guest.sav --json", "extract guest.sav memory",
             "compare memory guest.sav", "save --block ram=memory/ram.bin one.sav",
@@ -51,15 +57,17 @@ class Ended:
     files: tuple
 
 
-def files_in(folder):
-    return tuple(sorted((str(it.relative_to(folder)), it.read_bytes()) for it in folder.rglob("*") if it.is_file()))
+def files_in(folder, loose):
+    """The files of a folder, each with its bytes, but for those named in `loose`."""
+    files = ((str(it.relative_to(folder)), it) for it in folder.rglob("*") if it.is_file())
+    return tuple(sorted((name, it.read_bytes()) for name, it in files if name not in loose))
 
 
 class Refusing:
     """A program, in a folder that is laid out anew for each run."""
 
-    def __init__(self, program, shim, start, given=b""):
-        self.program, self.shim, self.start, self.given = program, shim, start, given
+    def __init__(self, program, shim, start, given, loose):
+        self.program, self.shim, self.start, self.given, self.loose = program, shim, start, given, loose
 
     def run(self, line, number):
         """Runs a command with one allocation refused, or with none for 0. Returns how it ended, and whether it was refused."""
@@ -69,20 +77,19 @@ class Refusing:
             settings = {"LD_PRELOAD": str(self.shim), "REFUSE_FIRST": str(number), "REFUSE_LOG": str(log)}
             done = subprocess.run([*self.program, *line.split(" ")], cwd=folder, env=settings, input=self.given,
                                   capture_output=True, timeout=SECONDS)
-            refused = log.is_file() and log.read_text().split()[1] != "0"
-            return Ended(done.returncode, done.stdout, done.stderr, files_in(folder)), refused
+            return Ended(done.returncode, done.stdout, done.stderr, files_in(folder, self.loose)), log.is_file()
 
     def each(self, line, is_refusal):
         """Refuses each allocation of a command. Returns how many runs there were, and what is wrong."""
         whole, _ = self.run(line, 0)
-        before, wrong, runs = files_in(self.start), [], 0
+        before, wrong, runs = files_in(self.start, self.loose), [], 0
         with ThreadPoolExecutor(cpu_count()) as pool:
             for first in range(1, MOST, 64):
                 ends = list(pool.map(lambda it: (it, *self.run(line, it)), range(first, first + 64)))
                 refused = [(number, end) for number, end, was in ends if was]
                 runs += len(refused)
                 wrong += [f"{line}: allocation {number}: {end.status} {(end.printed + end.errors)[:200]!r}"
-                          for number, end in refused if end != whole and not is_refusal(end, before)]
+                          for number, end in refused if end != whole and not is_refusal(end, before, whole)]
                 if len(refused) < len(ends):
                     break
         if whole.status != 0:
@@ -98,25 +105,28 @@ def built(folder):
     return shim
 
 
-def of_tool(end, before):
+def of_tool(end, before, _):
     """The tool reports fault 60, with status 1, and leaves each file as it was."""
     lines = [b"fault 60", *(b"fault 60 round %d in round" % it for it in range(8))]
     return end.status == 1 and end.printed.rstrip(b"\n") in lines and end.files == before
 
 
-def of_zimgasol(end, before):
-    """`zimgasol` says that memory was refused, with status 3, and leaves each file as it was."""
-    return end.status == 3 and end.errors.endswith(b": no memory\n") and end.files == before
+def of_zimgasol(end, before, whole):
+    """`zimgasol` ends with status 3 and a message. A file that wasn't there before is complete, or is named `.partial`."""
+    is_told = re.fullmatch(rb"[^\n]*: (no memory|out of memory|is no list of blocks that `extract` wrote)\n", end.errors)
+    known = {*before, *whole.files}
+    return (end.status == 3 and is_told is not None and {*before} <= {*end.files}
+            and all((name, data) in known or ".partial" in name for name, data in end.files))
 
 
 def play_commands(program, shim, start, lines, is_refusal, given=b""):
     """Plays commands one after another: each begins with the files that those before it left."""
     runs, wrong = 0, []
     for line in lines:
-        count, found = Refusing(program, shim, start, given).each(line, is_refusal)
+        loose = LOOSE if line.startswith("send") and "--channels" in line else ()
+        count, found = Refusing(program, shim, start, given, loose).each(line, is_refusal)
         runs, wrong = runs + count, wrong + found
-        if not found:
-            subprocess.run([*program, *line.split(" ")], cwd=start, input=given, stdout=subprocess.DEVNULL, check=True)
+        subprocess.run([*program, *line.split(" ")], cwd=start, input=given, stdout=subprocess.DEVNULL, check=False)
     return runs, wrong
 
 
@@ -144,7 +154,7 @@ def rows_run(program, shim, folder, names, first, every):
         settings = {"LD_PRELOAD": str(shim), "REFUSE_FIRST": str(first), "REFUSE_EVERY": str(every), "REFUSE_LOG": str(log)}
         done = subprocess.run([*program, *names], cwd=folder, env=settings, stdin=subprocess.DEVNULL,
                               stdout=subprocess.PIPE, stderr=subprocess.STDOUT, timeout=SECONDS)
-        return done.stdout, int(log.read_text().split()[1])
+        return done.stdout, log.stat().st_size if log.is_file() else 0
 
 
 def play_rows(program, shim, folder):

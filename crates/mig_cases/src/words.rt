@@ -1,5 +1,6 @@
 //! The words of a line: numbers, ranges, offsets of pages, and bytes.
 
+use crate::again;
 use crate::trouble::{Done, Trouble};
 use std::alloc::Global;
 
@@ -85,7 +86,7 @@ fn repeated(word: &str) -> Result<(&str, u64), Trouble> {
 // Appends the bytes of a word such as `7e0001` or `00*40`.
 fn add_bytes(alloc: Global, bytes: &mut Vec<u8>, word: &str) -> Done {
     let (digits, times) = repeated(word)?;
-    let Ok(piece) = hex::decode(alloc, digits) else {
+    let Ok(piece) = again!(hex::decode(alloc, digits)) else {
         return Err(Trouble::Line);
     };
     for _ in 0..times {

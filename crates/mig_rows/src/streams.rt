@@ -3,7 +3,9 @@
 use crate::show::{put_loaded, put_records, put_stream_state};
 use mig_cases::{Case, Done, Trouble, again, agree, put_fed, put_table};
 use mig_mem::{MAX_TOTAL, is_page_size};
-use mig_single_load::{LoadSettings, SingleLoader, load_single, load_single_in, single_closed_at};
+use mig_single_load::{
+    FeedFault, LoadSettings, SingleLoader, load_single, load_single_in, single_closed_at,
+};
 use mig_stream::{Frame, Mode, StreamReader, StreamRound, StreamState};
 use std::alloc::Global;
 
@@ -60,12 +62,25 @@ fn closed_in_pieces(out: &mut String, case: &Case, text: &[u8], len: usize) -> D
     let settings = LoadSettings::new(case.page_size, case.limit).with_frame(frame_of(case));
     let mut loader = SingleLoader::new_in(case.alloc, settings);
     for piece in text.chunks(len.max(1)) {
+        feed_loader(&mut loader, piece)?;
+    }
+    put_place_closed(out, loader.closed_at())
+}
+
+// Feeds a piece to a loader, unless it has ended or the stream is too long. A piece that was refused
+// is fed again, and what waits for the guest's memory is settled.
+fn feed_loader(loader: &mut SingleLoader, piece: &[u8]) -> Done {
+    for _ in 0..2 {
         if loader.ended() || loader.fed() > MAX_TOTAL || piece.len() as u64 > MAX_TOTAL {
             return Err(Trouble::Line);
         }
-        again!(loader.feed(piece)).ok().ok_or(Trouble::NoMemory)?;
+        match loader.feed(piece) {
+            Ok(()) => return Ok(()),
+            Err(FeedFault::NoMemory) => {}
+            Err(FeedFault::NoGuestMemory) => return Ok(loader.settle()?),
+        }
     }
-    put_place_closed(out, loader.closed_at())
+    Err(Trouble::NoMemory)
 }
 
 // Writes the length of a stream, or `none`.
