@@ -35,38 +35,35 @@ fn sent<A: Allocator + Copy>(alloc: A, blocks: &[&[u8]]) -> Option<Vec<u8, A>> {
     sender.finish().ok()
 }
 
-fn holds<A: Allocator>(memory: &Memory<A>, place: Place, bytes: &[u8]) -> bool {
-    match memory.page(place) {
-        Some(content) => content == bytes,
-        None => false,
+// Returns the memory that a stream of three sections is loaded into.
+fn loaded<A: Allocator + Copy>(alloc: A, stream: &[u8]) -> Option<Memory<A>> {
+    let loaded = load_single(alloc, PAGE_SIZE_4K, stream, 1 << 20);
+    if loaded.verdict != Ok(()) || loaded.rounds != 3 {
+        return None;
     }
+    loaded.memory
+}
+
+// Returns whether a memory has these bytes in its pages, one page after another.
+fn has_pages<A: Allocator>(memory: &Memory<A>, blocks: [&[u8]; 3]) -> bool {
+    for (place, bytes) in PLACES.iter().zip(blocks) {
+        if memory.page(*place) != Some(bytes) {
+            return false;
+        }
+    }
+    true
 }
 
 // Returns whether all pages of a guest are loaded as they were sent in one round.
-fn is_loaded<A: Allocator + Copy>(alloc: A) -> Option<bool> {
+fn is_sent_and_loaded<A: Allocator + Copy>(alloc: A) -> Option<bool> {
     let first = [7; 4096];
     let mut second = [0; 8192];
     second[4100] = 9;
-    let text = sent(alloc, &[&first, &second])?;
-    let loaded = load_single(alloc, PAGE_SIZE_4K, &text, 1 << 20);
-    let memory = loaded.memory?;
-    let is_same = holds(&memory, PLACES[0], &first)
-        && holds(&memory, PLACES[1], &second[..4096])
-        && holds(&memory, PLACES[2], &second[4096..]);
-    Some(loaded.verdict == Ok(()) && loaded.rounds == 3 && is_same)
+    let memory = loaded(alloc, &sent(alloc, &[&first, &second])?)?;
+    Some(has_pages(&memory, [&first, &second[..4096], &second[4096..]]))
 }
 
 #[test]
 fn lent_and_loaded(rt: HostRuntime) {
-    assert!(rt; is_loaded(rt.alloc()) == Some(true));
-}
-
-// Slices that don't fit the table aren't taken.
-#[test]
-fn slices_that_do_not_fit(rt: HostRuntime) {
-    let table = table(rt.alloc()).expect(&rt, "a table");
-    let page = [1; 4096];
-    assert!(rt; LentMemory::new(&table, &[&page]).is_none());
-    assert!(rt; LentMemory::new(&table, &[&page, &page]).is_none());
-    assert!(rt; LentMemory::new(&table, &[&page, &page, &page]).is_none());
+    assert!(rt; is_sent_and_loaded(rt.alloc()) == Some(true));
 }

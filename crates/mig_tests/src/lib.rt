@@ -1,15 +1,12 @@
-//! Tests of the stream and of the whole path, from senders to loads: each call that allocates with
-//! its allocations refused, the state after a refused round, and the messages of faults.
+//! Tests of the stream and of the complete path, from senders to loads: what is held while a guest
+//! is sent and loaded in pieces, sections that wait for the guest's memory, and one example each of
+//! calls that no other test and no program makes.
 //!
 //! The worked examples are cases of `mig_rows`.
 #![tactic(auto)]
 
 #[cfg(test)]
 mod building;
-#[cfg(test)]
-mod configured;
-#[cfg(test)]
-mod framed;
 #[cfg(test)]
 mod in_place;
 #[cfg(test)]
@@ -19,28 +16,14 @@ mod open_senders;
 #[cfg(test)]
 mod parts;
 #[cfg(test)]
-mod pauses;
-#[cfg(test)]
 mod pieces;
 #[cfg(test)]
 mod records;
-#[cfg(test)]
-mod refused;
-#[cfg(test)]
-mod refused_parts;
-#[cfg(test)]
-mod rounds;
-#[cfg(test)]
-mod sender;
-#[cfg(test)]
-mod streams;
 #[cfg(test)]
 mod texts;
 #[cfg(test)]
 mod valid;
 #[cfg(test)]
 mod waiting;
-#[cfg(test)]
-mod wanted;
 #[cfg(test)]
 mod wanted_in_place;

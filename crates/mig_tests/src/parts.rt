@@ -38,48 +38,22 @@ pub(crate) fn all_of<A: Allocator + Copy, B: Allocator>(
     let mut dirty = Dirty::none(alloc, table).ok()?;
     for block in 0..table.len() {
         for page in 0..table.pages(block) {
-            mark(&mut dirty, Place { block, page })?;
+            let place = Place { block, page };
+            if !dirty.table().holds(place) {
+                return None;
+            }
+            dirty.mark(place).ok()?;
         }
     }
     Some(dirty)
 }
 
-// Marks a page, if the table has it.
-fn mark<A: Allocator>(dirty: &mut Dirty<A>, place: Place) -> Option<()> {
-    if !dirty.table().holds(place) {
-        return None;
-    }
-    dirty.mark(place).ok()?;
-    Some(())
-}
-
-// Removes the mark of a page, if the table has it.
-fn unmark<A: Allocator>(dirty: &mut Dirty<A>, place: Place) {
-    if dirty.table().holds(place) {
-        dirty.unmark(place);
-    }
-}
-
-// Moves the first `most` marks of a set to another set, whose marks they replace.
-fn move_some<A: Allocator>(from: &mut Dirty<A>, to: &mut Dirty<A>, most: u64) -> Option<()> {
-    to.clear();
-    for _ in 0..most {
-        let Some(place) = from.first_from(FIRST) else {
-            break;
-        };
-        unmark(from, place);
-        mark(to, place)?;
-    }
-    Some(())
-}
-
-/// Feeds bytes in pieces of `len` bytes. None if the loader can't take them.
-pub(crate) fn feed<A: Allocator + Copy, M: GuestTarget>(
+// Feeds bytes in pieces. None if the loader can't take them.
+fn feed<A: Allocator + Copy, M: GuestTarget>(
     loader: &mut InPlaceLoader<A, M>,
     bytes: &[u8],
-    len: usize,
 ) -> Option<()> {
-    for piece in bytes.chunks(len.max(1)) {
+    for piece in bytes.chunks(PIECE) {
         if loader.ended() || loader.fed() > MAX_TOTAL || piece.len() as u64 > MAX_TOTAL {
             return None;
         }
@@ -88,12 +62,8 @@ pub(crate) fn feed<A: Allocator + Copy, M: GuestTarget>(
     Some(())
 }
 
-/// Adds a page to a round. `put_page` requires a place and the bytes of a page.
-pub(crate) fn put<A: Allocator>(
-    round: &mut OpenRound<A>,
-    place: Place,
-    bytes: &[u8],
-) -> Option<()> {
+// Adds a page to a round. `put_page` requires a place and the bytes of a page.
+fn put<A: Allocator>(round: &mut OpenRound<A>, place: Place, bytes: &[u8]) -> Option<()> {
     let table = round.table();
     if !table.holds(place) || bytes.len() as u64 != table.page_size() {
         return None;
@@ -101,76 +71,50 @@ pub(crate) fn put<A: Allocator>(
     round.put_page(place, bytes).ok()
 }
 
-// Sends the marked pages of a guest page by page.
-fn send_by_pages<A: Allocator, B: Allocator>(
+// Sends the first `most` marked pages from a place on, page by page. Returns the next one, too.
+fn send_part<A: Allocator, B: Allocator>(
     sender: SingleSender<A>,
     guest: &LentMemory<'_, B>,
     dirty: &Dirty<A>,
-) -> Option<SingleSender<A>> {
+    from: Place,
+    most: u64,
+) -> Option<(SingleSender<A>, Option<Place>)> {
     let mut round = sender.begin_round().ok()?;
-    let mut from = FIRST;
-    for _ in 0..dirty.count() {
-        let place = dirty.first_from(from)?;
+    let mut next = Some(from);
+    for _ in 0..most {
+        let Some(place) = next else {
+            break;
+        };
         put(&mut round, place, guest.page(place)?)?;
-        from = Place {
+        next = dirty.first_from(Place {
             block: place.block,
             page: place.page.saturating_add(1),
-        };
+        });
     }
-    round.end_round().ok()
+    Some((round.end_round().ok()?, next))
 }
 
-// Sends the marked pages of a guest as one round.
-fn send_part<A: Allocator, B: Allocator>(
-    mut sender: SingleSender<A>,
-    guest: &LentMemory<'_, B>,
-    dirty: &Dirty<A>,
-    is_by_pages: bool,
-) -> Option<SingleSender<A>> {
-    if is_by_pages {
-        return send_by_pages(sender, guest, dirty);
-    }
-    sender.round(guest, dirty).ok()?;
-    Some(sender)
-}
-
-// Sends the marked pages of a guest, and feeds what this adds to the stream. It passes through
-// `bytes`.
-fn send_and_feed<A: Allocator + Copy, B: Allocator, M: GuestTarget>(
-    sender: SingleSender<A>,
-    guest: &LentMemory<'_, B>,
-    dirty: &Dirty<A>,
-    is_by_pages: bool,
-    bytes: &mut Vec<u8, A>,
-    loader: &mut InPlaceLoader<A, M>,
-) -> Option<SingleSender<A>> {
-    let mut sender = send_part(sender, guest, dirty, is_by_pages)?;
-    sender.drain_into(bytes);
-    feed(loader, bytes, PIECE)?;
-    Some(sender)
-}
-
-/// Sends the marked pages of a guest in parts of at most `most` pages, every second one page by
-/// page. The bytes that each part adds to the stream are drained into one buffer and fed, and so is
-/// the rest.
+/// Sends the marked pages of a guest in parts of at most `most` pages. The bytes that each part
+/// adds to the stream are drained into one buffer and fed, and so is the rest.
 pub(crate) fn send<A: Allocator + Copy, B: Allocator, M: GuestTarget>(
     alloc: A,
     guest: &LentMemory<'_, B>,
-    mut dirty: Dirty<A>,
+    dirty: Dirty<A>,
     most: u64,
     loader: &mut InPlaceLoader<A, M>,
 ) -> Option<()> {
     let mut sender = SingleSender::new(alloc, guest.table()).ok()?;
-    let mut part = Dirty::none(alloc, guest.table()).ok()?;
     let mut bytes = Vec::new(alloc);
-    let mut is_by_pages = false;
+    let mut next = dirty.first_from(FIRST);
     for _ in 0..dirty.count() {
-        move_some(&mut dirty, &mut part, most)?;
-        if part.count() == 0 {
+        let Some(from) = next else {
             break;
-        }
-        sender = send_and_feed(sender, guest, &part, is_by_pages, &mut bytes, loader)?;
-        is_by_pages = !is_by_pages;
+        };
+        let (sent, left) = send_part(sender, guest, &dirty, from, most)?;
+        sender = sent;
+        next = left;
+        sender.drain_into(&mut bytes);
+        feed(loader, &bytes)?;
     }
-    feed(loader, &sender.finish().ok()?, PIECE)
+    feed(loader, &sender.finish().ok()?)
 }
