@@ -1,6 +1,6 @@
 //! Tests of the load of several channels in place. Its answers are those of a `Session` that is fed
 //! the same bytes, in any pieces and any order of the sources. When it is done the memory is the
-//! session's.
+//! guest's.
 #![tactic(auto)]
 
 #[cfg(test)]
@@ -14,14 +14,6 @@ mod framed;
 #[cfg(test)]
 mod held;
 #[cfg(test)]
-mod places;
-#[cfg(test)]
-mod refused;
-#[cfg(test)]
 mod texts;
 #[cfg(test)]
 mod turning;
-#[cfg(test)]
-mod waiting;
-#[cfg(test)]
-mod within;

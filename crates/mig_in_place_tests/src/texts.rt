@@ -1,7 +1,7 @@
 //! Streams of complete migrations, made by hand: the UUID is zeros, pages have 4096 bytes, and the
 //! only block is `a`.
 
-use mig_fixtures::{put_page_and_zeros, table};
+use mig_fixtures::table;
 use mig_packet::{hello, put_packet};
 use mig_send::Sent;
 use mig_session::Source;
@@ -15,38 +15,51 @@ use uuid::Uuid;
 /// Returns the main stream of `pages` pages and `rounds` rounds.
 pub(crate) fn main_of(rt: &(impl AllocGlobal + Abort), pages: u64, rounds: u64) -> Vec<u8> {
     let table = table(rt.alloc(), &[("a", pages)]).expect(rt, "a table");
-    let Ok(mut writer) = StreamWriter::new(rt.alloc(), &table) else {
-        panic!(rt; "memory")
-    };
+    let mut writer = StreamWriter::new(rt.alloc(), &table)
+        .ok()
+        .expect(rt, "a writer");
     for _ in 0..rounds {
         assert!(rt; writer.flush_part().is_ok());
     }
-    let Ok(text) = writer.finish() else {
-        panic!(rt; "memory")
+    writer.finish().ok().expect(rt, "a stream")
+}
+
+/// What a packet has: a page that is filled with a byte, a page as zeros, or SYNC and no page.
+#[derive(Clone, Copy)]
+pub(crate) enum Part {
+    Page(u64, u8),
+    Zeros(u64),
+    Sync,
+}
+
+// Appends a packet.
+fn put(text: &mut Vec<u8>, number: u64, part: Part) -> bool {
+    let put = match part {
+        Part::Page(page, byte) => {
+            let contents = [byte; 4096];
+            let normal = [page.wrapping_mul(4096)];
+            put_packet(4096, text, number, false, b"a", &normal, &contents, &[])
+        }
+        Part::Zeros(page) => {
+            let zero = [page.wrapping_mul(4096)];
+            put_packet(4096, text, number, false, b"a", &[], &[], &zero)
+        }
+        Part::Sync => put_packet(4096, text, number, true, &[], &[], &[], &[]),
     };
+    put.is_ok()
+}
+
+/// Returns a channel: a hello with this id, and packets, each with its number.
+pub(crate) fn channel_of(
+    rt: &(impl AllocGlobal + Abort),
+    id: u8,
+    packets: &[(u64, Part)],
+) -> Vec<u8> {
+    let mut text = Vec::from_slice(rt.alloc(), &hello(&Uuid::nil(), id)).expect(rt, "a hello");
+    for (number, part) in packets {
+        assert!(rt; put(&mut text, *number, *part));
+    }
     text
-}
-
-/// Returns a channel with a hello and no packets.
-pub(crate) fn hello_of(rt: &(impl AllocGlobal + Abort), id: u8) -> Vec<u8> {
-    Vec::from_slice(rt.alloc(), &hello(&Uuid::nil(), id)).expect(rt, "a hello")
-}
-
-/// Appends a packet of one page, filled with this byte.
-pub(crate) fn put_page(rt: &impl Abort, text: &mut Vec<u8>, number: u64, page: u64, byte: u8) {
-    let contents = [byte; 4096];
-    let normal = [page.wrapping_mul(4096)];
-    assert!(rt; put_packet(4096, text, number, false, b"a", &normal, &contents, &[]).is_ok());
-}
-
-/// Appends a packet of page 0 as zeros.
-pub(crate) fn put_zeros(rt: &impl Abort, text: &mut Vec<u8>, number: u64) {
-    assert!(rt; put_packet(4096, text, number, false, b"a", &[], &[], &[0]).is_ok());
-}
-
-/// Appends a SYNC packet without pages.
-pub(crate) fn put_sync(rt: &impl Abort, text: &mut Vec<u8>, number: u64) {
-    assert!(rt; put_packet(4096, text, number, true, &[], &[], &[], &[]).is_ok());
 }
 
 // ---- streams of all sources
@@ -58,131 +71,44 @@ pub(crate) fn one(rt: &(impl AllocGlobal + Abort), main: Vec<u8>, channel: Vec<u
     Sent { main, channels }
 }
 
-/// Returns the streams of two channels.
-pub(crate) fn two(
-    rt: &(impl AllocGlobal + Abort),
-    main: Vec<u8>,
-    first: Vec<u8>,
-    second: Vec<u8>,
-) -> Sent {
-    let mut texts = one(rt, main, first);
-    assert!(rt; texts.channels.push(second).is_ok());
-    texts
+/// Returns one round of two pages on one channel: page 0 as zeros, and page 1 filled with 9. The
+/// main stream has 101 bytes.
+pub(crate) fn nines_and_zeros(rt: &(impl AllocGlobal + Abort)) -> Sent {
+    let packets = [(0, Part::Page(1, 9)), (1, Part::Zeros(0)), (2, Part::Sync)];
+    one(rt, main_of(rt, 2, 1), channel_of(rt, 0, &packets))
 }
 
-/// Returns one round of two pages on one channel: page 0 as zeros, and page 1 with the first byte
-/// 9. The main stream has its table in its first 43 bytes, and its round is complete with byte 69.
-/// The channel's last packet has 1344 bytes.
-pub(crate) fn page_and_zeros(rt: &(impl AllocGlobal + Abort)) -> Sent {
-    let mut channel = hello_of(rt, 0);
-    assert!(rt; put_page_and_zeros(&mut channel).is_ok());
-    put_sync(rt, &mut channel, 1);
-    let main = main_of(rt, 2, 1);
-    assert!(rt; main.len() == 101 && channel.len() == 6848);
-    one(rt, main, channel)
-}
-
-/// Returns two rounds of the only page on one channel: filled with 7, and then zeros.
+/// Returns two rounds of the only page on two channels: filled with 7, and then zeros. One channel
+/// has the page of the first round, the other has the page of the second. A hello has 64 bytes, a
+/// packet with a filled page 5440, and each other packet 1344. The main stream has 127 bytes.
 pub(crate) fn sevens_then_zeros(rt: &(impl AllocGlobal + Abort)) -> Sent {
-    let mut channel = hello_of(rt, 0);
-    put_page(rt, &mut channel, 0, 0, 7);
-    put_sync(rt, &mut channel, 1);
-    put_zeros(rt, &mut channel, 2);
-    put_sync(rt, &mut channel, 3);
-    one(rt, main_of(rt, 1, 2), channel)
+    let first = [(0, Part::Page(0, 7)), (1, Part::Sync), (3, Part::Sync)];
+    let second = [(2, Part::Sync), (4, Part::Zeros(0)), (5, Part::Sync)];
+    let mut sent = one(rt, main_of(rt, 1, 2), channel_of(rt, 0, &first));
+    assert!(rt; sent.channels.push(channel_of(rt, 1, &second)).is_ok());
+    sent
 }
 
-/// Returns these rounds on two channels: one has the page of the first round, the other has the
-/// page of the second.
-pub(crate) fn sevens_then_zeros_on_two(rt: &(impl AllocGlobal + Abort)) -> Sent {
-    let mut first = hello_of(rt, 0);
-    put_page(rt, &mut first, 0, 0, 7);
-    put_sync(rt, &mut first, 1);
-    put_sync(rt, &mut first, 3);
-    let mut second = hello_of(rt, 1);
-    put_sync(rt, &mut second, 2);
-    put_zeros(rt, &mut second, 4);
-    put_sync(rt, &mut second, 5);
-    two(rt, main_of(rt, 1, 2), first, second)
-}
-
-// Appends packet 0, of 128 pages, each filled with 7.
-fn put_sevens(rt: &(impl AllocGlobal + Abort), text: &mut Vec<u8>) {
-    let mut offsets = Vec::new(rt.alloc());
-    for page in 0..128u64 {
-        assert!(rt; offsets.push(page * 4096).is_ok());
-    }
-    let mut pages = Vec::new(rt.alloc());
-    assert!(rt; pages.resize(128 * 4096, 7u8).is_ok());
-    assert!(rt; offsets.len() == 128 && pages.len() == 128 * 4096);
-    assert!(rt; put_packet(4096, text, 0, false, b"a", &offsets, &pages, &[]).is_ok());
-}
-
-/// Returns one round of 129 pages, each filled with 7, on two channels: one has 128 of them, the
-/// other has the last. The main stream's round is complete with byte 69.
-pub(crate) fn sevens_on_two(rt: &(impl AllocGlobal + Abort)) -> Sent {
-    let mut first = hello_of(rt, 0);
-    put_sevens(rt, &mut first);
-    put_sync(rt, &mut first, 2);
-    let mut second = hello_of(rt, 1);
-    put_page(rt, &mut second, 1, 128, 7);
-    put_sync(rt, &mut second, 3);
-    two(rt, main_of(rt, 129, 1), first, second)
-}
-
-/// Returns one round without pages on two channels.
-pub(crate) fn syncs_on_two(rt: &(impl AllocGlobal + Abort)) -> Sent {
-    let mut first = hello_of(rt, 0);
-    put_sync(rt, &mut first, 0);
-    let mut second = hello_of(rt, 1);
-    put_sync(rt, &mut second, 1);
-    two(rt, main_of(rt, 1, 1), first, second)
-}
-
-// ---- changed streams
-
-/// Returns the bytes of a source's stream.
-pub(crate) fn bytes_of<'a>(
-    rt: &impl Abort,
-    texts: &'a mut Sent,
-    source: Source,
-) -> &'a mut Vec<u8> {
+/// Returns the stream of a source.
+pub(crate) fn text_of<'a>(rt: &impl Abort, sent: &'a Sent, source: Source) -> &'a [u8] {
     match source {
-        Source::Main => &mut texts.main,
-        Source::Channel(j) => texts.channels.get_mut(j).expect(rt, "a channel"),
+        Source::Main => &sent.main,
+        Source::Channel(j) => sent.channels.get(j).expect(rt, "a channel"),
     }
 }
 
 /// Returns the streams with a byte of a source changed.
 pub(crate) fn with_byte(
     rt: &impl Abort,
-    mut texts: Sent,
+    mut sent: Sent,
     source: Source,
     at: usize,
     byte: u8,
 ) -> Sent {
-    *bytes_of(rt, &mut texts, source)
-        .get_mut(at)
-        .expect(rt, "a byte") = byte;
-    texts
-}
-
-/// Returns the streams with some bits of a byte of a source flipped.
-pub(crate) fn spoiled(rt: &impl Abort, mut texts: Sent, source: Source, at: usize) -> Sent {
-    let byte = *bytes_of(rt, &mut texts, source)
-        .get(at)
-        .expect(rt, "a byte");
-    with_byte(rt, texts, source, at, byte ^ 0x21)
-}
-
-/// Returns the streams with a source that ends early.
-pub(crate) fn cut(rt: &impl Abort, mut texts: Sent, source: Source, len: usize) -> Sent {
-    bytes_of(rt, &mut texts, source).truncate(len);
-    texts
-}
-
-/// Returns the streams with channel `j` replaced.
-pub(crate) fn with_channel(rt: &impl Abort, mut texts: Sent, j: usize, channel: Vec<u8>) -> Sent {
-    *texts.channels.get_mut(j).expect(rt, "a channel") = channel;
-    texts
+    let text = match source {
+        Source::Main => &mut sent.main,
+        Source::Channel(j) => sent.channels.get_mut(j).expect(rt, "a channel"),
+    };
+    *text.get_mut(at).expect(rt, "a byte") = byte;
+    sent
 }
