@@ -1,12 +1,10 @@
-//! The deal: numbers drawn in turn by one thread, by 255 threads at once, and by threads that share
-//! it in an `Arc`; and its allocations refused.
+//! The deal: numbers drawn in turn by one thread, and by 255 threads at once, of a deal in an `Arc`.
 
 ghost use Rattle.std.specs.Prelude.{◌≡◌, ◌+◌, ◌<◌, ◌≤◌, [], All, vec_len, vec_capacity};
 
 use crate::workers::{Hall, gather, put, seat_all, work_all};
-use mig_deal::{Deal, Drawn, NoMemory, Seat, Spent};
-use mig_fixtures::TestHeap;
-use std::alloc::{AllocGlobal, Allocator};
+use mig_deal::{Deal, Drawn, Seat, Spent};
+use std::alloc::AllocGlobal;
 use std::process::Abort;
 use std::sync::Arc;
 use std::sync::atomic::{AtomicU64, Ordering};
@@ -25,39 +23,29 @@ pub(crate) fn room(rt: &(impl AllocGlobal + Abort), count: usize) -> Vec<Spent>
 }
 
 // Draws a number that has to be this one, and work.
-fn draw_work<A: Allocator>(rt: &impl Abort, deal: &Deal<A>, seat: Seat, number: u64) -> Seat
+fn draw_work(rt: &impl Abort, deal: &Deal, seat: Seat, number: u64) -> Seat
     requires { seat.deal ≡ deal.now }
     ensures { result.deal ≡ deal.now }
 {
     match deal.draw(seat) {
-        Drawn::Work(drawn, seat) => {
-            assert_eq!(rt; drawn, number);
-            seat
-        }
-        Drawn::Last(drawn, _spent) => panic!(rt; "{drawn} is no work"),
+        Drawn::Work(drawn, seat) if drawn == number => seat,
+        _ => panic!(rt; "it isn't {number}, and work"),
     }
 }
 
 // Draws a number that has to be this one, and the seat's last.
-fn draw_last<A: Allocator>(rt: &impl Abort, deal: &Deal<A>, seat: Seat, number: u64) -> Spent
+fn draw_last(rt: &impl Abort, deal: &Deal, seat: Seat, number: u64) -> Spent
     requires { seat.deal ≡ deal.now }
     ensures { result.deal ≡ deal.now }
 {
     match deal.draw(seat) {
-        Drawn::Last(drawn, spent) => {
-            assert_eq!(rt; drawn, number);
-            spent
-        }
-        Drawn::Work(drawn, _seat) => panic!(rt; "{drawn} is work"),
+        Drawn::Last(drawn, spent) if drawn == number => spent,
+        _ => panic!(rt; "it isn't {number}, and the last one"),
     }
 }
 
 // Seat a draws 5 as work, seat b draws 6 as its last number, and seat a 7.
-fn play<A: Allocator>(
-    rt: &(impl AllocGlobal + Abort),
-    deal: &Deal<A>,
-    mut seats: Vec<Seat, A>,
-) -> Vec<Spent>
+fn play(rt: &(impl AllocGlobal + Abort), deal: &Deal, mut seats: Vec<Seat>) -> Vec<Spent>
     requires own { All (λ seat. seat.deal ≡ deal.now) seats.items }
     requires both { vec_len seats ≡ 2 }
     ensures own { All (λ spent. spent.deal ≡ deal.now) result.items }
@@ -77,34 +65,13 @@ fn play<A: Allocator>(
     spents
 }
 
-// The seats draw in another order than they were made in.
 #[test]
-fn three_seats_and_no_batch(rt: HostRuntime) {
-    let Ok((deal, mut seats)) = Deal::new(rt.alloc(), 0, 0, 3) else {
+fn two_seats_and_one_batch(rt: HostRuntime) {
+    let Ok((deal, seats)) = Deal::new(rt.alloc(), 5, 1, 2) else {
         panic!(rt; "memory")
     };
-    let Some(c) = seats.pop() else {
-        panic!(rt; "a seat")
-    };
-    let Some(b) = seats.pop() else {
-        panic!(rt; "a seat")
-    };
-    let Some(a) = seats.pop() else {
-        panic!(rt; "a seat")
-    };
-    seats.destroy_empty();
-    let mut spents = room(&rt, 3);
-    put(&mut spents, draw_last(&rt, &deal, b, 0));
-    put(&mut spents, draw_last(&rt, &deal, c, 1));
-    put(&mut spents, draw_last(&rt, &deal, a, 2));
-    let next = deal.close(spents);
-    assert_eq!(rt; next, 3);
-}
-
-// Returns how many numbers weren't drawn exactly once.
-fn wrong(times: &[AtomicU64]) -> usize {
-    let once = |count: &&AtomicU64| count.load(Ordering::SeqCst) == 1;
-    times.len() - times.iter().filter(once).count()
+    let spents = play(&rt, &deal, seats);
+    assert!(rt; deal.base() == 5 && deal.close(spents) == 8);
 }
 
 // Runs a worker for each seat of a deal, all at once.
@@ -131,23 +98,19 @@ fn draw_on_threads<R: AllocGlobal + Abort + Threads + Sync>(
     spents
 }
 
-// Asserts that all workers drew at once, and each number was drawn once.
-fn assert_drawn(rt: &impl Abort, hall: &Hall) {
-    assert_eq!(rt; hall.alone.load(Ordering::SeqCst), 0);
-    assert_eq!(rt; wrong(&hall.times), 0);
+// Returns whether each number was drawn once.
+fn are_drawn_once(times: &[AtomicU64]) -> bool {
+    for count in times {
+        if count.load(Ordering::SeqCst) != 1 {
+            return false;
+        }
+    }
+    true
 }
 
-#[test]
-fn many_seats_on_threads(rt: HostRuntime) -> Result<(), Fail> {
-    let hall = Hall::new(rt.alloc(), 1255)?;
-    let Ok((deal, seats)) = Deal::new(rt.alloc(), 7, 1000, 255) else {
-        panic!(rt; "memory")
-    };
-    let spents = draw_on_threads(&rt, &deal, seats, &hall);
-    let next = deal.close(spents);
-    assert_eq!(rt; next, 1262);
-    assert_drawn(&rt, &hall);
-    Ok(())
+// Returns whether all workers drew at once, and each number was drawn once.
+fn drew_at_once(hall: &Hall) -> bool {
+    hall.alone.load(Ordering::SeqCst) == 0 && are_drawn_once(&hall.times)
 }
 
 // Gives the deal two owners: the workers draw through the first, and the second returns the end.
@@ -171,7 +134,7 @@ fn end_in_an_arc<R: AllocGlobal + Abort + Threads + Sync>(
     other.end_number(spents)
 }
 
-// The end is the number that `close` returns in `many_seats_on_threads`.
+// The numbers begin with 7, and 1,000 of them claim a batch.
 #[test]
 fn end_of_a_deal_in_an_arc(rt: HostRuntime) -> Result<(), Fail> {
     let hall = Hall::new(rt.alloc(), 1255)?;
@@ -179,31 +142,6 @@ fn end_of_a_deal_in_an_arc(rt: HostRuntime) -> Result<(), Fail> {
         panic!(rt; "memory")
     };
     let next = end_in_an_arc(&rt, deal, seats, &hall);
-    assert_eq!(rt; next, 1262);
-    assert_drawn(&rt, &hall);
+    assert!(rt; next == 1262 && drew_at_once(&hall));
     Ok(())
-}
-
-// A deal's first allocation refused, then its second, until a run has no refusal. There are three:
-// the list of the seats, the block of the word, and the block of the table's slots, which is empty.
-// Drawing and closing allocate nothing.
-#[test]
-fn allocations_refused(rt: HostRuntime) {
-    let heap = TestHeap::new(rt.alloc());
-    for nth in 1..1000u64 {
-        heap.refuse(nth);
-        match Deal::new(&heap, 5, 1, 2) {
-            Err(NoMemory) => assert!(rt; !heap.is_waiting()),
-            Ok((deal, seats)) => {
-                assert_eq!(rt; nth, 4);
-                assert_eq!(rt; deal.base(), 5);
-                let spents = play(&rt, &deal, seats);
-                let next = deal.close(spents);
-                assert_eq!(rt; next, 8);
-                assert!(rt; heap.is_waiting());
-                return;
-            }
-        }
-    }
-    panic!(rt; "each run had a refusal");
 }

@@ -1,5 +1,6 @@
 //! Tests of the deal, of the workers that draw from it, on real threads if they share it, and of
-//! the sender that runs them on several channels, with each allocation refused.
+//! the sender that runs them on several channels: what each worker reports to its gate, and which
+//! workers run at once.
 //!
 //! The worked examples of batches and packets are cases of `mig_rows`.
 #![tactic(auto)]

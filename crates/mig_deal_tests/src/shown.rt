@@ -5,14 +5,16 @@ use crate::batches::{batches_of, memory_of};
 use crate::multi::{finish, sender_on};
 use mig_fixtures::at;
 use mig_send::{SingleSender, pack};
-use std::alloc::AllocGlobal;
+use std::alloc::{AllocGlobal, Global};
 use std::fmt::Debug;
 use std::process::Abort;
 
-// Asserts the `Debug` output of a value.
-fn assert_shown<T: Debug>(rt: &(impl AllocGlobal + Abort), value: &T, wanted: &str) {
-    let shown = format!(in rt.alloc(); "{value:?}").expect(rt, "memory");
-    assert!(rt; shown.as_str() == wanted);
+// Returns whether a value has this `Debug` output.
+fn shows<T: Debug>(alloc: Global, value: &T, wanted: &str) -> bool {
+    match format!(in alloc; "{value:?}") {
+        Ok(shown) => shown.as_str() == wanted,
+        Err(_) => false,
+    }
 }
 
 #[test]
@@ -20,21 +22,34 @@ fn batches_and_packets(rt: HostRuntime) {
     let memory = memory_of(&rt, &[("a", 2)]);
     let batches = batches_of(&rt, memory.table(), &[at(0, 0), at(0, 1)], 64);
     let batch = batches.first().expect(&rt, "a batch");
-    assert_shown(&rt, batch, "Batch { block: 0, pages: [0, 1] }");
+    assert!(rt; shows(rt.alloc(), batch, "Batch { block: 0, pages: [0, 1] }"));
     let packed = pack(rt.alloc(), &memory, batch, 7).expect(&rt, "a packet");
-    assert_shown(&rt, &packed, "Packed { number: 7, .. }");
+    assert!(rt; shows(rt.alloc(), &packed, "Packed { number: 7, .. }"));
+}
+
+fn sender_shows(rt: &(impl AllocGlobal + Abort)) -> bool {
+    let sender = sender_on(rt, 2);
+    shows(rt.alloc(), &sender, "MultiSender { .. }")
+        && shows(rt.alloc(), &finish(rt, sender), "Sent { .. }")
+}
+
+// Returns a sender of a single stream.
+fn single(rt: &(impl AllocGlobal + Abort)) -> SingleSender {
+    let memory = memory_of(rt, &[("a", 2)]);
+    SingleSender::new(rt.alloc(), memory.table()).expect(rt, "a sender")
+}
+
+fn open_round_shows(alloc: Global, sender: SingleSender) -> bool {
+    match sender.begin_round() {
+        Ok(round) => shows(alloc, &round, "OpenRound { .. }"),
+        Err(_) => false,
+    }
 }
 
 #[test]
 fn senders(rt: HostRuntime) {
-    let sender = sender_on(&rt, 2);
-    assert_shown(&rt, &sender, "MultiSender { .. }");
-    assert_shown(&rt, &finish(&rt, sender), "Sent { .. }");
-    let memory = memory_of(&rt, &[("a", 2)]);
-    let sender = SingleSender::new(rt.alloc(), memory.table()).expect(&rt, "a sender");
-    assert_shown(&rt, &sender, "SingleSender { .. }");
-    let Ok(round) = sender.begin_round() else {
-        panic!(rt; "memory")
-    };
-    assert_shown(&rt, &round, "OpenRound { .. }");
+    assert!(rt; sender_shows(&rt));
+    let sender = single(&rt);
+    assert!(rt; shows(rt.alloc(), &sender, "SingleSender { .. }"));
+    assert!(rt; open_round_shows(rt.alloc(), sender));
 }

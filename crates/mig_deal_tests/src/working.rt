@@ -1,13 +1,13 @@
-//! Workers: the packets of a worker that has a deal for itself, the steps that it passes to its
-//! gate, and a refused allocation.
+//! A worker that has a deal for itself: its packets, and the steps that it passes to its gate, also
+//! after a refused allocation.
 
-use crate::alone::{Alone, work_alone};
-use crate::batches::{assert_page_and_zeros, batches_of, memory_of};
-use mig_fixtures::{TestHeap, at};
-use mig_mem::{Memory, NoMemory, Place};
+use crate::alone::work_alone;
+use crate::batches::{batches_of, memory_of};
+use mig_fixtures::{TestHeap, at, put_page_and_zeros};
+use mig_mem::Place;
 use mig_packet::{Gate, Step};
 use mig_send::Packed;
-use std::alloc::{AllocGlobal, Allocator};
+use std::alloc::{AllocGlobal, Global};
 use std::process::Abort;
 use std::sync::atomic::{AtomicU64, Ordering};
 
@@ -23,6 +23,7 @@ pub(crate) struct Told {
 }
 
 impl Told {
+    /// Creates a gate that keeps up to 16 steps.
     pub(crate) fn new(rt: &(impl AllocGlobal + Abort), channel: usize) -> Told {
         let mut steps = Vec::new(rt.alloc());
         for _ in 0..16 {
@@ -35,18 +36,19 @@ impl Told {
         }
     }
 
+    /// Returns how many steps have passed it.
+    pub(crate) fn count(&self) -> u64 {
+        self.count.load(Ordering::SeqCst)
+    }
+
+    /// Returns whether exactly these steps have passed it.
     pub(crate) fn is(&self, wanted: &[u64]) -> bool {
-        if self.count.load(Ordering::SeqCst) != wanted.len() as u64
-            || wanted.len() > self.steps.len()
-        {
-            return false;
-        }
         for (told, step) in self.steps.iter().zip(wanted) {
             if told.load(Ordering::SeqCst) != *step {
                 return false;
             }
         }
-        true
+        self.count() == wanted.len() as u64 && wanted.len() <= self.steps.len()
     }
 }
 
@@ -66,47 +68,38 @@ impl Gate for Told {
     }
 }
 
-// A worker's arguments, and its expected results and steps.
-#[derive(Clone, Copy)]
-struct Run<'a> {
-    base: u64,
-    places: &'a [Place],
-    limit: usize,
-    last: u64,
-    next: u64,
-    steps: &'a [u64],
+// Returns whether packets are one, number 0, with a page and a page of zeros.
+fn are_one(alloc: Global, packets: &[Packed]) -> Option<bool> {
+    let mut wanted = Vec::new(alloc);
+    put_page_and_zeros(&mut wanted).ok()?;
+    let packet = packets.first()?;
+    Some(packets.len() == 1 && packet.number() == 0 && packet.bytes() == wanted.as_slice())
 }
 
-// Runs a worker on the batches of a run's places.
-fn work_on<A: Allocator + Copy>(
-    rt: &(impl AllocGlobal + Abort),
-    alloc: A,
-    memory: &Memory,
-    run: &Run<'_>,
-    gate: &Told,
-) -> Alone<A> {
-    let batches = batches_of(rt, memory.table(), run.places, run.limit);
-    work_alone(rt, alloc, run.base, CHANNEL, memory, &batches, gate)
+#[test]
+fn one_batch(rt: HostRuntime) {
+    let memory = memory_of(&rt, &[("a", 2)]);
+    let batches = batches_of(&rt, memory.table(), &[at(0, 0), at(0, 1)], 128);
+    let gate = Told::new(&rt, CHANNEL);
+    let alone = work_alone(&rt, rt.alloc(), 0, CHANNEL, &memory, &batches, &gate);
+    assert!(rt; alone.last == 1 && alone.next == 2 && gate.is(&[0, 1, 2]));
+    assert!(rt; are_one(rt.alloc(), &alone.packets.expect(&rt, "packets")) == Some(true));
 }
 
-// Returns the packets of a run, whose last number, the number after it and steps are asserted.
-fn packets_of<A: Allocator + Copy>(
-    rt: &(impl AllocGlobal + Abort),
-    alloc: A,
-    memory: &Memory,
-    run: &Run<'_>,
-) -> Result<Vec<Packed<A>, A>, NoMemory> {
-    let gate = Told::new(rt, CHANNEL);
-    let alone = work_on(rt, alloc, memory, run, &gate);
-    assert_eq!(rt; alone.last, run.last);
-    assert_eq!(rt; alone.next, run.next);
-    assert!(rt; gate.is(run.steps));
-    alone.packets
-}
+// Three batches of a page each.
+const PLACES: [Place; 3] = [
+    Place { block: 0, page: 0 },
+    Place { block: 0, page: 2 },
+    Place { block: 1, page: 1 },
+];
+
+// The numbers of their packets, the first bytes of their blocks' ids, and the offsets of their
+// pages in units of 256 bytes.
+const PACKETS: [(u64, u8, u8); 3] = [(7, b'a', 0), (8, b'a', 0x20), (9, b'b', 0x10)];
 
 // Returns whether a packet has this number and one zero page, of a block whose id is this byte, at
 // the offset `offset` * 256.
-fn is_zeros<A: Allocator>(packet: &Packed<A>, number: u64, id: u8, offset: u8) -> bool {
+fn is_zeros(packet: &Packed, number: u64, id: u8, offset: u8) -> bool {
     let bytes = packet.bytes();
     packet.number() == number
         && bytes.len() == 1344
@@ -115,103 +108,36 @@ fn is_zeros<A: Allocator>(packet: &Packed<A>, number: u64, id: u8, offset: u8) -
         && bytes.get(320..328) == Some(&[0, 0, 0, 0, 0, 0, offset, 0][..])
 }
 
-// Returns whether packets have these numbers, ids and offsets, with one zero page each.
-fn are_zeros<A: Allocator>(packets: &[Packed<A>], wanted: &[(u64, u8, u8)]) -> bool {
-    if packets.len() != wanted.len() {
-        return false;
-    }
-    for (packet, (number, id, offset)) in packets.iter().zip(wanted) {
-        if !is_zeros(packet, *number, *id, *offset) {
+// Returns whether packets are those three.
+fn are_packed(packets: &[Packed]) -> bool {
+    for (packet, (number, id, offset)) in packets.iter().zip(PACKETS) {
+        if !is_zeros(packet, number, id, offset) {
             return false;
         }
     }
-    true
-}
-
-#[test]
-fn one_batch(rt: HostRuntime) {
-    let memory = memory_of(&rt, &[("a", 2)]);
-    let places = [at(0, 0), at(0, 1)];
-    let run = Run {
-        base: 0,
-        places: &places,
-        limit: 128,
-        last: 1,
-        next: 2,
-        steps: &[0, 1, 2],
-    };
-    let packets = packets_of(&rt, rt.alloc(), &memory, &run).expect(&rt, "packets");
-    assert!(rt; packets.len() == 1);
-    let packet = packets.first().expect(&rt, "a packet");
-    assert!(rt; packet.number() == 0);
-    assert_page_and_zeros(&rt, packet.bytes());
+    packets.len() == 3
 }
 
 #[test]
 fn batches_of_two_blocks(rt: HostRuntime) {
     let memory = memory_of(&rt, &[("a", 3), ("b", 2)]);
-    let places = [at(0, 0), at(0, 2), at(1, 1)];
-    let run = Run {
-        base: 7,
-        places: &places,
-        limit: 1,
-        last: 10,
-        next: 11,
-        steps: &[14, 15, 16, 17, 18, 19, 20],
-    };
-    let packets = packets_of(&rt, rt.alloc(), &memory, &run).expect(&rt, "packets");
-    assert!(rt; are_zeros(&packets, &[(7, b'a', 0), (8, b'a', 0x20), (9, b'b', 0x10)]));
+    let batches = batches_of(&rt, memory.table(), &PLACES, 1);
+    let gate = Told::new(&rt, CHANNEL);
+    let alone = work_alone(&rt, rt.alloc(), 7, CHANNEL, &memory, &batches, &gate);
+    assert!(rt; alone.last == 10 && alone.next == 11);
+    assert!(rt; gate.is(&[14, 15, 16, 17, 18, 19, 20]));
+    assert!(rt; are_packed(&alone.packets.expect(&rt, "packets")));
 }
 
+// After the allocation of the second packet was refused it continues to draw, and packs no more.
 #[test]
-fn no_batch(rt: HostRuntime) {
-    let memory = memory_of(&rt, &[("a", 2)]);
-    let run = Run {
-        base: 5,
-        places: &[],
-        limit: 128,
-        last: 5,
-        next: 6,
-        steps: &[10],
-    };
-    let packets = packets_of(&rt, rt.alloc(), &memory, &run).expect(&rt, "packets");
-    assert!(rt; packets.is_empty());
-}
-
-// Returns the packets of two batches of a page each, after asserting the worker's steps.
-fn two_packets<'a>(
-    rt: &(impl AllocGlobal + Abort),
-    heap: &'a TestHeap,
-    memory: &Memory,
-    steps: &[u64],
-) -> Result<Vec<Packed<&'a TestHeap>, &'a TestHeap>, NoMemory> {
-    let places = [at(0, 0), at(0, 1)];
-    let run = Run {
-        base: 0,
-        places: &places,
-        limit: 1,
-        last: 2,
-        next: 3,
-        steps,
-    };
-    packets_of(rt, heap, memory, &run)
-}
-
-// A worker takes three allocations for each packet and one for the list of two. After a refused one
-// it continues to draw, and packs no more.
-#[test]
-fn work_with_each_allocation_refused(rt: HostRuntime) {
+fn draws_on_after_a_refusal(rt: HostRuntime) {
     let heap = TestHeap::new(rt.alloc());
-    let memory = memory_of(&rt, &[("a", 2)]);
-    for nth in 1..=7u64 {
-        let steps: &[u64] = if nth < 4 { &[0, 2, 4] } else { &[0, 1, 2, 4] };
-        heap.refuse(nth);
-        let run = two_packets(&rt, &heap, &memory, steps);
-        assert!(rt; !heap.is_waiting());
-        assert!(rt; run.err() == Some(NoMemory));
-    }
-    heap.refuse(8);
-    let packets = two_packets(&rt, &heap, &memory, &[0, 1, 2, 3, 4]).expect(&rt, "packets");
-    assert!(rt; heap.is_waiting());
-    assert!(rt; packets.len() == 2);
+    let memory = memory_of(&rt, &[("a", 3), ("b", 2)]);
+    let batches = batches_of(&rt, memory.table(), &PLACES, 1);
+    let gate = Told::new(&rt, CHANNEL);
+    heap.refuse(5);
+    let alone = work_alone(&rt, &heap, 0, CHANNEL, &memory, &batches, &gate);
+    assert!(rt; alone.last == 3 && alone.next == 4 && alone.packets.is_err());
+    assert!(rt; gate.is(&[0, 1, 2, 4, 6]));
 }
