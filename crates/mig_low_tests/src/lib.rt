@@ -1,6 +1,7 @@
-//! Tests of guest memory, packets and channels: each call that allocates with its allocations
-//! refused, calls that allocate nothing, the gate that does nothing, channels that are read by
-//! pages, and rounds that are judged as they arrive. Also tests of the allocator that refuses.
+//! Tests of guest memory, packets and channels: memories that are compared, and rounds that are
+//! written, by several threads; a round that is judged as it arrives; channels up to where they are
+//! valid, with a limit on what waits, and read by the lengths that they want. Also tests of the
+//! allocator that refuses.
 //!
 //! The worked examples are cases of `mig_rows`.
 #![tactic(auto)]
@@ -13,12 +14,6 @@ mod channel_valid;
 mod compared;
 #[cfg(test)]
 mod heap;
-#[cfg(test)]
-mod lent_mut;
-#[cfg(test)]
-mod memory_refused;
-#[cfg(test)]
-mod packets_refused;
 #[cfg(test)]
 mod pages_read;
 #[cfg(test)]
