@@ -3,14 +3,37 @@
 //!
 //! Loads whose workers pass no gate are cases of `mig_rows`, in `several.txt`.
 
-use crate::load_texts::{
-    assert_done, assert_failed, assert_full, load_behind, main_of, one, syncs_of, two,
-};
 use crate::meeting::{Meeting, reaches};
-use crate::texts::{syncs, two_channels};
+use crate::texts::{LIMIT, is_done, is_failed, main_of, one, syncs, two, two_channels};
 use mig_packet::{Gate, Step};
-use mig_single_load::{Fault, Origin};
+use mig_relay::load_multi;
+use mig_single_load::{Fault, Loaded};
+use std::alloc::AllocGlobal;
+use std::process::Abort;
+use std::sync::Wait;
 use std::sync::atomic::{AtomicU64, Ordering};
+use std::thread::Threads;
+use uuid::Uuid;
+
+// Loads streams with a gate.
+fn load<R: AllocGlobal + Abort + Threads + Wait + Sync, G: Gate + Sync>(
+    rt: &R,
+    main: &[u8],
+    channels: &[Vec<u8>],
+    gate: &G,
+) -> Loaded {
+    assert!(rt; 1 <= channels.len() && channels.len() <= 255);
+    load_multi(
+        rt,
+        rt.alloc(),
+        4096,
+        &Uuid::nil(),
+        main,
+        channels,
+        LIMIT,
+        gate,
+    )
+}
 
 // A gate that counts the items found and those pushed.
 #[derive(Drop)]
@@ -29,6 +52,12 @@ impl Gate for Counting {
     }
 }
 
+impl Counting {
+    fn has_counted(&self, items: u64) -> bool {
+        self.found.load(Ordering::SeqCst) == items && self.pushed.load(Ordering::SeqCst) == items
+    }
+}
+
 // The verdict is reached at the first of 100 rounds. The worker still pushes its hello, the SYNC
 // packets and the stop, and has ended when the load returns.
 #[test]
@@ -37,22 +66,17 @@ fn channel_with_many_rounds_more(rt: HostRuntime) {
         found: AtomicU64::new(0),
         pushed: AtomicU64::new(0),
     };
-    let texts = one(&rt, syncs(&rt, 100));
-    let loaded = load_behind(&rt, &main_of(&rt, 1, 0), &texts, &gate);
-    assert_failed(&rt, &loaded, 0, Origin::Channel(0), Fault::Extra);
-    assert_full(&rt, &loaded, 1, 0);
-    assert!(rt; gate.found.load(Ordering::SeqCst) == 102);
-    assert!(rt; gate.pushed.load(Ordering::SeqCst) == 102);
+    let texts = one(&rt, syncs(&rt, 0, 1, 100));
+    let loaded = load(&rt, &main_of(&rt, 1, 0), &texts, &gate);
+    assert!(rt; is_failed(&loaded, Fault::Extra) && gate.has_counted(102));
 }
 
 // Workers that run in turn don't get through.
 #[test]
 fn two_workers_at_once(rt: HostRuntime) {
     let gate = Meeting::new();
-    let loaded = load_behind(&rt, &main_of(&rt, 129, 1), &two_channels(&rt), &gate);
-    assert_done(&rt, &loaded, 1);
-    assert_full(&rt, &loaded, 129, 7);
-    gate.assert_met(&rt);
+    let loaded = load(&rt, &main_of(&rt, 2, 1), &two_channels(&rt), &gate);
+    assert!(rt; is_done(&loaded, 1, 7) && gate.have_met());
 }
 
 // A gate of two channels: channel 0 waits with its first item until channel 1 has pushed its item
@@ -74,6 +98,12 @@ impl Gate for Lasting {
     }
 }
 
+impl Lasting {
+    fn has_lasted(&self) -> bool {
+        self.pushed.load(Ordering::SeqCst) == 1 && self.given_up.load(Ordering::SeqCst) == 0
+    }
+}
+
 // Item 2 is the SYNC packet of the second round: workers that are started again for each round
 // wouldn't get through.
 #[test]
@@ -82,10 +112,7 @@ fn worker_that_lasts(rt: HostRuntime) {
         pushed: AtomicU64::new(0),
         given_up: AtomicU64::new(0),
     };
-    let texts = two(&rt, syncs_of(&rt, 0, &[0, 2]), syncs_of(&rt, 1, &[1, 3]));
-    let loaded = load_behind(&rt, &main_of(&rt, 1, 2), &texts, &gate);
-    assert_done(&rt, &loaded, 2);
-    assert_full(&rt, &loaded, 1, 0);
-    assert!(rt; gate.pushed.load(Ordering::SeqCst) == 1);
-    assert!(rt; gate.given_up.load(Ordering::SeqCst) == 0);
+    let texts = two(&rt, syncs(&rt, 0, 2, 2), syncs(&rt, 1, 2, 2));
+    let loaded = load(&rt, &main_of(&rt, 1, 2), &texts, &gate);
+    assert!(rt; is_done(&loaded, 2, 0) && gate.has_lasted());
 }

@@ -1,7 +1,6 @@
 //! A gate that one worker alone doesn't pass.
 
 use mig_packet::{Gate, Step};
-use std::process::Abort;
 use std::sync::atomic::{AtomicU64, Ordering};
 use std::thread::yield_now;
 
@@ -34,10 +33,9 @@ impl Meeting {
         }
     }
 
-    /// Asserts that both workers came, and neither gave up.
-    pub(crate) fn assert_met(&self, rt: &impl Abort) {
-        assert!(rt; self.come.load(Ordering::SeqCst) == 3);
-        assert!(rt; self.given_up.load(Ordering::SeqCst) == 0);
+    /// Returns whether both workers came, and neither gave up.
+    pub(crate) fn have_met(&self) -> bool {
+        self.come.load(Ordering::SeqCst) == 3 && self.given_up.load(Ordering::SeqCst) == 0
     }
 }
 

@@ -1,10 +1,25 @@
-//! Assertions on the items that a relay passes on, and steps of its feeders.
+//! A relay as tests make it, steps of its feeders, and the items that it passes on.
 
 use mig_packet::Gate;
-use mig_relay::{ChannelEnd, Collector, Feeder, FeederStep, Item};
-use std::alloc::Allocator;
+use mig_relay::{ChannelEnd, Collector, Feeder, FeederStep, Item, Relay};
+use std::alloc::AllocGlobal;
 use std::process::Abort;
 use std::sync::Wait;
+use uuid::Uuid;
+
+/// The two sides of a relay.
+pub(crate) type Sides<'a> = (Vec<Feeder<'a>>, Collector<'a>);
+
+/// Returns a relay of channels, whose queues have room for `capacity` items.
+pub(crate) fn relay_of<'a>(
+    rt: &(impl AllocGlobal + Abort),
+    texts: &'a [Vec<u8>],
+    capacity: usize,
+) -> Sides<'a> {
+    assert!(rt; 1 <= texts.len() && texts.len() <= 255);
+    assert!(rt; 1 <= capacity && capacity <= 1024);
+    Relay::start(rt.alloc(), 4096, &Uuid::nil(), texts, capacity).expect(rt, "a relay")
+}
 
 /// An item as tests compare it: a packet by its number, and whether it is a SYNC packet.
 #[derive(Clone, Copy, PartialEq, Eq)]
@@ -24,23 +39,22 @@ fn what_is(item: &Item<'_>) -> Seen {
     }
 }
 
-/// Asserts the items that were taken from a channel.
-pub(crate) fn assert_received<A: Allocator>(
-    rt: &impl Abort,
-    collector: &Collector<'_, A>,
-    channel: usize,
-    wanted: &[Seen],
-) {
-    assert!(rt; channel < collector.len());
-    let items = collector.received(channel);
-    assert!(rt; items.len() == wanted.len());
-    for (item, wanted) in items.iter().zip(wanted) {
-        assert!(rt; what_is(item) == *wanted);
+/// Returns whether these are the items that were taken from a channel.
+pub(crate) fn has_received(collector: &Collector<'_>, channel: usize, wanted: &[Seen]) -> bool {
+    if channel >= collector.len() {
+        return false;
     }
+    let items = collector.received(channel);
+    for (item, wanted) in items.iter().zip(wanted) {
+        if what_is(item) != *wanted {
+            return false;
+        }
+    }
+    items.len() == wanted.len()
 }
 
 /// Steps until the stop is pushed.
-pub(crate) fn feed<A: Allocator, R: Wait, G: Gate>(rt: &R, feeder: Feeder<'_, A>, gate: &G) {
+pub(crate) fn feed<R: Wait, G: Gate>(rt: &R, feeder: Feeder<'_>, gate: &G) {
     let mut feeder = feeder;
     for _ in rt.forever() {
         match feeder.step(rt, gate) {
@@ -50,27 +64,31 @@ pub(crate) fn feed<A: Allocator, R: Wait, G: Gate>(rt: &R, feeder: Feeder<'_, A>
     }
 }
 
-/// Takes `count` items of a channel, with ample memory.
-pub(crate) fn take<A: Allocator, R: Wait + Abort>(
+/// Takes `count` items of a channel.
+pub(crate) fn takes<R: Wait>(
     rt: &R,
-    collector: &mut Collector<'_, A>,
+    collector: &mut Collector<'_>,
     channel: usize,
     count: usize,
-) {
+) -> bool {
     for _ in 0..count {
-        assert!(rt; channel < collector.len());
-        assert!(rt; collector.next(rt, channel) == Ok(true));
+        if channel >= collector.len() || collector.next(rt, channel) != Ok(true) {
+            return false;
+        }
     }
+    true
 }
 
-/// Asserts that a channel's stop was taken: each further take returns nothing.
-pub(crate) fn assert_over<A: Allocator, R: Wait + Abort>(
-    rt: &R,
-    collector: &mut Collector<'_, A>,
-    channel: usize,
-) {
-    for _ in 0..2 {
-        assert!(rt; channel < collector.len());
-        assert!(rt; collector.next(rt, channel) == Ok(false));
+/// Returns whether a channel's stop was taken: a further take returns nothing.
+pub(crate) fn is_over<R: Wait>(rt: &R, collector: &mut Collector<'_>, channel: usize) -> bool {
+    if channel >= collector.len() {
+        return false;
     }
+    collector.next(rt, channel) == Ok(false)
+}
+
+/// Drains the first `started` channels.
+pub(crate) fn drain<R: Wait + Abort>(rt: &R, collector: Collector<'_>, started: usize) {
+    assert!(rt; started <= collector.len());
+    collector.drain(rt, started);
 }

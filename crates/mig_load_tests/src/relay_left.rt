@@ -1,81 +1,64 @@
 //! The items that a load and a drain leave in a relay, the capacity of a queue, and the steps at
 //! which a feeder passes its gate.
 
-use crate::load_texts::{LIMIT, assert_failed, assert_full, main_of, one, syncs_of, two};
 use crate::meeting::reaches;
-use crate::pieces::{assert_over, feed, take};
-use crate::texts::syncs;
+use crate::pieces::{drain, feed, is_over, relay_of, takes};
+use crate::texts::{LIMIT, is_failed, main_of, one, syncs, two};
 use mig_packet::{Gate, OpenGate, Step};
-use mig_relay::{Collector, Feeder, FeederStep, Relay, load_relayed};
-use mig_single_load::{Fault, Origin};
+use mig_relay::{Collector, Feeder, FeederStep, load_relayed};
+use mig_single_load::Fault;
 use std::alloc::AllocGlobal;
 use std::process::Abort;
 use std::sync::Wait;
 use std::sync::atomic::{AtomicU64, Ordering};
 use std::thread::{self, Threads, yield_now};
-use uuid::Uuid;
 
-// Pushes a hello and a packet.
-fn step_twice<'a, R: Abort + Wait>(rt: &R, feeder: Feeder<'a>) -> Feeder<'a> {
-    let FeederStep::More(feeder) = feeder.step(rt, &OpenGate) else {
-        panic!(rt; "a hello alone")
-    };
-    let FeederStep::More(feeder) = feeder.step(rt, &OpenGate) else {
-        panic!(rt; "a hello and a packet")
-    };
-    feeder
+// Pushes an item that isn't the stop.
+fn step<'a, R: Abort + Wait>(rt: &R, feeder: Feeder<'a>) -> Feeder<'a> {
+    match feeder.step(rt, &OpenGate) {
+        FeederStep::More(feeder) => feeder,
+        FeederStep::Ended(_) => panic!(rt; "the stop"),
+    }
 }
 
-// Loads a relay beside a main stream without a round.
-fn assert_extra<R: AllocGlobal + Abort + Wait>(rt: &R, collector: &mut Collector<'_>) {
+// Loads a relay beside a main stream without a round. Returns whether there is a round too many.
+fn is_extra<R: AllocGlobal + Abort + Wait>(rt: &R, collector: &mut Collector<'_>) -> bool {
     let loaded = load_relayed(rt, rt.alloc(), collector, &main_of(rt, 1, 0), LIMIT);
-    assert_failed(rt, &loaded, 0, Origin::Channel(0), Fault::Extra);
-    assert_full(rt, &loaded, 1, 0);
+    is_failed(&loaded, Fault::Extra)
 }
 
 // The main stream has no round, so the first SYNC packet decides the load: it doesn't wait for
 // items that are pushed later.
 #[test]
 fn load_takes_no_more_than_it_needs(rt: HostRuntime) {
-    let texts = one(&rt, syncs(&rt, 3));
-    assert!(rt; texts.len() == 1);
-    let made = Relay::start(rt.alloc(), 4096, &Uuid::nil(), texts.as_slice(), 64);
-    let (mut feeders, mut collector) = made.expect(&rt, "a relay");
-    let feeder = step_twice(&rt, feeders.pop().expect(&rt, "a feeder"));
-    assert_extra(&rt, &mut collector);
+    let texts = one(&rt, syncs(&rt, 0, 1, 3));
+    let (mut feeders, mut collector) = relay_of(&rt, &texts, 64);
+    // (the hello and the first SYNC packet)
+    let feeder = step(&rt, step(&rt, feeders.pop().expect(&rt, "a feeder")));
+    assert!(rt; is_extra(&rt, &mut collector));
     feed(&rt, feeder, &OpenGate);
-    assert!(rt; collector.len() == 1);
-    collector.drain(&rt, 1);
+    drain(&rt, collector, 1);
 }
 
 // The second channel's feeder never pushes, as a worker that couldn't be started: the drain of the
 // first one doesn't wait for it.
 #[test]
 fn drain_leaves_channels_without_a_worker(rt: HostRuntime) {
-    let texts = two(&rt, syncs_of(&rt, 0, &[0]), syncs_of(&rt, 1, &[1]));
-    assert!(rt; texts.len() == 2);
-    let made = Relay::start(rt.alloc(), 4096, &Uuid::nil(), texts.as_slice(), 64);
-    let (mut feeders, collector) = made.expect(&rt, "a relay");
+    let texts = two(&rt, syncs(&rt, 0, 1, 1), syncs(&rt, 1, 1, 1));
+    let (mut feeders, collector) = relay_of(&rt, &texts, 64);
     let second = feeders.pop().expect(&rt, "a feeder");
-    let first = feeders.pop().expect(&rt, "a feeder");
-    feed(&rt, first, &OpenGate);
-    assert!(rt; collector.len() == 2);
-    collector.drain(&rt, 1);
+    feed(&rt, feeders.pop().expect(&rt, "a feeder"), &OpenGate);
+    drain(&rt, collector, 1);
     drop(second);
 }
 
 // 102 items wait in a queue that has room for them.
 #[test]
 fn queue_has_room_for_its_capacity(rt: HostRuntime) {
-    let texts = one(&rt, syncs(&rt, 100));
-    assert!(rt; texts.len() == 1);
-    let made = Relay::start(rt.alloc(), 4096, &Uuid::nil(), texts.as_slice(), 102);
-    let (feeders, collector) = made.expect(&rt, "a relay");
-    for feeder in feeders {
-        feed(&rt, feeder, &OpenGate);
-    }
-    assert!(rt; collector.len() == 1);
-    collector.drain(&rt, 1);
+    let texts = one(&rt, syncs(&rt, 0, 1, 100));
+    let (mut feeders, collector) = relay_of(&rt, &texts, 102);
+    feed(&rt, feeders.pop().expect(&rt, "a feeder"), &OpenGate);
+    drain(&rt, collector, 1);
 }
 
 // ---- one more thread
@@ -101,9 +84,21 @@ impl Gate for Watch {
     }
 }
 
-// Starts a worker for the feeder. Item 1 is found while item 0 is in the queue, and isn't pushed
-// before item 0 is taken.
-fn assert_waits<'a, R: Abort + Threads + Wait + Sync>(
+// Item 1 is found while item 0 is in the queue, and isn't pushed before item 0 is taken.
+fn item_1_waits<R: Wait>(rt: &R, collector: &mut Collector<'_>, gate: &Watch) -> bool {
+    if !reaches(&gate.seen, FOUND) {
+        return false;
+    }
+    for _ in 0..10_000u64 {
+        yield_now();
+    }
+    gate.seen.load(Ordering::SeqCst) == FOUND
+        && takes(rt, collector, 0, 5)
+        && is_over(rt, collector, 0)
+}
+
+// Starts a worker for the feeder, and takes its items.
+fn take_beside<'a, R: Abort + Threads + Wait + Sync>(
     rt: &R,
     feeder: Feeder<'a>,
     collector: Collector<'a>,
@@ -114,13 +109,7 @@ fn assert_waits<'a, R: Abort + Threads + Wait + Sync>(
         let Ok(worker) = scope.spawn(move || feed(rt, feeder, gate)) else {
             panic!(rt; "a worker")
         };
-        assert!(rt; reaches(&gate.seen, FOUND));
-        for _ in 0..10_000u64 {
-            yield_now();
-        }
-        assert!(rt; gate.seen.load(Ordering::SeqCst) == FOUND);
-        take(rt, &mut collector, 0, 5);
-        assert_over(rt, &mut collector, 0);
+        assert!(rt; item_1_waits(rt, &mut collector, gate));
         worker.join(rt);
     });
 }
@@ -128,14 +117,12 @@ fn assert_waits<'a, R: Abort + Threads + Wait + Sync>(
 // A hello, three SYNC packets and the stop pass a queue that holds one item.
 #[test]
 fn queue_of_one_holds_one_item(rt: HostRuntime) {
-    let texts = one(&rt, syncs(&rt, 3));
-    assert!(rt; texts.len() == 1);
-    let made = Relay::start(rt.alloc(), 4096, &Uuid::nil(), texts.as_slice(), 1);
-    let (mut feeders, collector) = made.expect(&rt, "a relay");
+    let texts = one(&rt, syncs(&rt, 0, 1, 3));
+    let (mut feeders, collector) = relay_of(&rt, &texts, 1);
     let feeder = feeders.pop().expect(&rt, "a feeder");
     let gate = Watch {
         seen: AtomicU64::new(0),
     };
-    assert_waits(&rt, feeder, collector, &gate);
+    take_beside(&rt, feeder, collector, &gate);
     assert!(rt; gate.seen.load(Ordering::SeqCst) == FOUND | PUSHED);
 }

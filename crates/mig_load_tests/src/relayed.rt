@@ -1,45 +1,39 @@
-//! Loads from a relay of one channel, on one thread: of a relay from which nothing, some items or
-//! all were taken before, and of one that has more rounds than the main stream.
+//! Loads from a relay of one channel, on one thread: of a machine's main stream, and with a limit
+//! on what may wait in a round.
 
-use crate::load_texts::{
-    LIMIT, assert_done, assert_failed, assert_full, assert_page_and_zeros, main_of, one,
-    page_and_zeros, sevens_then_zeros,
-};
-use crate::pieces::{Seen, assert_over, assert_received, feed, take};
-use mig_packet::OpenGate;
-use mig_relay::{ChannelEnd, Collector, Relay, load_relayed};
-use mig_single_load::{Fault, Origin};
-use std::alloc::Allocator;
+ghost use Rattle.std.specs.Prelude.{◌≤◌, ◌^◌};
+
+use crate::pieces::feed;
+use crate::texts::{LIMIT, Part, channel_of, is_done, is_failed, main_of, one};
+use mig_packet::{ChannelFault, OpenGate};
+use mig_relay::{Collector, Relay, load_relayed, load_relayed_in};
+use mig_single_load::{Fault, LoadSettings, Loaded};
+use mig_stream::Frame;
+use std::alloc::AllocGlobal;
 use std::process::Abort;
 use std::sync::Wait;
 use uuid::Uuid;
 
-// The items of `page_and_zeros`.
-const ONE_ROUND: [Seen; 4] = [
-    Seen::Hello(0),
-    Seen::Page(0),
-    Seen::Sync(1),
-    Seen::Stop(ChannelEnd::Clean),
-];
+// Returns two rounds of one page: filled with 7, and then with 9.
+fn sevens_then_nines(rt: &(impl AllocGlobal + Abort)) -> Vec<Vec<u8>> {
+    let packets = [
+        (0, Part::Page(0, 7)),
+        (1, Part::Sync),
+        (2, Part::Page(0, 9)),
+        (3, Part::Sync),
+    ];
+    one(rt, channel_of(rt, 0, &packets))
+}
 
-/// The items of `sevens_then_zeros`.
-pub(crate) const TWO_ROUNDS: [Seen; 6] = [
-    Seen::Hello(0),
-    Seen::Page(0),
-    Seen::Sync(1),
-    Seen::Page(2),
-    Seen::Sync(3),
-    Seen::Stop(ChannelEnd::Clean),
-];
-
-/// Returns the collector of a relay of one stream, whose feeder has pushed all items.
-pub(crate) fn relayed<'a, R: Wait + Abort, A: Allocator + Copy>(
+// Returns the collector of a relay of one channel, where `most` may wait in a round. Its feeder has
+// pushed all items.
+fn relayed<'a, R: AllocGlobal + Wait + Abort>(
     rt: &R,
-    alloc: A,
     texts: &'a [Vec<u8>],
-) -> Collector<'a, A> {
+    most: u64,
+) -> Collector<'a> {
     assert!(rt; texts.len() == 1);
-    let made = Relay::start(alloc, 4096, &Uuid::nil(), texts, 64);
+    let made = Relay::start_within(rt.alloc(), 4096, &Uuid::nil(), texts, 64, Some(most));
     let (feeders, collector) = made.expect(rt, "a relay");
     for feeder in feeders {
         feed(rt, feeder, &OpenGate);
@@ -47,35 +41,51 @@ pub(crate) fn relayed<'a, R: Wait + Abort, A: Allocator + Copy>(
     collector
 }
 
-#[test]
-fn items_that_were_taken_before(rt: HostRuntime) {
-    let texts = one(&rt, page_and_zeros(&rt));
-    let main = main_of(&rt, 2, 1);
-    for taken in 0..=ONE_ROUND.len() {
-        let mut collector = relayed(&rt, rt.alloc(), &texts);
-        take(&rt, &mut collector, 0, taken);
-        let loaded = load_relayed(&rt, rt.alloc(), &mut collector, &main, LIMIT);
-        assert_done(&rt, &loaded, 1);
-        assert_page_and_zeros(&rt, &loaded);
-        assert_received(&rt, &collector, 0, &ONE_ROUND);
-        assert_over(&rt, &mut collector, 0);
-    }
+// Loads a relay where `most` may wait.
+fn load_within<R: AllocGlobal + Wait + Abort>(rt: &R, texts: &[Vec<u8>], most: u64) -> Loaded {
+    let mut collector = relayed(rt, texts, most);
+    assert!(rt; collector.waiting() == Some(most));
+    load_relayed(rt, rt.alloc(), &mut collector, &main_of(rt, 1, 2), LIMIT)
 }
 
-// The load takes at least the round that it counts; the items that it leaves can still be taken.
+// A packet with one page counts 2, and the SYNC packet after it 1.
 #[test]
-fn round_that_the_main_stream_lacks(rt: HostRuntime) {
-    let texts = one(&rt, sevens_then_zeros(&rt));
-    let mut collector = relayed(&rt, rt.alloc(), &texts);
-    let main = main_of(&rt, 1, 1);
-    let loaded = load_relayed(&rt, rt.alloc(), &mut collector, &main, LIMIT);
-    assert_failed(&rt, &loaded, 1, Origin::Channel(0), Fault::Extra);
-    assert_full(&rt, &loaded, 1, 7);
-    assert!(rt; collector.len() == 1);
-    let taken = collector.received(0).len();
-    assert!(rt; 3 <= taken && taken <= TWO_ROUNDS.len());
-    assert_received(&rt, &collector, 0, &TWO_ROUNDS[..taken]);
-    take(&rt, &mut collector, 0, TWO_ROUNDS.len() - taken);
-    assert_received(&rt, &collector, 0, &TWO_ROUNDS);
-    assert_over(&rt, &mut collector, 0);
+fn packets_that_may_wait(rt: HostRuntime) {
+    let texts = sevens_then_nines(&rt);
+    assert!(rt; is_done(&load_within(&rt, &texts, 3), 2, 9));
+    let fault = Fault::Channel(ChannelFault::Waiting);
+    assert!(rt; is_failed(&load_within(&rt, &texts, 2), fault));
+}
+
+// ---- a machine's main stream
+
+fn settings() -> LoadSettings
+    ensures { result.limit ≤ 2 ^ 40 }
+{
+    LoadSettings::new(4096, LIMIT).with_frame(Frame::Machine)
+}
+
+// Returns the main stream of one page and two rounds as a machine's: with the configuration `pc`
+// before START, and a device's section in place of the end byte.
+fn machines_main(rt: &(impl AllocGlobal + Abort)) -> Vec<u8> {
+    let ram = main_of(rt, 1, 2);
+    let mut main = Vec::new(rt.alloc());
+    for piece in [
+        ram.get(..8).expect(rt, "a header"),
+        b"\x07\x00\x00\x00\x02pc",
+        ram.get(8..126).expect(rt, "sections"),
+        b"\x04\x00\x00\x00\x02\x05timer",
+    ] {
+        assert!(rt; main.extend_from_slice(piece).is_ok());
+    }
+    main
+}
+
+#[test]
+fn machines_main_stream(rt: HostRuntime) {
+    let texts = sevens_then_nines(&rt);
+    let main = machines_main(&rt);
+    let mut collector = relayed(&rt, &texts, 3);
+    let loaded = load_relayed_in(&rt, rt.alloc(), &mut collector, &main, settings());
+    assert!(rt; is_done(&loaded, 2, 9));
 }

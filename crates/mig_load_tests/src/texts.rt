@@ -1,67 +1,119 @@
-//! Streams of channels, by hand: their hellos have a UUID of zeros, their pages have 4096 bytes,
-//! and their block is `a`.
+//! Streams of complete migrations, made by hand: the UUID is zeros, pages have 4096 bytes, and the
+//! only block is `a`. Also what their loads returned.
 
+use mig_fixtures::{at, is_full, table};
 use mig_packet::{hello, put_packet};
+use mig_single_load::{Fault, LoadFault, Loaded, Origin};
+use mig_stream::StreamWriter;
 use std::alloc::AllocGlobal;
 use std::process::Abort;
 use uuid::Uuid;
 
-/// Returns a stream with a hello and no packets.
-pub(crate) fn hello_of(rt: &(impl AllocGlobal + Abort), id: u8) -> Vec<u8> {
-    Vec::from_slice(rt.alloc(), &hello(&Uuid::nil(), id)).expect(rt, "a hello")
-}
+/// The limit of the blocks' bytes.
+pub(crate) const LIMIT: u64 = 1 << 40;
 
-/// Appends a SYNC packet without pages.
-pub(crate) fn put_sync(rt: &impl Abort, text: &mut Vec<u8>, number: u64) {
-    assert!(rt; put_packet(4096, text, number, true, &[], &[], &[], &[]).is_ok());
-}
-
-/// Appends a packet of `pages` pages from `first` on, at most 128, each filled with this byte.
-pub(crate) fn put_pages(
-    rt: &(impl AllocGlobal + Abort),
-    text: &mut Vec<u8>,
-    number: u64,
-    first: u64,
-    pages: u64,
-    byte: u8,
-) {
-    let mut normal = Vec::new(rt.alloc());
-    for i in 0..pages {
-        let offset = first.wrapping_add(i).wrapping_mul(4096);
-        assert!(rt; normal.push(offset).is_ok());
+/// Returns the main stream of `pages` pages and `rounds` rounds.
+pub(crate) fn main_of(rt: &(impl AllocGlobal + Abort), pages: u64, rounds: u64) -> Vec<u8> {
+    let table = table(rt.alloc(), &[("a", pages)]).expect(rt, "a table");
+    let mut writer = StreamWriter::new(rt.alloc(), &table)
+        .ok()
+        .expect(rt, "a writer");
+    for _ in 0..rounds {
+        assert!(rt; writer.flush_part().is_ok());
     }
-    assert!(rt; normal.len() <= 128);
-    let mut contents = Vec::new(rt.alloc());
-    assert!(rt; contents.resize(normal.len() * 4096, byte).is_ok());
-    assert!(rt; contents.len() == normal.len() * 4096);
-    assert!(rt; put_packet(4096, text, number, false, b"a", &normal, &contents, &[]).is_ok());
+    writer.finish().ok().expect(rt, "a stream")
 }
 
-/// Adds a stream to a list.
-pub(crate) fn put_text(rt: &impl Abort, texts: &mut Vec<Vec<u8>>, text: Vec<u8>) {
-    assert!(rt; texts.push(text).is_ok());
+// ---- channels
+
+/// What a packet has: a page that is filled with a byte, or SYNC and no page.
+#[derive(Clone, Copy)]
+pub(crate) enum Part {
+    Page(u64, u8),
+    Sync,
 }
 
-/// Returns two channels of one round of 129 pages, each filled with 7: packet 0 of 128 pages and
-/// SYNC packet 2 in one, packet 1 of the last page and SYNC packet 3 in the other.
-pub(crate) fn two_channels(rt: &(impl AllocGlobal + Abort)) -> Vec<Vec<u8>> {
-    let mut first = hello_of(rt, 0);
-    put_pages(rt, &mut first, 0, 0, 128, 7);
-    put_sync(rt, &mut first, 2);
-    let mut second = hello_of(rt, 1);
-    put_pages(rt, &mut second, 1, 128, 1, 7);
-    put_sync(rt, &mut second, 3);
+// Appends a packet.
+fn is_put(text: &mut Vec<u8>, number: u64, part: Part) -> bool {
+    let put = match part {
+        Part::Page(page, byte) => {
+            let contents = [byte; 4096];
+            let normal = [page.wrapping_mul(4096)];
+            put_packet(4096, text, number, false, b"a", &normal, &contents, &[])
+        }
+        Part::Sync => put_packet(4096, text, number, true, &[], &[], &[], &[]),
+    };
+    put.is_ok()
+}
+
+/// Returns a channel: a hello with this id, and packets, each with its number.
+pub(crate) fn channel_of(
+    rt: &(impl AllocGlobal + Abort),
+    id: u8,
+    packets: &[(u64, Part)],
+) -> Vec<u8> {
+    let mut text = Vec::from_slice(rt.alloc(), &hello(&Uuid::nil(), id)).expect(rt, "a hello");
+    for (number, part) in packets {
+        assert!(rt; is_put(&mut text, *number, *part));
+    }
+    text
+}
+
+/// Returns a channel that has only SYNC packets, `count` of them. The first one's number is the id,
+/// and each further one is `step` more.
+pub(crate) fn syncs(rt: &(impl AllocGlobal + Abort), id: u8, step: u64, count: u64) -> Vec<u8> {
+    let mut text = channel_of(rt, id, &[]);
+    for i in 0..count {
+        let number = i.wrapping_mul(step).wrapping_add(u64::from(id));
+        assert!(rt; is_put(&mut text, number, Part::Sync));
+    }
+    text
+}
+
+/// Returns a list of one channel.
+pub(crate) fn one(rt: &(impl AllocGlobal + Abort), text: Vec<u8>) -> Vec<Vec<u8>> {
     let mut texts = Vec::new(rt.alloc());
-    put_text(rt, &mut texts, first);
-    put_text(rt, &mut texts, second);
+    assert!(rt; texts.push(text).is_ok());
     texts
 }
 
-/// Returns a channel that has only SYNC packets, numbered from 0.
-pub(crate) fn syncs(rt: &(impl AllocGlobal + Abort), count: u64) -> Vec<u8> {
-    let mut text = hello_of(rt, 0);
-    for number in 0..count {
-        put_sync(rt, &mut text, number);
+/// Returns a list of two channels.
+pub(crate) fn two(
+    rt: &(impl AllocGlobal + Abort),
+    first: Vec<u8>,
+    second: Vec<u8>,
+) -> Vec<Vec<u8>> {
+    let mut texts = one(rt, first);
+    assert!(rt; texts.push(second).is_ok());
+    texts
+}
+
+/// Returns two channels of one round of two pages, each filled with 7: packet 0 and SYNC packet 2
+/// in one, packet 1 and SYNC packet 3 in the other.
+pub(crate) fn two_channels(rt: &(impl AllocGlobal + Abort)) -> Vec<Vec<u8>> {
+    let first = channel_of(rt, 0, &[(0, Part::Page(0, 7)), (2, Part::Sync)]);
+    let second = channel_of(rt, 1, &[(1, Part::Page(1, 7)), (3, Part::Sync)]);
+    two(rt, first, second)
+}
+
+// ---- loads
+
+/// Returns whether a load is done with `rounds` rounds, and page 0 is filled with this byte.
+pub(crate) fn is_done(loaded: &Loaded, rounds: u64, byte: u8) -> bool {
+    match &loaded.memory {
+        Some(memory) => {
+            loaded.verdict == Ok(()) && loaded.rounds == rounds && is_full(memory, at(0, 0), byte)
+        }
+        None => false,
     }
-    text
+}
+
+/// Returns whether a load failed in its first round, with a fault of channel 0.
+pub(crate) fn is_failed(loaded: &Loaded, fault: Fault) -> bool {
+    let failed = LoadFault {
+        round: 0,
+        source: Origin::Channel(0),
+        fault,
+    };
+    loaded.rounds == 0 && loaded.verdict == Err(failed)
 }
