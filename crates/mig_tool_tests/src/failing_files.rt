@@ -2,7 +2,7 @@
 
 use crate::fake_files::{Outcome, Plan, outcome_of};
 use crate::folder::Folder;
-use crate::script::{SCENARIO, assert_answer, assert_script, plain_words};
+use crate::script::{SCENARIO, Wanted, assert_script, is_answer, plain_words};
 use std::alloc::AllocGlobal;
 use std::fs::Files;
 use std::process::Abort;
@@ -24,89 +24,140 @@ fn slow_outcome<H: AllocGlobal + Files + Threads + Wait + Sync + Abort>(
     outcome_of(rt, &plain_words(rt, line), plan)
 }
 
-// A file that hasn't ended after 65,536 reads of one byte each, and one whose end the last of these
-// reads finds. Each read asks for 65,536 bytes.
+// ---- reads
+
+// Runs the tool with a file that is read byte by byte. Returns whether the answer is this one, and
+// each read asks for 65,536 bytes.
+fn is_read<H: AllocGlobal + Files + Threads + Wait + Sync + Abort>(
+    rt: &H,
+    line: &str,
+    text: &[u8],
+    wanted: Wanted<'_>,
+) -> bool {
+    let outcome = slow_outcome(rt, line, text, u64::MAX, 0);
+    !outcome.has_other_len && is_answer(&outcome.answer, wanted)
+}
+
+const LONG: [(&str, Wanted<'static>); 7] = [
+    ("send f o", (1, b"fault 82 table 1\n")),
+    ("send f o --channels 2", (1, b"fault 82 table 1\n")),
+    ("load f i", (1, b"fault 11 round 0 in main\n")),
+    ("load f i --channels 1", (1, b"fault 11 round 0 in main\n")),
+    (
+        "load f i --channels 1 --feed",
+        (1, b"fault 11 round 0 in main\n"),
+    ),
+    ("compare f f", (1, b"fault 82 table 1\n")),
+    ("compare f i --page 8192", (1, b"fault 82 table 1\n")),
+];
+
+// A file whose end the last of 65,536 reads of one byte finds, and one that hasn't ended after them.
 #[test]
 fn most_reads_of_files(rt: HostRuntime) {
-    let lines: [(&str, (u8, &[u8])); 7] = [
-        ("send f o", (1, b"fault 82 table 1\n")),
-        ("send f o --channels 2", (1, b"fault 82 table 1\n")),
-        ("load f i", (1, b"fault 11 round 0 in main\n")),
-        ("load f i --channels 1", (1, b"fault 11 round 0 in main\n")),
-        (
-            "load f i --channels 1 --feed",
-            (1, b"fault 11 round 0 in main\n"),
-        ),
-        ("compare f f", (1, b"fault 82 table 1\n")),
-        ("compare f i --page 8192", (1, b"fault 82 table 1\n")),
-    ];
-    let mut text = Vec::new(rt.alloc());
-    assert!(rt; text.resize(65_535, b'\n').is_ok());
-    for (line, wanted) in lines {
-        let outcome = slow_outcome(&rt, line, &text, u64::MAX, 0);
-        assert!(rt; !outcome.has_other_len, "{line}");
-        assert_answer(&rt, outcome.answer, wanted);
-    }
-    assert!(rt; text.push(b'\n').is_ok());
-    for (line, _) in lines {
-        let outcome = slow_outcome(&rt, line, &text, u64::MAX, 0);
-        assert_answer(&rt, outcome.answer, (3, b"fault 71\n"));
+    let text = [b'\n'; 65_536];
+    for (line, wanted) in LONG {
+        assert!(rt; is_read(&rt, line, &text[1..], wanted), "{line}");
+        assert!(rt; is_read(&rt, line, &text, (3, b"fault 71\n")), "{line}");
     }
 }
 
-// The scenario has 26 bytes. Each read fails in turn, up to the one that finds its end, and isn't
-// repeated.
+// Runs the tool with each read of a file failing in turn, up to the one that finds its end. None is
+// repeated. The scenario has 26 bytes.
+fn is_refused_at_each_read<H: AllocGlobal + Files + Threads + Wait + Sync + Abort>(
+    rt: &H,
+    line: &str,
+) -> bool {
+    for reads in 0..27 {
+        let outcome = slow_outcome(rt, line, SCENARIO, reads, u64::MAX);
+        if !is_answer(&outcome.answer, (3, b"fault 90\n")) {
+            return false;
+        }
+    }
+    let outcome = slow_outcome(rt, line, SCENARIO, 27, u64::MAX);
+    !outcome.has_failed && outcome.answer.0 <= 1
+}
+
+const READING: [&str; 5] = [
+    "send f o",
+    "load f i",
+    "load f i --channels 2",
+    "load f i --channels 2 --feed",
+    "compare f i",
+];
+
 #[test]
 fn each_read_of_files_failing(rt: HostRuntime) {
-    for line in [
-        "send f o",
-        "load f i",
-        "load f i --channels 2",
-        "load f i --channels 2 --feed",
-        "compare f i",
-    ] {
-        for reads in 0..27 {
-            let outcome = slow_outcome(&rt, line, SCENARIO, reads, u64::MAX);
-            assert_answer(&rt, outcome.answer, (3, b"fault 90\n"));
-        }
-        let outcome = slow_outcome(&rt, line, SCENARIO, 27, u64::MAX);
-        assert!(rt; !outcome.has_failed, "{line}");
-        assert!(rt; outcome.answer.0 <= 1, "{line}");
+    for line in READING {
+        assert!(rt; is_refused_at_each_read(&rt, line), "{line}");
     }
 }
 
-// Each query for the kind of a file, and each write, seek, change of length and flush fails in
-// turn, until a run has no failure. Calls after the failing one would succeed.
-#[test]
-fn each_change_of_files_failing(rt: HostRuntime) {
-    let folder = Folder::new(&rt, "changes");
-    folder.put(&rt, "s", b"block 1 a");
-    assert_script(&rt, &folder, "send @s @o", (0, b"sent 75 0\n"));
-    let stream = folder.bytes(&rt, "o");
-    folder.put(&rt, "s", b"block 2 a\nset 0 4096 7\nround");
-    assert_script(&rt, &folder, "send @s @o", (0, b"sent 4199 0\n"));
-    // (a page after one of zeros, which needs a seek)
-    let page = folder.bytes(&rt, "o");
-    folder.remove(&rt);
-    let cases: [(&str, &[u8], &[u8]); 5] = [
-        ("send f o", SCENARIO, b"sent 4199 0\n"),
-        ("send f o --channels 2", SCENARIO, b"sent 101 8256\n"),
-        ("load f i", &stream, b"loaded sections 2\n"),
-        ("load f i", &page, b"loaded sections 3\n"),
-        ("send f o --page 8192", SCENARIO, b"sent 8295 0\n"),
-    ];
-    for (line, text, wanted) in cases {
-        let mut has_ended = false;
-        for changes in 0..100 {
-            let outcome = slow_outcome(&rt, line, text, u64::MAX, changes);
-            if !outcome.has_failed {
-                assert!(rt; changes > 0, "{line}");
-                assert_answer(&rt, outcome.answer, (0, wanted));
-                has_ended = true;
-                break;
-            }
-            assert_answer(&rt, outcome.answer, (3, b"fault 91\n"));
+// ---- changes
+
+// Runs the tool with each query for the kind of a file, and each write, seek, change of length and
+// flush failing in turn, until a run has no failure. Calls after the failing one would succeed.
+fn is_refused_at_each_change<H: AllocGlobal + Files + Threads + Wait + Sync + Abort>(
+    rt: &H,
+    line: &str,
+    text: &[u8],
+    wanted: &[u8],
+) -> bool {
+    for changes in 0..100 {
+        let outcome = slow_outcome(rt, line, text, u64::MAX, changes);
+        if !outcome.has_failed {
+            return changes > 0 && is_answer(&outcome.answer, (0, wanted));
         }
-        assert!(rt; has_ended, "{line}");
+        if !is_answer(&outcome.answer, (3, b"fault 91\n")) {
+            return false;
+        }
+    }
+    false
+}
+
+const SENDING: [(&str, &[u8]); 3] = [
+    ("send f o", b"sent 4199 0\n"),
+    ("send f o --channels 2", b"sent 101 8256\n"),
+    ("send f o --page 8192", b"sent 8295 0\n"),
+];
+
+#[test]
+fn each_change_of_sent_files_failing(rt: HostRuntime) {
+    for (line, wanted) in SENDING {
+        assert!(rt;
+            is_refused_at_each_change(&rt, line, SCENARIO, wanted),
+            "{line}"
+        );
+    }
+}
+
+// Returns the stream of a scenario.
+fn stream_of<H: AllocGlobal + Files + Threads + Wait + Sync + Abort>(
+    rt: &H,
+    scenario: &[u8],
+    sent: &[u8],
+) -> Vec<u8> {
+    let folder = Folder::new(rt, "changes");
+    folder.put(rt, "s", scenario);
+    assert_script(rt, &folder, "send @s @o", (0, sent));
+    let stream = folder.bytes(rt, "o");
+    folder.remove(rt);
+    stream
+}
+
+// A memory of zeros, and one whose page after one of zeros needs a seek.
+const LOADED: [(&[u8], &[u8], &[u8]); 2] = [
+    (b"block 1 a", b"sent 75 0\n", b"loaded sections 2\n"),
+    (
+        b"block 2 a\nset 0 4096 7\nround",
+        b"sent 4199 0\n",
+        b"loaded sections 3\n",
+    ),
+];
+
+#[test]
+fn each_change_of_a_memorys_file_failing(rt: HostRuntime) {
+    for (scenario, sent, wanted) in LOADED {
+        let stream = stream_of(&rt, scenario, sent);
+        assert!(rt; is_refused_at_each_change(&rt, "load f i", &stream, wanted));
     }
 }

@@ -1,7 +1,7 @@
 //! Inputs that are read byte by byte, that don't end, and that fail.
 
 use crate::folder::Folder;
-use crate::script::{SCENARIO, SCENARIO_ANSWER, assert_answer, words_in};
+use crate::script::{SCENARIO, SCENARIO_ANSWER, Wanted, is_answer, words_in};
 use mig_command::run;
 use std::alloc::AllocGlobal;
 use std::fs::Files;
@@ -42,22 +42,44 @@ impl Read for Slow<'_> {
     }
 }
 
-// Runs the tool without arguments on an input that is read byte by byte, with `good` reads that
-// don't fail.
-fn slow_answer_of<H: AllocGlobal + Files + Threads + Wait + Sync + Abort>(
+// Runs the tool on arguments and an input that is read byte by byte, with `good` reads that don't
+// fail. Returns whether the answer is this one, and `left` bytes of the input weren't read.
+fn is_read<H: AllocGlobal + Files + Threads + Wait + Sync + Abort>(
     rt: &H,
+    words: &[String],
     text: &[u8],
     good: usize,
-) -> (u8, Vec<u8>) {
+    wanted: Wanted<'_>,
+    left: usize,
+) -> bool {
     let mut input = Slow {
         rest: text,
         good,
         has_other_len: false,
     };
     let mut output = Vec::new(rt.alloc());
-    let status = run(rt, rt.alloc(), &[], &mut input, &mut output);
-    assert!(rt; !input.has_other_len);
-    (status, output)
+    let status = run(rt, rt.alloc(), words, &mut input, &mut output);
+    !input.has_other_len && input.rest.len() == left && is_answer(&(status, output), wanted)
+}
+
+// Arguments that ask for no check.
+const OTHERS: [(&str, Wanted<'static>); 2] = [
+    ("frob", (2, b"fault 88\n")),
+    ("compare @none @none", (3, b"fault 90\n")),
+];
+
+// They read no byte of the input.
+#[test]
+fn input_that_is_not_read(rt: HostRuntime) {
+    let folder = Folder::new(&rt, "not_read");
+    for (line, wanted) in OTHERS {
+        let words = words_in(&rt, &folder, line);
+        assert!(rt;
+            is_read(&rt, &words, SCENARIO, 0, wanted, SCENARIO.len()),
+            "{line}"
+        );
+    }
+    folder.remove(&rt);
 }
 
 // Returns a block, and empty lines up to a length.
@@ -67,43 +89,25 @@ fn with_empty_lines(rt: &(impl AllocGlobal + Abort), len: usize) -> Vec<u8> {
     text
 }
 
-// Arguments that ask for no check read no byte of the input.
-#[test]
-fn input_that_is_not_read(rt: HostRuntime) {
-    let folder = Folder::new(&rt, "not_read");
-    let cases: [(&str, (u8, &[u8])); 2] = [
-        ("frob", (2, b"fault 88\n")),
-        ("compare @none @none", (3, b"fault 90\n")),
-    ];
-    for (line, wanted) in cases {
-        let mut input = Slow {
-            rest: SCENARIO,
-            good: 0,
-            has_other_len: false,
-        };
-        let mut output = Vec::new(rt.alloc());
-        let words = words_in(&rt, &folder, line);
-        let status = run(&rt, rt.alloc(), &words, &mut input, &mut output);
-        assert_answer(&rt, (status, output), wanted);
-        assert_eq!(rt; input.rest, SCENARIO);
-    }
-    folder.remove(&rt);
-}
+// The length of an input, the reads before the one that fails, the answer, and the bytes that
+// aren't read.
+type Long = (usize, usize, Wanted<'static>, usize);
+
+const EMPTY_LINES: &[u8] = b"single 75 sections 2\nsame\n";
+
+// Reads of one byte that end with the last one that there may be, and one read too many, and two.
+const LONG: [Long; 4] = [
+    (65_535, usize::MAX, (0, EMPTY_LINES), 0),
+    (65_535, 65_536, (0, EMPTY_LINES), 0),
+    (65_536, usize::MAX, (3, b"fault 71\n"), 0),
+    (65_537, usize::MAX, (3, b"fault 71\n"), 1),
+];
 
 #[test]
 fn most_reads(rt: HostRuntime) {
-    let text = with_empty_lines(&rt, 65_535);
-    let wanted: &[u8] = b"single 75 sections 2\nsame\n";
-    assert_answer(&rt, slow_answer_of(&rt, &text, usize::MAX), (0, wanted));
-    assert_answer(&rt, slow_answer_of(&rt, &text, 65_536), (0, wanted));
-    // one read too many, and two
-    for len in [65_536, 65_537] {
+    for (len, good, wanted, left) in LONG {
         let text = with_empty_lines(&rt, len);
-        assert_answer(
-            &rt,
-            slow_answer_of(&rt, &text, usize::MAX),
-            (3, b"fault 71\n"),
-        );
+        assert!(rt; is_read(&rt, &[], &text, good, wanted, left), "{len}");
     }
 }
 
@@ -111,8 +115,12 @@ fn most_reads(rt: HostRuntime) {
 // repeated.
 #[test]
 fn each_read_failing(rt: HostRuntime) {
-    for good in 0..27 {
-        assert_answer(&rt, slow_answer_of(&rt, SCENARIO, good), (3, b"fault 90\n"));
+    for good in 0..27usize {
+        let left = 26usize.saturating_sub(good);
+        assert!(rt;
+            is_read(&rt, &[], SCENARIO, good, (3, b"fault 90\n"), left),
+            "{good}"
+        );
     }
-    assert_answer(&rt, slow_answer_of(&rt, SCENARIO, 27), (0, SCENARIO_ANSWER));
+    assert!(rt; is_read(&rt, &[], SCENARIO, 27, (0, SCENARIO_ANSWER), 0));
 }

@@ -14,6 +14,12 @@ pub(crate) const SCENARIO: &[u8] = b"block 1 a\nset 0 0 7\nround\n";
 /// The tool's output on it.
 pub(crate) const SCENARIO_ANSWER: &[u8] = b"single 4199 sections 3\nsame\n";
 
+/// The exit status and the output of a run.
+pub(crate) type Answer = (u8, Vec<u8>);
+
+/// The wanted ones.
+pub(crate) type Wanted<'a> = (u8, &'a [u8]);
+
 /// Returns the words of a line, as a run takes them.
 pub(crate) fn plain_words(rt: &(impl AllocGlobal + Abort), line: &str) -> Vec<String> {
     let mut words = Vec::new(rt.alloc());
@@ -44,32 +50,30 @@ pub(crate) fn words_in(
     words
 }
 
-/// Runs the tool on arguments, in memory of an allocator. Returns the exit status and the output.
+/// Runs the tool on arguments, in memory of an allocator.
 pub(crate) fn answer_in<
     H: AllocGlobal + Files + Threads + Wait + Sync,
     A: Allocator + Copy + Send + Sync,
->(rt: &H, alloc: A, words: &[String], scenario: &[u8]) -> (u8, Vec<u8>) {
+>(rt: &H, alloc: A, words: &[String], scenario: &[u8]) -> Answer {
     let mut input = scenario;
     let mut output = Vec::new(rt.alloc());
     let status = run(rt, alloc, words, &mut input, &mut output);
     (status, output)
 }
 
-/// Asserts that an answer is the wanted one.
-pub(crate) fn assert_answer(rt: &impl Abort, answer: (u8, Vec<u8>), wanted: (u8, &[u8])) {
-    assert_eq!(rt; answer.0, wanted.0);
-    assert_eq!(rt; answer.1.as_slice(), wanted.1);
+/// Returns whether an answer is the wanted one.
+pub(crate) fn is_answer(answer: &Answer, wanted: Wanted<'_>) -> bool {
+    answer.0 == wanted.0 && answer.1.as_slice() == wanted.1
 }
 
-/// Runs the tool on the arguments in a line, and asserts its output and exit status.
+/// Runs the tool on the arguments in a line, and asserts its exit status and output.
 pub(crate) fn assert_script<H: AllocGlobal + Files + Threads + Wait + Sync + Abort>(
     rt: &H,
     folder: &Folder,
     line: &str,
-    wanted: (u8, &[u8]),
+    wanted: Wanted<'_>,
 ) {
     let words = words_in(rt, folder, line);
     let answer = answer_in(rt, rt.alloc(), &words, b"");
-    let is_right = answer.0 == wanted.0 && answer.1.as_slice() == wanted.1;
-    assert!(rt; is_right, "{line}");
+    assert!(rt; is_answer(&answer, wanted), "{line}");
 }

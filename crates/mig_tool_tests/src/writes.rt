@@ -1,7 +1,7 @@
 //! Outputs that fail.
 
 use crate::folder::Folder;
-use crate::script::{SCENARIO, SCENARIO_ANSWER, words_in};
+use crate::script::{SCENARIO, SCENARIO_ANSWER, Wanted, words_in};
 use mig_command::run;
 use std::alloc::{AllocGlobal, Global};
 use std::fs::Files;
@@ -76,97 +76,84 @@ fn answers<H: AllocGlobal + Files + Threads + Wait + Sync>(
     }
 }
 
-// Runs the tool with each write failing in turn, until a run has no failure.
-fn assert_each_write<H: AllocGlobal + Files + Threads + Wait + Sync + Abort>(
+// Runs the tool with each write failing in turn, until a run has no failure. Returns whether each
+// answer is right.
+fn is_right_at_each_write<H: AllocGlobal + Files + Threads + Wait + Sync>(
     rt: &H,
     expected: Expected,
     most: usize,
-) {
+) -> bool {
     for good in 0..100 {
         let mut output = output_of(rt.alloc(), most, good);
-        assert!(rt; answers(rt, expected, &mut output), "after {good} writes");
+        if !answers(rt, expected, &mut output) {
+            return false;
+        }
         if !output.has_failed {
-            assert!(rt; good > 0);
-            return;
+            return good > 0;
         }
     }
-    panic!(rt; "each run had a failure");
+    false
 }
 
-// Runs the tool with a flush that fails.
-fn assert_flush<H: AllocGlobal + Files + Threads + Wait + Sync + Abort>(
+// Runs the tool with a flush that fails. Returns whether there was one.
+fn is_right_at_a_flush<H: AllocGlobal + Files + Threads + Wait + Sync>(
     rt: &H,
     expected: Expected,
-) {
+) -> bool {
     let mut output = output_of(rt.alloc(), usize::MAX, usize::MAX);
     output.fails_at_flush = true;
-    assert!(rt; answers(rt, expected, &mut output));
-    assert!(rt; output.has_failed, "there was no flush");
+    answers(rt, expected, &mut output) && output.has_failed
 }
+
+// Arguments, the scenario, and the answer.
+type Case<'a> = (&'a str, &'a [u8], Wanted<'a>);
 
 // Runs the tool with each write failing, of whole lines and of single bytes, and with a flush that
 // fails.
-fn assert_output<H: AllocGlobal + Files + Threads + Wait + Sync + Abort>(
+fn is_right<H: AllocGlobal + Files + Threads + Wait + Sync + Abort>(
     rt: &H,
     folder: &Folder,
-    line: &str,
-    scenario: &[u8],
-    wanted: (u8, &[u8]),
-) {
-    let words = words_in(rt, folder, line);
+    case: Case<'_>,
+) -> bool {
+    let words = words_in(rt, folder, case.0);
     let expected = Expected {
         words: &words,
-        scenario,
-        text: wanted.1,
-        status: wanted.0,
+        scenario: case.1,
+        text: case.2.1,
+        status: case.2.0,
     };
-    assert_each_write(rt, expected, usize::MAX);
-    assert_each_write(rt, expected, 1);
-    assert_flush(rt, expected);
+    is_right_at_each_write(rt, expected, usize::MAX)
+        && is_right_at_each_write(rt, expected, 1)
+        && is_right_at_a_flush(rt, expected)
 }
 
-// A valid scenario, a fault of each kind of line, and arguments.
+// A valid scenario, a fault of each kind of line, and arguments. Then the answers on arguments that
+// read and write files.
+const CASES: [Case<'static>; 13] = [
+    ("", SCENARIO, (0, SCENARIO_ANSWER)),
+    ("", b"block 0 a", (1, b"fault 82 table 5\n")),
+    ("", b"block 1 a\n\r", (1, b"fault 81 line 2\n")),
+    ("", b"block 1 a\ntouch 0 0", (1, b"fault 80 line 2\n")),
+    ("frob", SCENARIO, (2, b"fault 88\n")),
+    ("check --channels 2", SCENARIO, (0, SEVERAL)),
+    ("send @s @o", b"", (0, b"sent 4199 0\n")),
+    ("load @o @i", b"", (0, b"loaded sections 3\n")),
+    ("compare @s @i", b"", (0, b"same\n")),
+    ("compare @t @i", b"", (4, b"differs 1 first 0 0\n")),
+    ("load @s @i", b"", (1, b"fault 11 round 0 in main\n")),
+    ("send @none/o @o", b"", (3, b"fault 90\n")),
+    ("send @s @none/o", b"", (3, b"fault 91\n")),
+];
+
+const SEVERAL: &[u8] = b"single 4199 sections 3\nmulti 101 8256 rounds 1\nsame\n";
+
 #[test]
 fn each_output(rt: HostRuntime) {
     let folder = Folder::new(&rt, "output");
-    let cases: [(&str, &[u8], (u8, &[u8])); 6] = [
-        ("", SCENARIO, (0, SCENARIO_ANSWER)),
-        ("", b"block 0 a", (1, b"fault 82 table 5\n")),
-        ("", b"block 1 a\n\r", (1, b"fault 81 line 2\n")),
-        ("", b"block 1 a\ntouch 0 0", (1, b"fault 80 line 2\n")),
-        ("frob", SCENARIO, (2, b"fault 88\n")),
-        (
-            "check --channels 2",
-            SCENARIO,
-            (
-                0,
-                b"single 4199 sections 3\nmulti 101 8256 rounds 1\nsame\n",
-            ),
-        ),
-    ];
-    for (line, scenario, wanted) in cases {
-        assert_output(&rt, &folder, line, scenario, wanted);
-    }
-    folder.remove(&rt);
-}
-
-// The answers on arguments that read and write files.
-#[test]
-fn each_output_on_files(rt: HostRuntime) {
-    let folder = Folder::new(&rt, "outputs");
     folder.put(&rt, "s", SCENARIO);
     folder.put(&rt, "t", b"block 1 a\nset 0 0 8\nround\n");
-    let cases: [(&str, (u8, &[u8])); 7] = [
-        ("send @s @o", (0, b"sent 4199 0\n")),
-        ("load @o @i", (0, b"loaded sections 3\n")),
-        ("compare @s @i", (0, b"same\n")),
-        ("compare @t @i", (4, b"differs 1 first 0 0\n")),
-        ("load @s @i", (1, b"fault 11 round 0 in main\n")),
-        ("send @none/o @o", (3, b"fault 90\n")),
-        ("send @s @none/o", (3, b"fault 91\n")),
-    ];
-    for (line, wanted) in cases {
-        assert_output(&rt, &folder, line, b"", wanted);
+    for case in CASES {
+        assert!(rt; is_right(&rt, &folder, case), "{}", case.0);
     }
     folder.remove(&rt);
 }
