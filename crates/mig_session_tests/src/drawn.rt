@@ -3,11 +3,13 @@
 //! the sender on several channels wrote, its channels in some order, gives the guest's memory, and
 //! so does loading the single stream of the same rounds.
 
-use crate::guests::{LIMIT, Senders, Sendings, below, load, write_page};
-use crate::telling::is_same;
+use crate::feeding::{LIMIT, is_same};
+use crate::guests::{below, is_written};
 use mig_fixtures::{at, table_of};
 use mig_mem::{Dirty, Memory, PAGE_SIZE_4K, PAGE_SIZE_8K, Table, is_page_size};
-use mig_packet::page_limit;
+use mig_packet::{OpenGate, page_limit};
+use mig_relay::load_multi;
+use mig_send::{MultiSender, SingleSender};
 use mig_single_load::{Loaded, load_single};
 use rand_core::Rng;
 use rand_pcg::Pcg32;
@@ -16,6 +18,8 @@ use std::process::Abort;
 use std::sync::Wait;
 use std::thread::Threads;
 use uuid::Uuid;
+
+// ---- a guest
 
 // Returns a table of one to three blocks with 1 to 40 pages each, of either size.
 fn random_table(rt: &(impl AllocGlobal + Abort), random: &mut Pcg32) -> Table {
@@ -35,14 +39,10 @@ fn random_table(rt: &(impl AllocGlobal + Abort), random: &mut Pcg32) -> Table {
     table_of(rt.alloc(), page_size, &blocks).expect(rt, "a table")
 }
 
-// The guest writes to some pages, or makes them zeros, and they are marked.
-fn write_some(rt: &impl Abort, memory: &mut Memory, dirty: &mut Dirty, random: &mut Pcg32) {
-    for _ in 0..below(random, 60) {
-        let block = below(random, memory.table().len() as u64) as usize;
-        assert!(rt; block < memory.table().len());
-        let page = below(random, memory.table().pages(block));
-        write_page(rt, memory, dirty, at(block, page), random);
-    }
+// Returns a memory of zeros of such a table.
+fn random_memory(rt: &(impl AllocGlobal + Abort), random: &mut Pcg32) -> Memory {
+    let table = random_table(rt, random);
+    Memory::zeroed(rt.alloc(), &table).expect(rt, "a memory")
 }
 
 // Returns a number of channels: usually few, sometimes the most that there may be.
@@ -54,44 +54,88 @@ fn random_channels(random: &mut Pcg32) -> usize {
     }
 }
 
-// A guest whose rounds were sent, the channels in some order.
+// A guest's senders, of a single stream and on several channels.
 #[derive(Drop)]
-struct Drawn {
-    page_size: u64,
-    uuid: Uuid,
-    rounds: u64,
-    sendings: Sendings,
+struct Senders {
+    single: SingleSender,
+    several: MultiSender,
 }
 
-// Returns senders of a guest, on some channels, with some batch limit.
+// Returns senders on some channels, with some batch limit.
 fn random_senders(
     rt: &(impl AllocGlobal + Abort),
-    table: &Table,
+    memory: &Memory,
     uuid: Uuid,
     random: &mut Pcg32,
 ) -> Senders {
-    let channels = random_channels(random);
+    let table = memory.table();
     let page_size = table.page_size();
     assert!(rt; is_page_size(page_size));
     let limit = 1 + below(random, page_limit(page_size) as u64) as usize;
-    Senders::new(rt, table, uuid, channels, limit)
+    let several = MultiSender::new(rt.alloc(), table, uuid, random_channels(random), limit);
+    Senders {
+        single: SingleSender::new(rt.alloc(), table).expect(rt, "a sender"),
+        several: several.expect(rt, "a sender"),
+    }
 }
 
-// Sends `rounds` rounds of a guest.
-fn send<R: AllocGlobal + Abort + Threads + Sync>(
-    rt: &R,
-    table: &Table,
-    mut senders: Senders,
-    rounds: u64,
-    random: &mut Pcg32,
-) -> Sendings {
-    let mut memory = Memory::zeroed(rt.alloc(), table).expect(rt, "a memory");
-    for _ in 0..rounds {
-        let mut dirty = Dirty::none(rt.alloc(), table).expect(rt, "a set");
-        write_some(rt, &mut memory, &mut dirty, random);
-        senders.round(rt, &memory, &dirty);
+// ---- its rounds
+
+// The guest writes to some pages, or makes them zeros, and they are marked.
+fn are_written(memory: &mut Memory, dirty: &mut Dirty, random: &mut Pcg32) -> bool {
+    for _ in 0..below(random, 60) {
+        let block = below(random, memory.table().len() as u64) as usize;
+        if block >= memory.table().len() {
+            return false;
+        }
+        let page = below(random, memory.table().pages(block));
+        if !is_written(memory, dirty, at(block, page), random) {
+            return false;
+        }
     }
-    senders.finish(rt, memory)
+    true
+}
+
+// Sends a round of a guest both ways.
+fn is_sent<R: AllocGlobal + Abort + Threads + Sync>(
+    rt: &R,
+    senders: &mut Senders,
+    memory: &mut Memory,
+    random: &mut Pcg32,
+) -> bool {
+    let mut dirty = Dirty::none(rt.alloc(), memory.table()).expect(rt, "a set");
+    are_written(memory, &mut dirty, random)
+        && senders.single.round(memory, &dirty).is_ok()
+        && senders.several.round(rt, memory, &dirty, &OpenGate).is_ok()
+}
+
+// ---- their loads
+
+// Returns whether a load is Ok, has `rounds` rounds and this memory.
+fn is_whole(loaded: &Loaded, rounds: u64, guest: &Memory) -> bool {
+    match &loaded.memory {
+        Some(memory) => {
+            loaded.verdict == Ok(()) && loaded.rounds == rounds && is_same(memory, guest)
+        }
+        None => false,
+    }
+}
+
+// Returns whether a guest's single stream is loaded to its memory. START and END count as rounds,
+// too.
+fn is_single_loaded(
+    rt: &(impl AllocGlobal + Abort),
+    sender: SingleSender,
+    rounds: u64,
+    guest: &Memory,
+) -> bool {
+    let stream = sender.finish().ok().expect(rt, "a stream");
+    let page_size = guest.table().page_size();
+    if !is_page_size(page_size) {
+        return false;
+    }
+    let loaded = load_single(rt.alloc(), page_size, &stream, LIMIT);
+    is_whole(&loaded, rounds.wrapping_add(2), guest)
 }
 
 // Permutes streams.
@@ -104,69 +148,72 @@ fn shuffle(texts: &mut [Vec<u8>], random: &mut Pcg32) {
     }
 }
 
-// Draws the guest of a seed, and sends its rounds.
-fn draw<R: AllocGlobal + Abort + Threads + Sync>(rt: &R, seed: u64) -> Drawn {
-    let mut random = Pcg32::new(seed, 0);
-    let table = random_table(rt, &mut random);
-    let uuid = Uuid::from_u64_pair(random.next_u64(), random.next_u64());
-    let senders = random_senders(rt, &table, uuid, &mut random);
-    let rounds = below(&mut random, 5);
-    let mut sendings = send(rt, &table, senders, rounds, &mut random);
-    shuffle(&mut sendings.several.channels, &mut random);
-    Drawn {
-        page_size: table.page_size(),
-        uuid,
-        rounds,
-        sendings,
+// Returns whether a guest's streams of several channels, in some order, are loaded to its memory.
+fn is_several_loaded<R: AllocGlobal + Abort + Threads + Wait + Sync>(
+    rt: &R,
+    sender: MultiSender,
+    uuid: &Uuid,
+    rounds: u64,
+    guest: &Memory,
+    random: &mut Pcg32,
+) -> bool {
+    let mut sent = sender.finish().ok().expect(rt, "streams");
+    shuffle(&mut sent.channels, random);
+    let channels = sent.channels.as_slice();
+    let page_size = guest.table().page_size();
+    if !is_page_size(page_size) || channels.is_empty() || channels.len() > 255 {
+        return false;
     }
-}
-
-// Asserts that a load is Ok, has `rounds` rounds and this memory.
-fn assert_whole(rt: &impl Abort, loaded: &Loaded, rounds: u64, wanted: &Memory) {
-    assert!(rt; loaded.verdict == Ok(()) && loaded.rounds == rounds);
-    let memory = loaded.memory.as_ref().expect(rt, "a memory");
-    assert!(rt; is_same(memory, wanted));
-}
-
-// Asserts that a guest's single stream is loaded to its memory.
-fn assert_single(rt: &(impl AllocGlobal + Abort), guest: &Drawn) {
-    assert!(rt; is_page_size(guest.page_size));
-    let loaded = load_single(rt.alloc(), guest.page_size, &guest.sendings.single, LIMIT);
-    assert_whole(
+    let loaded = load_multi(
         rt,
-        &loaded,
-        guest.rounds.wrapping_add(2),
-        &guest.sendings.memory,
+        rt.alloc(),
+        page_size,
+        uuid,
+        &sent.main,
+        channels,
+        LIMIT,
+        &OpenGate,
     );
+    is_whole(&loaded, rounds, guest)
 }
 
-// Asserts that a guest's streams of several channels are loaded to its memory.
-fn assert_several<R: AllocGlobal + Abort + Threads + Wait + Sync>(rt: &R, guest: &Drawn) {
-    let loaded = load(rt, guest.page_size, &guest.uuid, &guest.sendings.several);
-    assert_whole(rt, &loaded, guest.rounds, &guest.sendings.memory);
-}
-
-// Asserts that the guests of a hundred seeds, from this one on, are loaded to their memories both
-// ways.
-fn assert_hundred<R: AllocGlobal + Abort + Threads + Wait + Sync>(rt: &R, from: u64) {
-    for i in 0..100u64 {
-        let guest = draw(rt, from.wrapping_add(i));
-        assert_single(rt, &guest);
-        assert_several(rt, &guest);
+// Draws the guest of a seed, sends its rounds, and loads them both ways.
+fn is_loaded_both_ways<R: AllocGlobal + Abort + Threads + Wait + Sync>(rt: &R, seed: u64) -> bool {
+    let mut random = Pcg32::new(seed, 0);
+    let mut memory = random_memory(rt, &mut random);
+    let uuid = Uuid::from_u64_pair(random.next_u64(), random.next_u64());
+    let mut senders = random_senders(rt, &memory, uuid, &mut random);
+    let rounds = below(&mut random, 5);
+    for _ in 0..rounds {
+        assert!(rt; is_sent(rt, &mut senders, &mut memory, &mut random));
     }
+    let Senders { single, several } = senders;
+    let is_single = is_single_loaded(rt, single, rounds, &memory);
+    let is_several = is_several_loaded(rt, several, &uuid, rounds, &memory, &mut random);
+    is_single && is_several
+}
+
+// Returns whether the guests of a hundred seeds, from this one on, are loaded to their memories.
+fn are_hundred_loaded<R: AllocGlobal + Abort + Threads + Wait + Sync>(rt: &R, from: u64) -> bool {
+    for i in 0..100u64 {
+        if !is_loaded_both_ways(rt, from.wrapping_add(i)) {
+            return false;
+        }
+    }
+    true
 }
 
 #[test]
 fn guests_0_to_99(rt: HostRuntime) {
-    assert_hundred(&rt, 0);
+    assert!(rt; are_hundred_loaded(&rt, 0));
 }
 
 #[test]
 fn guests_100_to_199(rt: HostRuntime) {
-    assert_hundred(&rt, 100);
+    assert!(rt; are_hundred_loaded(&rt, 100));
 }
 
 #[test]
 fn guests_200_to_299(rt: HostRuntime) {
-    assert_hundred(&rt, 200);
+    assert!(rt; are_hundred_loaded(&rt, 200));
 }

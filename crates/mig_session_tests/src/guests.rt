@@ -4,26 +4,19 @@
 
 ghost use Rattle.std.specs.Prelude.{◌≡◌, ◌<◌, ◌⊎◌};
 
-use crate::checked::CheckedSession;
-use crate::feeding::{feed_next, source_at, text_of};
-use crate::telling::{assert_as_loaded, is_same};
+use crate::feeding::{is_fed, is_same, new_session, source_at, text_of};
 use mig_answer::Verdict;
 use mig_fixtures::{at, set, table_of};
-use mig_mem::{Dirty, Memory, PAGE_SIZE_4K, PAGE_SIZE_8K, Place, Table, is_page_size};
+use mig_mem::{Dirty, Memory, PAGE_SIZE_4K, PAGE_SIZE_8K, Place};
 use mig_packet::OpenGate;
-use mig_relay::load_multi;
-use mig_send::{MultiSender, Sent, SingleSender};
-use mig_single_load::{Loaded, load_single};
+use mig_send::{MultiSender, Sent};
+use mig_session::{Session, Source};
 use rand_core::Rng;
 use rand_pcg::Pcg32;
-use std::alloc::{AllocGlobal, Allocator};
+use std::alloc::AllocGlobal;
 use std::process::Abort;
-use std::sync::Wait;
 use std::thread::Threads;
 use uuid::Uuid;
-
-/// The limit of the sum of the blocks' lengths: 1 TiB.
-pub(crate) const LIMIT: u64 = 1 << 40;
 
 // The kind of the random guests, and of the pieces in which their streams are fed.
 #[derive(Clone, Copy)]
@@ -70,56 +63,29 @@ pub(crate) fn below(random: &mut Pcg32, n: u64) -> u64
 
 // ---- the streams of a guest's rounds
 
-/// A guest's memory after its rounds, and the streams of the rounds.
-#[derive(Drop)]
-pub(crate) struct Sendings {
-    pub(crate) memory: Memory,
-    pub(crate) single: Vec<u8>,
-    pub(crate) several: Sent,
-}
-
-/// A guest's senders, of a single stream and on several channels.
-#[derive(Drop)]
-pub(crate) struct Senders {
-    single: SingleSender,
-    several: MultiSender,
-}
-
-impl Senders {
-    pub(crate) fn new(
-        rt: &(impl AllocGlobal + Abort),
-        table: &Table,
-        uuid: Uuid,
-        channels: usize,
-        limit: usize,
-    ) -> Senders {
-        let single = SingleSender::new(rt.alloc(), table).expect(rt, "a sender");
-        let several = MultiSender::new(rt.alloc(), table, uuid, channels, limit);
-        Senders {
-            single,
-            several: several.expect(rt, "a sender"),
-        }
+/// The guest writes a byte to a page, or makes it zeros, and the page is marked.
+pub(crate) fn is_written(
+    memory: &mut Memory,
+    dirty: &mut Dirty,
+    place: Place,
+    random: &mut Pcg32,
+) -> bool {
+    if !dirty.table().holds(place) || dirty.mark(place).is_err() {
+        return false;
     }
-
-    /// Sends a round both ways.
-    pub(crate) fn round<R: Abort + Threads + Sync>(
-        &mut self,
-        rt: &R,
-        memory: &Memory,
-        dirty: &Dirty,
-    ) {
-        assert!(rt; self.single.round(memory, dirty).is_ok());
-        assert!(rt; self.several.round(rt, memory, dirty, &OpenGate).is_ok());
+    if !memory.table().holds(place) {
+        return false;
     }
-
-    /// Returns the streams that were sent, with the guest's memory now.
-    pub(crate) fn finish(self, rt: &impl Abort, memory: Memory) -> Sendings {
-        Sendings {
-            memory,
-            single: self.single.finish().ok().expect(rt, "a text"),
-            several: self.several.finish().ok().expect(rt, "texts"),
-        }
+    if below(random, 3) == 0 {
+        memory.put_zero_page(place);
+        return true;
     }
+    let size = memory.table().page_size();
+    let offset = place
+        .page
+        .wrapping_mul(size)
+        .wrapping_add(below(random, size));
+    set(memory, place.block, offset, (random.next_u32() % 256) as u8)
 }
 
 // Returns the place of the page with this number. The pages are numbered through all blocks, in
@@ -131,86 +97,50 @@ fn place_of(kind: Kind, number: u64) -> Place {
     }
 }
 
-/// The guest writes a byte to a page, or makes it zeros, and the page is marked.
-pub(crate) fn write_page(
-    rt: &impl Abort,
-    memory: &mut Memory,
-    dirty: &mut Dirty,
-    place: Place,
-    random: &mut Pcg32,
-) {
-    assert!(rt; memory.table().holds(place) && dirty.table().holds(place));
-    assert!(rt; dirty.mark(place).is_ok());
-    if below(random, 3) == 0 {
-        memory.put_zero_page(place);
-        return;
-    }
-    let size = memory.table().page_size();
-    let offset = place
-        .page
-        .wrapping_mul(size)
-        .wrapping_add(below(random, size));
-    assert!(rt; set(memory, place.block, offset, (random.next_u32() % 256) as u8));
-}
-
 // The guest writes to some pages, or makes them zeros, and they are marked.
-fn write_some(
-    rt: &impl Abort,
-    kind: Kind,
-    memory: &mut Memory,
-    dirty: &mut Dirty,
-    random: &mut Pcg32,
-) {
+fn are_written(kind: Kind, memory: &mut Memory, dirty: &mut Dirty, random: &mut Pcg32) -> bool {
     let pages = kind.pages[0].wrapping_add(kind.pages[1]);
     for _ in 0..kind.least.wrapping_add(below(random, kind.more)) {
         let place = place_of(kind, below(random, pages));
-        write_page(rt, memory, dirty, place, random);
+        if !is_written(memory, dirty, place, random) {
+            return false;
+        }
     }
+    true
 }
 
-// Sends `rounds` rounds of a guest both ways.
-fn send<R: AllocGlobal + Abort + Threads + Sync>(
+// Sends a round of the pages that the guest writes.
+fn is_sent<R: AllocGlobal + Abort + Threads + Sync>(
     rt: &R,
     kind: Kind,
-    table: &Table,
+    sender: &mut MultiSender,
+    memory: &mut Memory,
+    random: &mut Pcg32,
+) -> bool {
+    let mut dirty = Dirty::none(rt.alloc(), memory.table()).expect(rt, "a set");
+    are_written(kind, memory, &mut dirty, random)
+        && sender.round(rt, memory, &dirty, &OpenGate).is_ok()
+}
+
+// Returns the streams of a guest whose memory was zeros at first.
+fn sent<R: AllocGlobal + Abort + Threads + Sync>(
+    rt: &R,
+    kind: Kind,
+    memory: &mut Memory,
     channels: usize,
     rounds: u64,
     random: &mut Pcg32,
-) -> Sendings {
+) -> Sent {
     let limit = 1 + below(random, kind.packet) as usize;
-    let mut memory = Memory::zeroed(rt.alloc(), table).expect(rt, "a memory");
-    let mut senders = Senders::new(rt, table, Uuid::nil(), channels, limit);
+    let made = MultiSender::new(rt.alloc(), memory.table(), Uuid::nil(), channels, limit);
+    let mut sender = made.expect(rt, "a sender");
     for _ in 0..rounds {
-        let mut dirty = Dirty::none(rt.alloc(), table).expect(rt, "a set");
-        write_some(rt, kind, &mut memory, &mut dirty, random);
-        senders.round(rt, &memory, &dirty);
+        assert!(rt; is_sent(rt, kind, &mut sender, memory, random));
     }
-    senders.finish(rt, memory)
+    sender.finish().ok().expect(rt, "streams")
 }
 
 // ---- their loads
-
-/// Loads the complete streams of several channels.
-pub(crate) fn load<R: AllocGlobal + Abort + Threads + Wait + Sync>(
-    rt: &R,
-    page_size: u64,
-    uuid: &Uuid,
-    texts: &Sent,
-) -> Loaded {
-    let channels = texts.channels.as_slice();
-    assert!(rt; 1 <= channels.len() && channels.len() <= 255);
-    assert!(rt; is_page_size(page_size));
-    load_multi(
-        rt,
-        rt.alloc(),
-        page_size,
-        uuid,
-        &texts.main,
-        channels,
-        LIMIT,
-        &OpenGate,
-    )
-}
 
 // Returns the length of a piece: the kind's, or a random one that is often short and sometimes as
 // long as several packets.
@@ -226,117 +156,120 @@ fn length_of_piece(kind: Kind, random: &mut Pcg32) -> usize {
     below(random, most) as usize
 }
 
-// Feeds the streams in pieces and in a random order of the sources, and ends each source after its
-// stream.
-fn feed_randomly<A: Allocator + Copy>(
+// Feeds the next bytes of a source, at most `len`, or ends it after its last byte.
+fn steps(session: &mut Session, source: Source, text: &[u8], len: usize) -> bool {
+    if !session.has(source) {
+        return false;
+    }
+    if session.ended(source) {
+        return true;
+    }
+    let rest = text.get(session.fed(source) as usize..).unwrap_or_default();
+    if rest.is_empty() {
+        session.end(source);
+        return true;
+    }
+    is_fed(session, source, &rest[..len.min(rest.len())])
+}
+
+// Feeds the streams in pieces and in a random order of the sources, until there is a verdict.
+fn is_done(
     rt: &impl Abort,
     kind: Kind,
-    session: &mut CheckedSession<A>,
-    texts: &Sent,
+    session: &mut Session,
+    sent: &Sent,
     random: &mut Pcg32,
-) {
-    let sources = texts.channels.len().wrapping_add(1);
-    let mut over = 0usize;
+) -> bool {
+    let sources = sent.channels.len().wrapping_add(1) as u64;
     for _ in 0..1_000_000u64 {
-        let source = source_at(below(random, sources as u64) as usize);
-        if session.ended(rt, source) {
-            continue;
+        let source = source_at(below(random, sources) as usize);
+        let len = length_of_piece(kind, random);
+        if !steps(session, source, text_of(rt, sent, source), len) {
+            return false;
         }
-        let text = text_of(rt, texts, source);
-        let fed = feed_next(rt, session, source, text, length_of_piece(kind, random));
-        if fed == Ok(false) {
-            session.end(rt, source);
-            over = over.wrapping_add(1);
-        }
-        assert!(rt; fed.is_ok());
-        if over == sources {
-            return;
+        if session.verdict() != Verdict::Running {
+            return session.verdict() == Verdict::Done;
         }
     }
-    panic!(rt; "a source that isn't over");
+    false
+}
+
+// Loads the streams of a guest in pieces. Returns whether the memory is the guest's.
+fn is_loaded(
+    rt: &(impl AllocGlobal + Abort),
+    kind: Kind,
+    sent: &Sent,
+    rounds: u64,
+    guest: &Memory,
+    random: &mut Pcg32,
+) -> bool {
+    let channels = sent.channels.len();
+    let mut session = new_session(rt, rt.alloc(), guest.table().page_size(), channels);
+    if !is_done(rt, kind, &mut session, sent, random) || session.rounds() != rounds {
+        return false;
+    }
+    match session.memory() {
+        Some(memory) => is_same(memory, guest),
+        None => false,
+    }
 }
 
 // Returns the sum of the channels' lengths.
-fn bytes_of(texts: &Sent) -> u64 {
+fn bytes_of(sent: &Sent) -> u64 {
     let mut bytes = 0u64;
-    for text in texts.channels.iter() {
+    for text in sent.channels.iter() {
         bytes = bytes.wrapping_add(text.len() as u64);
     }
     bytes
 }
 
-// Returns the streams of a guest's rounds, on `channels` channels.
-fn sent<R: AllocGlobal + Abort + Threads + Sync>(
+// Sends some rounds of a guest, and loads them four times.
+fn is_guest_loaded<R: AllocGlobal + Abort + Threads + Sync>(
     rt: &R,
     kind: Kind,
-    page_size: u64,
+    mut memory: Memory,
     channels: usize,
     rounds: u64,
     random: &mut Pcg32,
-) -> Sendings {
+) -> bool {
+    let sent = sent(rt, kind, &mut memory, channels, rounds, random);
+    for _ in 0..4u8 {
+        if !is_loaded(rt, kind, &sent, rounds, &memory, random) {
+            return false;
+        }
+    }
+    bytes_of(&sent) >= rounds.wrapping_mul(kind.bytes)
+}
+
+// Returns a memory of zeros for a guest.
+fn zeroed(rt: &(impl AllocGlobal + Abort), kind: Kind, page_size: u64) -> Memory {
     let blocks = [("pc.ram", kind.pages[0]), ("b", kind.pages[1])];
     let table = table_of(rt.alloc(), page_size, &blocks).expect(rt, "a table");
-    let sendings = send(rt, kind, &table, channels, rounds, random);
-    assert!(rt; bytes_of(&sendings.several) >= rounds.wrapping_mul(kind.bytes));
-    sendings
+    Memory::zeroed(rt.alloc(), &table).expect(rt, "a memory")
 }
 
-// Asserts that a guest's single stream is loaded to its memory.
-fn assert_single(rt: &(impl AllocGlobal + Abort), page_size: u64, sendings: &Sendings) {
-    assert!(rt; is_page_size(page_size));
-    let single = load_single(rt.alloc(), page_size, &sendings.single, LIMIT);
-    let memory = single.memory.as_ref().expect(rt, "a memory");
-    assert!(rt; is_same(memory, &sendings.memory));
-}
-
-// Asserts that loading a guest's streams of several channels in pieces gives what loading the
-// complete streams gave, and its memory.
-fn assert_in_pieces(
-    rt: &(impl AllocGlobal + Abort),
-    kind: Kind,
-    page_size: u64,
-    sendings: &Sendings,
-    loaded: &Loaded,
-    random: &mut Pcg32,
-) {
-    let channels = sendings.several.channels.len();
-    let made = CheckedSession::new(rt, rt.alloc(), page_size, channels);
-    let mut session = made.expect(rt, "a session");
-    feed_randomly(rt, kind, &mut session, &sendings.several, random);
-    assert_as_loaded(rt, &session, loaded);
-    assert!(rt; session.verdict() == Verdict::Done);
-    let memory = session.memory().expect(rt, "a memory");
-    assert!(rt; is_same(memory, &sendings.memory));
-}
-
-// Asserts that a guest's rounds are loaded alike in pieces, as complete streams of several
-// channels, and as a single stream.
-fn assert_loaded_alike<R: AllocGlobal + Abort + Threads + Wait + Sync>(
+// Sends and loads guests of up to five rounds on some channels.
+fn are_guests_loaded<R: AllocGlobal + Abort + Threads + Sync>(
     rt: &R,
-    kind: Kind,
     page_size: u64,
     channels: usize,
-    rounds: u64,
     random: &mut Pcg32,
-) {
-    let sendings = sent(rt, kind, page_size, channels, rounds, random);
-    assert_single(rt, page_size, &sendings);
-    let loaded = load(rt, page_size, &Uuid::nil(), &sendings.several);
-    assert!(rt; loaded.rounds == rounds && loaded.verdict == Ok(()));
-    for _ in 0..4u8 {
-        assert_in_pieces(rt, kind, page_size, &sendings, &loaded, random);
+) -> bool {
+    for rounds in 0..6u64 {
+        let memory = zeroed(rt, SMALL, page_size);
+        if !is_guest_loaded(rt, SMALL, memory, channels, rounds, random) {
+            return false;
+        }
     }
+    true
 }
 
 #[test]
 fn random_pieces_of_random_guests(rt: HostRuntime) {
     let mut random = Pcg32::new(1, 0);
-    for page_size in [PAGE_SIZE_4K, PAGE_SIZE_8K] {
-        for channels in [1usize, 2, 4] {
-            for rounds in 0..6u64 {
-                assert_loaded_alike(&rt, SMALL, page_size, channels, rounds, &mut random);
-            }
-        }
+    for channels in [1usize, 2, 4] {
+        assert!(rt; are_guests_loaded(&rt, PAGE_SIZE_4K, channels, &mut random));
+        assert!(rt; are_guests_loaded(&rt, PAGE_SIZE_8K, channels, &mut random));
     }
 }
 
@@ -344,6 +277,7 @@ fn random_pieces_of_random_guests(rt: HostRuntime) {
 fn rounds_of_several_mib_in_pieces_of_64_kib(rt: HostRuntime) {
     let mut random = Pcg32::new(2, 0);
     for page_size in [PAGE_SIZE_4K, PAGE_SIZE_8K] {
-        assert_loaded_alike(&rt, LARGE, page_size, 4, 3, &mut random);
+        let memory = zeroed(&rt, LARGE, page_size);
+        assert!(rt; is_guest_loaded(&rt, LARGE, memory, 4, 3, &mut random));
     }
 }

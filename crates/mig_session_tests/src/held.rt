@@ -1,113 +1,139 @@
 //! The bytes that a session holds while it runs, and after its verdict.
 
-use crate::checked::CheckedSession;
-use crate::feeding::source_at;
-use crate::telling::assert_tells;
-use crate::texts::{hello_of, main_of, put_page, put_sync};
+use crate::feeding::{are_fed, ends, is_fed, new_session, source_at};
+use crate::texts::{Part, hello_of, main_of, put_all};
 use mig_answer::Verdict;
 use mig_fixtures::TestHeap;
-use mig_session::Source;
-use std::alloc::AllocGlobal;
+use mig_session::{Session, Source};
+use std::alloc::{AllocGlobal, Allocator};
 use std::process::Abort;
 
 const ROUNDS: u64 = 200;
 
 const PAGES: u64 = 4;
 
-// Feeds a channel's part of a round: two of the four pages, and a SYNC packet. Each round has six
+// Returns the place in the main stream at which a round's FLUSH ends: byte 69 for the first round,
+// and 26 bytes more for each further round.
+fn end_of(round: u64) -> usize {
+    round.wrapping_mul(26).wrapping_add(69) as usize
+}
+
+// Returns a channel's part of a round: two of the four pages, and a SYNC packet. Each round has six
 // packets.
-fn feed_round(
-    rt: &(impl AllocGlobal + Abort),
-    session: &mut CheckedSession<&TestHeap>,
-    channel: u8,
-    round: u64,
-) {
+fn part_of(rt: &(impl AllocGlobal + Abort), channel: u8, round: u64) -> Vec<u8> {
     let mut text = if round == 0 {
         hello_of(rt, channel)
     } else {
         Vec::new(rt.alloc())
     };
-    let base = round.wrapping_mul(6);
     let first = u64::from(channel).wrapping_mul(2);
+    let number = round
+        .wrapping_mul(6)
+        .wrapping_add(u64::from(channel).wrapping_mul(3));
     let byte = (round % 256) as u8;
-    for page in [first, first.wrapping_add(1)] {
-        put_page(rt, &mut text, base.wrapping_add(page), page, byte);
-    }
-    put_sync(
-        rt,
-        &mut text,
-        base.wrapping_add(4).wrapping_add(u64::from(channel)),
-    );
-    let source = Source::Channel(channel as usize);
-    for piece in text.chunks(1000) {
-        assert!(rt; session.feed(rt, source, piece) == Ok(()));
-    }
+    let packets = [
+        (number, Part::Page(first, byte)),
+        (
+            number.wrapping_add(1),
+            Part::Page(first.wrapping_add(1), byte),
+        ),
+        (number.wrapping_add(2), Part::Sync),
+    ];
+    put_all(rt, &mut text, &packets);
+    text
 }
 
-// Feeds the part of the main stream that ends with a round's flush, which is byte 69 for the first
-// round and 26 bytes more for each further round.
-fn feed_main(rt: &impl Abort, session: &mut CheckedSession<&TestHeap>, main: &[u8], round: u64) {
-    let to = round.wrapping_mul(26).wrapping_add(69) as usize;
-    let from = session.fed(rt, Source::Main) as usize;
-    let part = main.get(from..to).expect(rt, "a part");
-    assert!(rt; session.feed(rt, Source::Main, part) == Ok(()));
-}
-
-// Ends all three sources after the rounds. The session is done, and holds only the guest's memory
-// and small lists.
-fn assert_given_back(
-    rt: &impl Abort,
-    heap: &TestHeap,
-    mut session: CheckedSession<&TestHeap>,
+// Feeds a round on both channels, and then on the main stream. Returns whether it is counted.
+fn is_counted<A: Allocator + Copy>(
+    rt: &(impl AllocGlobal + Abort),
+    session: &mut Session<A>,
     main: &[u8],
-) {
-    let rest = main
-        .get(session.fed(rt, Source::Main) as usize..)
-        .expect(rt, "a part");
-    assert!(rt; session.feed(rt, Source::Main, rest) == Ok(()));
-    let running = heap.held();
-    for number in 0..3usize {
-        assert_tells(rt, &session, ROUNDS, Verdict::Running);
-        session.end(rt, source_at(number));
+    round: u64,
+) -> bool {
+    for channel in [0u8, 1] {
+        let text = part_of(rt, channel, round);
+        if !are_fed(session, Source::Channel(channel as usize), &text, 1000) {
+            return false;
+        }
     }
-    assert_tells(rt, &session, ROUNDS, Verdict::Done);
-    let done = heap.held();
-    let copy = session
-        .memory()
-        .expect(rt, "a memory")
-        .try_copy()
-        .expect(rt, "a copy");
-    let guest = heap.held().wrapping_sub(done);
-    drop(copy);
-    assert!(rt; done < running);
-    assert!(rt;
-        guest <= done && done <= guest.wrapping_add(512),
-        "{running} {done} {guest}"
-    );
-    drop(session);
-    assert!(rt; heap.held() == 0);
+    let from = if round == 0 {
+        0
+    } else {
+        end_of(round.wrapping_sub(1))
+    };
+    let part = main.get(from..end_of(round)).unwrap_or_default();
+    is_fed(session, Source::Main, part) && session.rounds() == round.wrapping_add(1)
 }
 
-// Each round is fed on both channels and then on the main stream.
+// Feeds all rounds. Returns whether none leaves more bytes held than the first two did.
+fn holds_no_more<A: Allocator + Copy>(
+    rt: &(impl AllocGlobal + Abort),
+    heap: &TestHeap,
+    session: &mut Session<A>,
+    main: &[u8],
+) -> bool {
+    let mut most = 0u64;
+    for round in 0..ROUNDS {
+        if !is_counted(rt, session, main, round) {
+            return false;
+        }
+        if round < 2 {
+            most = heap.held();
+        }
+        if heap.held() > most {
+            return false;
+        }
+    }
+    true
+}
+
+// Feeds the rest of the main stream, and ends all sources.
+fn is_done<A: Allocator + Copy>(session: &mut Session<A>, main: &[u8]) -> bool {
+    let rest = main
+        .get(end_of(ROUNDS.wrapping_sub(1))..)
+        .unwrap_or_default();
+    if !is_fed(session, Source::Main, rest) {
+        return false;
+    }
+    for number in 0..3usize {
+        if session.verdict() != Verdict::Running || !ends(session, source_at(number)) {
+            return false;
+        }
+    }
+    session.verdict() == Verdict::Done && session.rounds() == ROUNDS
+}
+
+// Returns how many bytes a copy of a session's memory holds.
+fn bytes_of_memory<A: Allocator + Copy>(heap: &TestHeap, session: &Session<A>) -> Option<u64> {
+    let before = heap.held();
+    let _copy = session.memory()?.try_copy().ok()?;
+    Some(heap.held().wrapping_sub(before))
+}
+
+// Loads the rounds. Returns whether the session that is done holds the guest's memory, and no more
+// than a few small lists in addition.
+fn holds_its_memory<A: Allocator + Copy>(
+    rt: &(impl AllocGlobal + Abort),
+    heap: &TestHeap,
+    alloc: A,
+    main: &[u8],
+) -> bool {
+    let mut session = new_session(rt, alloc, 4096, 2);
+    if !holds_no_more(rt, heap, &mut session, main) {
+        return false;
+    }
+    let running = heap.held();
+    if !is_done(&mut session, main) {
+        return false;
+    }
+    let done = heap.held();
+    let guest = bytes_of_memory(heap, &session).unwrap_or(0);
+    0 < guest && guest <= done && done <= guest.wrapping_add(512) && done < running
+}
+
 #[test]
 fn rounds_one_by_one(rt: HostRuntime) {
     let main = main_of(&rt, PAGES, ROUNDS);
     let heap = TestHeap::new(rt.alloc());
-    let mut session = CheckedSession::new(&rt, &heap, 4096, 2).expect(&rt, "a session");
-    let mut after_two = 0u64;
-    for round in 0..ROUNDS {
-        feed_round(&rt, &mut session, 0, round);
-        feed_round(&rt, &mut session, 1, round);
-        feed_main(&rt, &mut session, &main, round);
-        assert_tells(&rt, &session, round.wrapping_add(1), Verdict::Running);
-        if round == 1 {
-            after_two = heap.held();
-        }
-        assert!(rt;
-            round < 2 || heap.held() <= after_two,
-            "{round}: {} {after_two}",
-            heap.held()
-        );
-    }
-    assert_given_back(&rt, &heap, session, &main);
+    assert!(rt; holds_its_memory(&rt, &heap, &heap, &main) && heap.held() == 0);
 }

@@ -1,31 +1,19 @@
-//! Tests of a load on several channels that is fed in pieces: worked streams byte by byte, guests
-//! from a seeded generator in random pieces, each allocation refused, and the bytes that are held
-//! meanwhile. Also tests of guests from the same generator whose complete streams are loaded.
-//! Streams with a fault are in `mig_in_place_tests`, whose tests feed a session too.
+//! Tests of a load on several channels that is fed in pieces: worked streams, guests from a seeded
+//! generator in random pieces, readers that fail, and the bytes that are held meanwhile. Also tests
+//! of guests from the same generator whose complete streams are loaded. Streams with a fault are in
+//! `mig_in_place_tests`, whose tests feed a session too.
 #![tactic(auto)]
 
-#[cfg(test)]
-mod checked;
 #[cfg(test)]
 mod drawn;
 #[cfg(test)]
 mod feeding;
-#[cfg(test)]
-mod framed;
 #[cfg(test)]
 mod guests;
 #[cfg(test)]
 mod held;
 #[cfg(test)]
 mod pumping;
-#[cfg(test)]
-mod refused;
-#[cfg(test)]
-mod refuses;
-#[cfg(test)]
-mod settled;
-#[cfg(test)]
-mod telling;
 #[cfg(test)]
 mod texts;
 #[cfg(test)]

@@ -1,265 +1,185 @@
-//! Pumps of the worked streams from readers with short reads, readers that don't end and readers
-//! that fail, and with each allocation refused.
+//! Pumps from readers with short reads, readers that don't end and readers that fail.
 
-use crate::checked::CheckedSession;
-use crate::feeding::{feed_text, source_at, text_of};
-use crate::refuses::Refuses;
-use crate::telling::{assert_page_and_zeros, assert_tells, failed};
-use crate::texts::page_and_zeros;
+use crate::feeding::{are_fed, ends, is_ended, new_session, source_at, text_of};
+use crate::texts::nines;
 use mig_answer::Verdict;
-use mig_fixtures::TestHeap;
 use mig_send::Sent;
-use mig_session::{PumpFault, Source};
-use mig_single_load::{Fault, Origin};
-use std::alloc::{AllocGlobal, Allocator};
+use mig_session::{Counted, PumpFault, Session, Source, pump};
+use std::alloc::AllocGlobal;
 use std::io::{self, Read};
 use std::process::Abort;
 
 // A reader that returns `len` bytes from the first read, and `more` bytes more from each further
 // one. It fails once, at read `fails_at`, counted from 1; at none if that is 0.
 #[derive(Drop)]
-struct Slow {
-    text: Vec<u8>,
-    // the number of bytes that it returned
-    given: usize,
+struct Slow<'a> {
+    rest: &'a [u8],
     len: usize,
     more: usize,
     fails_at: usize,
 }
 
-impl Read for Slow {
+impl<'a> Read for Slow<'a> {
     fn read(&mut self, buf: &mut [u8]) -> io::Result<usize> {
         let fails = self.fails_at == 1;
         self.fails_at = self.fails_at.saturating_sub(1);
         if fails {
             return Err(io::Error::from(io::ErrorKind::Other));
         }
-        let rest = self.text.get(self.given..).unwrap_or_default();
-        let n = self.len.min(rest.len()).min(buf.len());
-        buf[..n].copy_from_slice(&rest[..n]);
-        self.given = self.given.saturating_add(n);
+        let n = self.len.min(self.rest.len()).min(buf.len());
+        let (piece, rest) = self.rest.split_at(n);
+        buf[..n].copy_from_slice(piece);
+        self.rest = rest;
         self.len = self.len.saturating_add(self.more);
         Ok(n)
     }
 }
 
-// Returns a reader of `len` bytes a read.
-fn reader_of(rt: &(impl AllocGlobal + Abort), text: &[u8], len: usize) -> Slow {
-    Slow {
-        text: Vec::from_slice(rt.alloc(), text).expect(rt, "a text"),
-        given: 0,
-        len,
-        more: 0,
-        fails_at: 0,
-    }
-}
-
 // Returns a session that was fed all of the other source.
-fn start<A: Allocator + Copy>(
-    rt: &impl Abort,
-    alloc: A,
-    texts: &Sent,
-    other: Source,
-) -> CheckedSession<A> {
-    let mut session = CheckedSession::new(rt, alloc, 4096, 1).expect(rt, "a session");
-    feed_text(rt, &mut session, other, text_of(rt, texts, other), 1000);
-    session.end(rt, other);
+fn start(rt: &(impl AllocGlobal + Abort), sent: &Sent, number: usize) -> Session {
+    let other = source_at(1usize.saturating_sub(number));
+    let mut session = new_session(rt, rt.alloc(), 4096, 1);
+    assert!(rt; are_fed(&mut session, other, text_of(rt, sent, other), 1000));
+    assert!(rt; ends(&mut session, other));
     session
 }
 
-// Asserts the number of bytes fed of the main stream, that it hasn't ended, and the session's
-// verdict.
-fn assert_stopped<A: Allocator>(rt: &impl Abort, session: &CheckedSession<A>, fed: u64) {
-    assert!(rt; session.fed(rt, Source::Main) == fed && !session.ended(rt, Source::Main));
-    let verdict = if fed < 101 {
-        Verdict::Running
-    } else {
-        Verdict::Done
-    };
-    assert_tells(rt, session, u64::from(fed >= 69), verdict);
+// Pumps a source by at most `turns` reads. Returns whether the result is this one.
+fn has_result<R: Read + Drop>(
+    rt: &(impl AllocGlobal + Abort),
+    session: &mut Session,
+    source: Source,
+    reader: R,
+    turns: u64,
+    wanted: Result<u64, PumpFault>,
+) -> bool {
+    if !session.has(source) || session.ended(source) {
+        return false;
+    }
+    if turns > 1 << 40 || session.fed(source) > 1 << 62 {
+        return false;
+    }
+    let mut reader = Counted::new(reader);
+    pump(rt.alloc(), &mut reader, session, source, turns) == wanted
 }
 
-// Pumps the rest of the main stream, and asserts that the load is done.
-fn assert_pumped_on(rt: &(impl AllocGlobal + Abort), session: &mut CheckedSession, rest: &[u8]) {
-    let turns = rest.len().wrapping_add(1) as u64;
-    let pumped = session.pump(rt, rt.alloc(), reader_of(rt, rest, 1), Source::Main, turns);
-    assert!(rt; pumped == Ok(rest.len() as u64));
-    assert!(rt; session.ended(rt, Source::Main) && session.fed(rt, Source::Main) == 101);
-    assert_tells(rt, session, 1, Verdict::Done);
-    assert_page_and_zeros(rt, session);
+// ---- reads that fail
+
+// Returns a reader of one byte a read.
+fn slow_reader(rest: &[u8], fails_at: usize) -> Slow<'_> {
+    Slow {
+        rest,
+        len: 1,
+        more: 0,
+        fails_at,
+    }
+}
+
+// Pumps the main stream, which fails after `good` reads, and then its rest from another reader.
+fn goes_on_after(rt: &(impl AllocGlobal + Abort), sent: &Sent, good: usize) -> bool {
+    let mut session = start(rt, sent, 0);
+    let (main, failed) = (Source::Main, Err(PumpFault::Read));
+    let reader = slow_reader(&sent.main, good.wrapping_add(1));
+    if !has_result(rt, &mut session, main, reader, 102, failed) {
+        return false;
+    }
+    if !session.has(main) || session.fed(main) != good as u64 {
+        return false;
+    }
+    let rest = sent.main.get(good..).unwrap_or_default();
+    let all = Ok(rest.len() as u64);
+    has_result(rt, &mut session, main, slow_reader(rest, 0), 102, all)
+        && is_ended(&session, main, 101)
+        && session.verdict() == Verdict::Done
 }
 
 // The main stream has 101 bytes, and one more read finds its end.
 #[test]
-fn turns_for_each_number_of_bytes(rt: HostRuntime) {
-    let texts = page_and_zeros(&rt);
-    let main = texts.main.as_slice();
-    for turns in 0..102usize {
-        let mut session = start(&rt, rt.alloc(), &texts, Source::Channel(0));
-        let reader = reader_of(&rt, main, 1);
-        let pumped = session.pump(&rt, rt.alloc(), reader, Source::Main, turns as u64);
-        assert!(rt; pumped == Err(PumpFault::TooManyTurns));
-        assert_stopped(&rt, &session, turns as u64);
-        let rest = main.get(turns..).expect(&rt, "the rest");
-        assert_pumped_on(&rt, &mut session, rest);
-    }
-    let mut session = start(&rt, rt.alloc(), &texts, Source::Channel(0));
-    assert_pumped_on(&rt, &mut session, main);
-}
-
-#[test]
 fn each_read_failing(rt: HostRuntime) {
-    let texts = page_and_zeros(&rt);
-    for fails_at in 1..103usize {
-        let mut session = start(&rt, rt.alloc(), &texts, Source::Channel(0));
-        let mut reader = reader_of(&rt, &texts.main, 1);
-        reader.fails_at = fails_at;
-        let pumped = session.pump(&rt, rt.alloc(), &mut reader, Source::Main, 102);
-        assert!(rt; pumped == Err(PumpFault::Read));
-        assert!(rt; reader.given == fails_at.wrapping_sub(1));
-        assert_stopped(&rt, &session, reader.given as u64);
-        let rest = texts.main.get(reader.given..).expect(&rt, "the rest");
-        assert_pumped_on(&rt, &mut session, rest);
+    let sent = nines(&rt);
+    for good in 0..102usize {
+        assert!(rt; goes_on_after(&rt, &sent, good));
     }
 }
 
-// Pumps a source by at most `turns` reads, of `len` bytes and one more with each read, into a
-// session that was fed all of the other source. All bytes of the source are fed.
-fn pumped(
+// ---- the lengths of reads
+
+// Pumps a source by `turns` reads, of `len` bytes and one more with each read. Returns whether the
+// result is this one.
+fn is_pumped(
     rt: &(impl AllocGlobal + Abort),
-    texts: &Sent,
-    number: usize,
-    len: usize,
-    turns: u64,
-) -> (CheckedSession, Result<u64, PumpFault>) {
-    let source = source_at(number);
-    let text = text_of(rt, texts, source);
-    let mut session = start(
-        rt,
-        rt.alloc(),
-        texts,
-        source_at(1usize.wrapping_sub(number)),
-    );
-    let mut reader = reader_of(rt, text, len);
-    reader.more = 1;
-    let pumped = session.pump(rt, rt.alloc(), reader, source, turns);
-    assert!(rt; session.fed(rt, source) == text.len() as u64);
-    (session, pumped)
-}
-
-// Asserts that `turns` reads don't find the end of a source.
-fn assert_not_ended(
-    rt: &(impl AllocGlobal + Abort),
-    texts: &Sent,
-    number: usize,
-    len: usize,
-    turns: u64,
-) {
-    let (session, run) = pumped(rt, texts, number, len, turns);
-    assert!(rt; run == Err(PumpFault::TooManyTurns));
-    assert!(rt; !session.ended(rt, source_at(number)));
-}
-
-// Asserts that a source is pumped to its end by exactly `turns` reads, of `len` bytes and one more
-// with each read, and that the load is done.
-fn assert_whole(
-    rt: &(impl AllocGlobal + Abort),
-    texts: &Sent,
-    number: usize,
-    len: usize,
-    turns: u64,
-) {
-    assert_not_ended(rt, texts, number, len, turns.wrapping_sub(1));
-    let source = source_at(number);
-    let (session, run) = pumped(rt, texts, number, len, turns);
-    assert!(rt; run == Ok(session.fed(rt, source)) && session.ended(rt, source));
-    assert_tells(rt, &session, 1, Verdict::Done);
-    assert_page_and_zeros(rt, &session);
-}
-
-// Reads of 1, 2, 3 and more bytes, and one read of all bytes, each with the read that finds the
-// end. One read has room for 65,536 bytes.
-#[test]
-fn reads_of_many_lengths(rt: HostRuntime) {
-    let texts = page_and_zeros(&rt);
-    assert_whole(&rt, &texts, 0, 1, 15);
-    assert_whole(&rt, &texts, 0, usize::MAX, 2);
-    assert_whole(&rt, &texts, 1, 1, 118);
-    assert_whole(&rt, &texts, 1, usize::MAX, 2);
-    let channel = Source::Channel(0);
-    let zeros = [0u8; 70_000];
-    let mut session = start(&rt, rt.alloc(), &texts, Source::Main);
-    let pumped = session.pump(&rt, rt.alloc(), &zeros[..], channel, 1);
-    assert!(rt; pumped == Err(PumpFault::TooManyTurns) && session.fed(&rt, channel) == 65_536);
-}
-
-// Pumps a source with allocation `nth` refused, and returns whether it was. The first allocation is
-// the buffer's, which leaves the session as it was. Each other allocation is a piece's, whose bytes
-// count.
-fn is_refused<A: Refuses>(
-    rt: &impl Abort,
-    heap: A,
-    session: &mut CheckedSession<A>,
+    session: &mut Session,
     source: Source,
-    mut reader: Slow,
-    nth: u64,
+    text: &[u8],
+    len: usize,
+    turns: u64,
+    wanted: Result<u64, PumpFault>,
 ) -> bool {
-    heap.refuse(nth);
-    let pumped = session.pump(rt, heap, &mut reader, source, 100);
-    let is_waiting = heap.is_waiting();
-    heap.refuse(0);
-    let fed = reader.given as u64;
-    assert!(rt; session.fed(rt, source) == fed);
-    if is_waiting {
-        assert!(rt; pumped == Ok(fed) && session.ended(rt, source));
+    let reader = Slow {
+        rest: text,
+        len,
+        more: 1,
+        fails_at: 0,
+    };
+    has_result(rt, session, source, reader, turns, wanted)
+}
+
+// Returns whether a source is pumped to its end by exactly `turns` reads.
+fn takes_turns(
+    rt: &(impl AllocGlobal + Abort),
+    sent: &Sent,
+    number: usize,
+    len: usize,
+    turns: u64,
+) -> bool {
+    let source = source_at(number);
+    let text = text_of(rt, sent, source);
+    let few = Err(PumpFault::TooManyTurns);
+    let mut session = start(rt, sent, number);
+    if !is_pumped(
+        rt,
+        &mut session,
+        source,
+        text,
+        len,
+        turns.saturating_sub(1),
+        few,
+    ) {
         return false;
     }
-    assert!(rt; pumped == Err(PumpFault::NoMemory) && !session.ended(rt, source));
-    let rounds = session.rounds();
-    if nth == 1 {
-        assert!(rt; fed == 0);
-        assert_tells(rt, session, 0, Verdict::Running);
-    } else {
-        let fault = failed(rounds, Origin::Round, Fault::NoMemory);
-        assert_tells(rt, session, rounds, fault);
-    }
-    true
+    let all = text.len() as u64;
+    session = start(rt, sent, number);
+    is_pumped(rt, &mut session, source, text, len, turns, Ok(all))
+        && is_ended(&session, source, all)
+        && session.verdict() == Verdict::Done
 }
 
-// Pumps a source, with allocation `nth` refused, into a session that was fed all of the other
-// source. Returns whether it was refused. If it wasn't, the load is done.
-fn is_pump_refused<A: Refuses>(
-    rt: &impl Abort,
-    heap: A,
-    texts: &Sent,
-    number: usize,
-    reader: Slow,
-    nth: u64,
-) -> bool {
-    let other = source_at(1usize.wrapping_sub(number));
-    let mut session = start(rt, heap, texts, other);
-    let refused = is_refused(rt, heap, &mut session, source_at(number), reader, nth);
-    if !refused {
-        assert_tells(rt, &session, 1, Verdict::Done);
-        assert_page_and_zeros(rt, &session);
+// The main stream and the channel, by reads of 1, 2, 3 and more bytes, and by one read of all
+// bytes. One more read finds the end.
+#[test]
+fn reads_of_many_lengths(rt: HostRuntime) {
+    let sent = nines(&rt);
+    for (number, len, turns) in [
+        (0usize, 1usize, 15u64),
+        (0, usize::MAX, 2),
+        (1, 1, 118),
+        (1, usize::MAX, 2),
+    ] {
+        assert!(rt; takes_turns(&rt, &sent, number, len, turns));
     }
-    refused
+}
+
+// Returns whether one read of a channel of zeros takes 65,536 bytes.
+fn has_room(rt: &(impl AllocGlobal + Abort), zeros: &[u8]) -> bool {
+    let mut session = new_session(rt, rt.alloc(), 4096, 1);
+    let few = Err(PumpFault::TooManyTurns);
+    let channel = Source::Channel(0);
+    has_result(rt, &mut session, channel, zeros, 1, few)
+        && session.has(channel)
+        && session.fed(channel) == 65_536
 }
 
 #[test]
-fn each_allocation_refused(rt: HostRuntime) {
-    let texts = page_and_zeros(&rt);
-    let heap = TestHeap::new(rt.alloc());
-    for number in 0..2usize {
-        let text = text_of(&rt, &texts, source_at(number));
-        let mut refusals = 0u64;
-        for nth in 1..1000u64 {
-            let reader = reader_of(&rt, text, 1000);
-            if !is_pump_refused(&rt, &heap, &texts, number, reader, nth) {
-                break;
-            }
-            refusals = nth;
-        }
-        assert!(rt; 1 < refusals && refusals < 999);
-    }
+fn room_of_a_read(rt: HostRuntime) {
+    assert!(rt; has_room(&rt, &[0; 70_000]));
 }

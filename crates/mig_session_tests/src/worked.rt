@@ -1,147 +1,102 @@
-//! The worked streams of one round on one channel, fed in small pieces.
+//! Streams of one round on one channel, worked by hand, in small pieces.
 
-use crate::checked::CheckedSession;
-use crate::feeding::{feed_text, source_at, text_of};
-use crate::telling::{assert_full, assert_page_and_zeros, assert_tells, failed};
-use crate::texts::{page_and_zeros, set_byte, sevens_on_two};
+use crate::feeding::{LIMIT, are_fed, ends, is_fed, new_session, text_of};
+use crate::texts::nines;
 use mig_answer::Verdict;
-use mig_packet::ChannelFault;
-use mig_session::Source;
-use mig_single_load::{Fault, Origin};
-use mig_stream::StreamFault;
+use mig_fixtures::{at, is_full};
+use mig_send::Sent;
+use mig_session::{Session, Source};
+use mig_single_load::LoadSettings;
+use mig_stream::Frame;
 use std::alloc::AllocGlobal;
 use std::process::Abort;
+use uuid::Uuid;
 
-// Asserts the session's result after `main` bytes of the main stream, and the complete channel or a
-// part of it.
-fn assert_worked(rt: &impl Abort, session: &CheckedSession, main: u64, has_channel: bool) {
-    let has_round = has_channel && main >= 69;
-    let is_done = main == 101 && session.ended(rt, Source::Channel(0));
-    let verdict = if is_done {
-        Verdict::Done
-    } else {
-        Verdict::Running
-    };
-    assert_tells(rt, session, u64::from(has_round), verdict);
-    if main < 43 {
-        assert!(rt; session.memory().is_none());
-    } else if has_round {
-        assert_page_and_zeros(rt, session);
-    } else {
-        assert_full(rt, session, 2, 0);
+const CHANNEL: Source = Source::Channel(0);
+
+// Feeds all of the channel, and ends it.
+fn has_channel(rt: &impl Abort, session: &mut Session, sent: &Sent) -> bool {
+    are_fed(session, CHANNEL, text_of(rt, sent, CHANNEL), 1) && ends(session, CHANNEL)
+}
+
+// Returns whether page 1 is filled with this byte.
+fn has_page(session: &Session, byte: u8) -> bool {
+    session
+        .memory()
+        .is_some_and(|memory| is_full(memory, at(0, 1), byte))
+}
+
+// Returns whether the results are right after `main` bytes of the main stream, and all of the
+// channel.
+fn is_right_after(session: &Session, main: usize) -> bool {
+    match main {
+        0..43 => session.memory().is_none() && session.rounds() == 0,
+        43..69 => has_page(session, 0) && session.rounds() == 0,
+        69..101 => session.verdict() == Verdict::Running && session.rounds() == 1,
+        _ => session.verdict() == Verdict::Done && has_page(session, 9),
     }
 }
 
-// Feeds a source in pieces of `len` bytes, and asserts the result after each.
-fn feed_worked(
-    rt: &impl Abort,
-    session: &mut CheckedSession,
-    source: Source,
-    text: &[u8],
-    len: usize,
-) {
-    for piece in text.chunks(len.max(1)) {
-        assert!(rt; session.feed(rt, source, piece) == Ok(()));
-        let main = session.fed(rt, Source::Main);
-        let has_channel = session.fed(rt, Source::Channel(0)) == 6848;
-        assert_worked(rt, session, main, has_channel);
+// Feeds the main stream byte by byte. Returns whether the results are right after each byte.
+fn is_right_after_each(session: &mut Session, main: &[u8]) -> bool {
+    for (at, piece) in main.chunks(1).enumerate() {
+        if !is_fed(session, Source::Main, piece) || !is_right_after(session, at.wrapping_add(1)) {
+            return false;
+        }
     }
+    true
 }
 
 // The load is done with the main stream's last byte, before that stream is ended.
 #[test]
-fn bytes_of_the_channel_and_then_of_main(rt: HostRuntime) {
-    let texts = page_and_zeros(&rt);
-    let made = CheckedSession::new(&rt, rt.alloc(), 4096, 1);
-    let mut session = made.expect(&rt, "a session");
-    let channel = Source::Channel(0);
-    feed_worked(&rt, &mut session, channel, text_of(&rt, &texts, channel), 1);
-    session.end(&rt, channel);
-    assert_worked(&rt, &session, 0, true);
-    feed_worked(&rt, &mut session, Source::Main, &texts.main, 1);
-    assert_tells(&rt, &session, 1, Verdict::Done);
-    assert!(rt; !session.ended(&rt, Source::Main));
-    session.end(&rt, Source::Main);
-    assert_worked(&rt, &session, 101, true);
+fn channel_and_then_each_byte_of_main(rt: HostRuntime) {
+    let sent = nines(&rt);
+    let mut session = new_session(&rt, rt.alloc(), 4096, 1);
+    assert!(rt; has_channel(&rt, &mut session, &sent));
+    assert!(rt; is_right_after_each(&mut session, &sent.main));
 }
 
-// The round is complete with the channel's last piece, and the load is done with the second end.
-#[test]
-fn main_and_then_the_channel(rt: HostRuntime) {
-    let texts = page_and_zeros(&rt);
-    let made = CheckedSession::new(&rt, rt.alloc(), 4096, 1);
-    let mut session = made.expect(&rt, "a session");
-    let channel = Source::Channel(0);
-    feed_worked(&rt, &mut session, Source::Main, &texts.main, 7);
-    feed_worked(
-        &rt,
-        &mut session,
-        channel,
-        text_of(&rt, &texts, channel),
-        1000,
-    );
-    assert_tells(&rt, &session, 1, Verdict::Running);
-    session.end(&rt, Source::Main);
-    assert_worked(&rt, &session, 101, true);
-    assert_tells(&rt, &session, 1, Verdict::Running);
-    session.end(&rt, channel);
-    assert_worked(&rt, &session, 101, true);
-    assert_tells(&rt, &session, 1, Verdict::Done);
-}
+// ---- a machine's main stream
 
-// Returns a session that was fed the streams of 129 pages in pieces of `len` bytes, the main stream
-// first. Channel 1's hello has another UUID, and the main stream is cut after `main` bytes.
-fn fed_of_another_uuid(rt: &(impl AllocGlobal + Abort), main: usize, len: usize) -> CheckedSession {
-    let mut texts = sevens_on_two(rt);
-    texts.main.truncate(main);
-    let second = texts.channels.get_mut(1).expect(rt, "a channel");
-    set_byte(rt, second, 8, 1);
-    let made = CheckedSession::new(rt, rt.alloc(), 4096, 2);
-    let mut session = made.expect(rt, "a session");
-    for number in 0..3usize {
-        let source = source_at(number);
-        feed_text(rt, &mut session, source, text_of(rt, &texts, source), len);
+// Returns the main stream of `nines` as a machine's: with the configuration `pc` and
+// OPEN_RETURN_PATH before START, and a device's section after the 18 bytes of END, which begin at
+// byte 82 of RAM's sections.
+fn machines_main(rt: &(impl AllocGlobal + Abort), ram: &[u8]) -> Vec<u8> {
+    let mut main = Vec::new(rt.alloc());
+    for piece in [
+        ram.get(..8).expect(rt, "a header"),
+        b"\x07\x00\x00\x00\x02pc\x08\x00\x01\x00\x00",
+        ram.get(8..82).expect(rt, "sections"),
+        b"\x08\x00\x0b\x00\x00",
+        ram.get(82..100).expect(rt, "END"),
+        b"\x04\x00\x00\x00\x02\x05timer",
+    ] {
+        assert!(rt; main.extend_from_slice(piece).is_ok());
     }
-    session
+    main
 }
 
-// Asserts the fault that decides the load: there is no verdict before it, and it never changes.
-fn assert_failed(rt: &impl Abort, session: &CheckedSession, source: Origin, fault: Fault) {
-    assert_tells(rt, session, 0, failed(0, source, fault));
-    assert_full(rt, session, 129, 0);
+fn machines_session(rt: &(impl AllocGlobal + Abort)) -> Session {
+    let settings = LoadSettings::new(4096, LIMIT).with_frame(Frame::Machine);
+    Session::new_in(rt.alloc(), settings, &Uuid::nil(), 1).expect(rt, "a session")
 }
 
-// The main stream is cut inside its round. While the main stream may continue, the channel's fault
-// isn't reported; after its end its own fault is first.
+// Loads a machine's main stream in pieces of `len` bytes. It is closed after 117 bytes, by END's
+// footer.
+fn is_done(rt: &(impl AllocGlobal + Abort), sent: &Sent, main: &[u8], len: usize) -> bool {
+    let mut session = machines_session(rt);
+    has_channel(rt, &mut session, sent)
+        && are_fed(&mut session, Source::Main, main, len)
+        && session.verdict() == Verdict::Done
+        && session.closed_at() == Some(117)
+        && has_page(&session, 9)
+}
+
 #[test]
-fn bad_channel_beside_a_main_stream_that_is_cut(rt: HostRuntime) {
-    let truncated = Fault::Stream(StreamFault::Truncated);
-    for order in [[0usize, 1, 2], [1, 2, 0], [2, 0, 1]] {
-        let mut session = fed_of_another_uuid(&rt, 68, 1000);
-        let mut is_over = false;
-        for number in order {
-            if !is_over {
-                assert_tells(&rt, &session, 0, Verdict::Running);
-            }
-            session.end(&rt, source_at(number));
-            is_over = is_over || number == 0;
-            if is_over {
-                assert_failed(&rt, &session, Origin::Main, truncated);
-            }
-        }
-    }
-}
-
-// The main stream and channel 0 have their rounds, so the fault of the other channel decides.
-#[test]
-fn bad_channel_beside_a_main_stream_that_has_the_round(rt: HostRuntime) {
-    let other_uuid = Fault::Channel(ChannelFault::HelloUuid);
-    for main in [100usize, 101] {
-        let mut session = fed_of_another_uuid(&rt, main, 7);
-        assert_failed(&rt, &session, Origin::Channel(1), other_uuid);
-        for number in 0..3usize {
-            session.end(&rt, source_at(number));
-            assert_failed(&rt, &session, Origin::Channel(1), other_uuid);
-        }
+fn machines_main_stream(rt: HostRuntime) {
+    let sent = nines(&rt);
+    let main = machines_main(&rt, &sent.main);
+    for len in [1usize, 7, 4096] {
+        assert!(rt; is_done(&rt, &sent, &main, len));
     }
 }
