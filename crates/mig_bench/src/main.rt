@@ -1,10 +1,10 @@
 //! Benchmarks of what the library for C has no call for: the zero test, and loads of complete
 //! streams. `bench/` has those of the library. Each figure is the least time of five runs, as a
-//! ratio to that of a copy of the same bytes in the same run of the program, since times alone don't
-//! compare from one machine to another.
+//! ratio to that of a copy of the same bytes in the same run of the program, since times alone
+//! don't compare from one machine to another.
 //!
-//! The first argument names the benchmark. Nothing here is part of the library, and no test compares
-//! a figure.
+//! The first argument names the benchmark. Nothing here is part of the library, and no test
+//! compares a figure.
 #![tactic(auto)]
 
 mod guest;

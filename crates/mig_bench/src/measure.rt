@@ -130,8 +130,8 @@ impl Yardstick {
     }
 }
 
-// Runs a work five times, and returns the least time in nanoseconds, since other load on the machine
-// only adds to it, and what the last run returned.
+// Runs a work five times, and returns the least time in nanoseconds, since other load on the
+// machine only adds to it, and what the last run returned.
 fn least_time<R: Clock + Threads + Wait + Sync>(
     rt: &R,
     alloc: Global,

@@ -14,9 +14,9 @@ pub enum Trouble {
 
 pub type Done = Result<(), Trouble>;
 
-/// Makes a call, and makes it again if it was refused. A refused call leaves what it was passed as it
-/// was, so the second one returns what the first one would have returned with memory, and for any
-/// other reason the same refusal.
+/// Makes a call, and makes it again if it was refused. A refused call leaves what it was passed as
+/// it was, so the second one returns what the first one would have returned with memory, and for
+/// any other reason the same refusal.
 #[macro_export]
 macro_rules! again {
     ($call:expr) => {

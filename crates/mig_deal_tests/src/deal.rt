@@ -1,4 +1,5 @@
-//! The deal: numbers drawn in turn by one thread, and by 255 threads at once, of a deal in an `Arc`.
+//! The deal: numbers drawn in turn by one thread, and by 255 threads at once, of a deal in an
+//! `Arc`.
 
 ghost use Rattle.std.specs.Prelude.{◌≡◌, ◌+◌, ◌<◌, ◌≤◌, [], All, vec_len, vec_capacity};
 

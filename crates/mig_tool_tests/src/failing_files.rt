@@ -51,7 +51,8 @@ const LONG: [(&str, Wanted<'static>); 7] = [
     ("compare f i --page 8192", (1, b"fault 82 table 1\n")),
 ];
 
-// A file whose end the last of 65,536 reads of one byte finds, and one that hasn't ended after them.
+// A file whose end the last of 65,536 reads of one byte finds, and one that hasn't ended after
+// them.
 #[test]
 fn most_reads_of_files(rt: HostRuntime) {
     let text = [b'\n'; 65_536];

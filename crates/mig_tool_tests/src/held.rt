@@ -25,8 +25,8 @@ fn scenario(rt: &(impl AllocGlobal + Abort)) -> Vec<u8> {
     text
 }
 
-// Returns the most bytes that a load on the arguments in `line` holds at once. It is done, and holds
-// none at the end.
+// Returns the most bytes that a load on the arguments in `line` holds at once. It is done, and
+// holds none at the end.
 fn peak_of<H: AllocGlobal + Files + Threads + Wait + Sync + Abort>(
     rt: &H,
     folder: &Folder,
