@@ -3,10 +3,12 @@
 ghost use Rattle.mig_mem.specs.PageSize.{IsPageSize};
 
 use clap::builder::ValueParser;
+use clap::error::ErrorKind;
 use clap::{Arg, ArgAction, ArgMatches, Command, Error};
 use mig_mem::{PAGE_SIZE_4K, PAGE_SIZE_8K};
 use mig_stream::Frame;
 use std::alloc::{AllocError, Global};
+use zimgasol_names::shown;
 
 /// The program's version (CHANGELOG.md).
 const VERSION: &str = "0.3.0";
@@ -483,16 +485,54 @@ fn request_in<'a>(
     })
 }
 
-/// Parses the arguments.
-///
-/// # Errors
-///
-/// The output that is printed instead: the error in the arguments, or the help or the version that
-/// they ask for.
-pub fn asked<'a>(alloc: Global, words: &'a [String]) -> Result<Request<'a>, Error> {
+// Parses the arguments. An error has them as they are.
+fn parsed<'a>(alloc: Global, words: &'a [String]) -> Result<Request<'a>, Error> {
     let matches = program(alloc)?.try_get_matches_from(words)?;
     match matches.subcommand() {
         Some((name, matches)) => Ok(request_in(alloc, name, matches)?),
         None => Err(Error::from(AllocError)),
+    }
+}
+
+// Returns the arguments as printable characters.
+fn shown_words(alloc: Global, words: &[String]) -> Result<Vec<String>, AllocError> {
+    let mut list = Vec::new(alloc);
+    for word in words {
+        list.push(shown(alloc, word.as_bytes())?)?;
+    }
+    Ok(list)
+}
+
+// Returns the error in the arguments `words`, with printable characters: that of the printable
+// arguments. No option, command or value that the program knows is made by escaping, so they have
+// an error, too.
+fn shown_error(alloc: Global, words: &[String]) -> Error {
+    let list = match shown_words(alloc, words) {
+        Ok(list) => list,
+        Err(error) => return Error::from(error),
+    };
+    let again = parsed(alloc, &list);
+    match again {
+        Ok(_request) => Error::from(AllocError),
+        Err(error) => error,
+    }
+}
+
+// Returns whether the text of `error` may quote arguments.
+fn is_of_words(error: &Error) -> bool {
+    error.use_stderr() && error.kind() != ErrorKind::OutOfMemory
+}
+
+/// Parses the arguments.
+///
+/// # Errors
+///
+/// The output that is printed instead: the error in the arguments, which are quoted as printable
+/// characters, or the help or the version that they ask for.
+pub fn asked<'a>(alloc: Global, words: &'a [String]) -> Result<Request<'a>, Error> {
+    match parsed(alloc, words) {
+        Ok(request) => Ok(request),
+        Err(error) if is_of_words(&error) => Err(shown_error(alloc, words)),
+        Err(error) => Err(error),
     }
 }
