@@ -111,12 +111,17 @@ IDENTS = (
     ("", "zimgasol verify ''", f'"": {NOTHING}', 3),
     ("", "zimgasol extract guest.sav ''", f'"": {NOTHING}', 3),
     ("", "cp guest.sav ./-x; zimgasol verify -- -x", WHOLE.replace("guest", "-x", 1).replace("-x.sav", "-x"), 0),
+    ("arguments", "zimgasol verify guest.sav $'\\e]0;x\\a' 2>&1 | head -1",
+     "error: unexpected argument '%1B]0;x%07' found\n", 0),
+    ("", "zimgasol verify guest.sav --page $'4096\\x7f' 2>&1 | head -1",
+     "error: invalid value '4096%7F' for '--page <BYTES>'\n", 0),
+    ("", "zimgasol verify guest.sav --$'\\e[2J' 2>&1 | head -1", "error: unexpected argument '--%1B[2J' found\n", 0),
 )
 PLACES = (
     ("no folder", "zimgasol extract guest.sav nowhere/memory", f"nowhere/memory: {NOTHING}", 3),
     ("", f"{SAVE} nowhere/out.sav", f"nowhere/out.sav.partial: {NOTHING}", 3),
     ("a file in place of a folder", "zimgasol extract guest.sav guest.sav",
-     "guest.sav/ram.bin.partial: Not a directory (os error 20)\n", 3),
+     "guest.sav/blocks.json: Not a directory (os error 20)\n", 3),
     ("files that exist", "zimgasol extract guest.sav memory", f"memory/blocks.json: {EXISTS}", 3),
     ("", "mkdir old; echo old > old/ram.bin; zimgasol extract guest.sav old; echo $?; ls old; cat old/ram.bin",
      f"old/ram.bin: {EXISTS}3\nram.bin\nold\n", 0),

@@ -28,6 +28,16 @@ EXISTS = "is there already; `--replace` replaces it"
 CUT = "fault 34: the stream ends early; the file was cut, or the save didn't come to its end"
 UUID = "00112233-4455-6677-8899-aabbccddeeff"
 THREE = "".join(f" --channel three.sav.{i}" for i in (2, 0, 1))
+SHORT = "short/ram.bin: has 65536 bytes, and `blocks.json` lists 131072"
+TWICE = "twice/blocks.json: lists an id twice"
+NO_LIST = "short/blocks.json: is no list of blocks that `extract` wrote"
+
+
+def wrong(what):
+    """What clap says of wrong arguments of `verify`."""
+    return [f"error: {what}", "", "Usage: zimgasol verify [OPTIONS] <FILE>", "", "For more information, try '--help'."]
+
+
 # After those of the pages: commands, and what each prints and its status. None: as it is made here.
 CASES = [
     ("zimgasol extract guest.sav bare --no-digest", None),
@@ -136,6 +146,46 @@ CASES = [
     ("zimgasol save --block ram=half.bin --channels 2 multi.sav", (["multi.sav: " + EXISTS], 3)),
     ("zimgasol save --block ram=half.bin --channels 2 multi.sav --replace", None),
     ("zimgasol verify multi.sav --frame ram --channel multi.sav.0 --channel multi.sav.1", None),
+    # ---- a folder of another page size, and one whose files aren't those of its list
+    ("zimgasol save --block ram=half.bin --page 8192 --since day out.sav", (
+        ["day: has pages of 4096 bytes, and the stream would have pages of 8192; save with `--page 4096`"], 3)),
+    ("cp -r day wide", None),
+    ("sed -i s/4096/8192/ wide/blocks.json", ([], 0)),
+    ("zimgasol save --block ram=half.bin --since wide out.sav", (
+        ["wide: has pages of 8192 bytes, and the stream would have pages of 4096; save with `--page 8192`"], 3)),
+    ("zimgasol save --block ram=half.bin --page 8192 --since wide fits.sav", None),
+    ("cp -r memory short", None),
+    ("truncate -s 65536 short/ram.bin", ([], 0)),
+    ("zimgasol compare memory short", ([SHORT], 3)),
+    ("zimgasol compare short memory", ([SHORT], 3)),
+    ("zimgasol save --block ram=later.bin --since short out.sav", ([SHORT], 3)),
+    ("zimgasol extract later.sav nothing --frame ram --since short", ([SHORT], 3)),
+    ("truncate -s 139264 short/ram.bin", ([], 0)),
+    ("zimgasol compare short memory", (["short/ram.bin: has 139264 bytes, and `blocks.json` lists 131072"], 3)),
+    ("truncate -s 5000 short/ram.bin", ([], 0)),
+    ("sed -i s/131072/5000/ short/blocks.json", ([], 0)),
+    ("zimgasol compare short short", ([NO_LIST], 3)),
+    ("cp -r memory twice", None),
+    ("sed -i 's/\"blocks\": \\[/&{\"bytes\": 131072, \"file\": \"ram.bin\", \"id\": \"ram\"},/' twice/blocks.json", ([], 0)),
+    ("zimgasol compare memory twice", ([TWICE], 3)),
+    ("zimgasol save --block ram=later.bin --since twice out.sav", ([TWICE], 3)),
+    ("zimgasol extract later.sav nothing --frame ram --since twice", ([TWICE], 3)),
+    ("zimgasol verify nothing/ram.bin", (["nothing/ram.bin: No such file or directory (os error 2)"], 3)),
+    # ---- the system doesn't say whether a file is there
+    ("ln -s loop loop", ([], 0)),
+    ("zimgasol extract guest.sav half.bin --replace", (["half.bin/blocks.json: Not a directory (os error 20)"], 3)),
+    ("zimgasol extract guest.sav loop --replace", (
+        ["loop/blocks.json: Too many levels of symbolic links (os error 40)"], 3)),
+    ("zimgasol save --block ram=half.bin half.bin/out.sav", (["half.bin/out.sav: Not a directory (os error 20)"], 3)),
+    ("zimgasol save --block ram=half.bin --channels 2 loop/out.sav", (
+        ["loop/out.sav: Too many levels of symbolic links (os error 40)"], 3)),
+    ("zimgasol compare memory half.bin/memory", (["half.bin/memory: Not a directory (os error 20)"], 3)),
+    # ---- arguments that control a terminal
+    ("zimgasol verify guest.sav $'\\e[2J\\n\"cut.sav'", (wrong("unexpected argument '%1B[2J%0A%22cut.sav' found"), 2)),
+    ("zimgasol verify guest.sav $'gr\\xc3\\xbcn'", (wrong("unexpected argument 'gr%C3%BCn' found"), 2)),
+    ("zimgasol $'\\e[2J'", (
+        ["error: unrecognized subcommand '%1B[2J'", "", "Usage: zimgasol <COMMAND>", "",
+         "For more information, try '--help'."], 2)),
     ("zimgasol verify out.sav", (["out.sav: No such file or directory (os error 2)"], 3)),
     ("zimgasol verify out.sav.partial", (["out.sav.partial: No such file or directory (os error 2)"], 3)),
 ]
@@ -256,6 +306,10 @@ class Shell:
             return [str(self.status)]
         if words[0] == "head":
             self.files[words[5]] = self.files[words[3]][:int(words[2])]
+            return []
+        if words[:2] == ["cp", "-r"]:
+            inside = [name for name in self.files if name.startswith(f"{words[2]}/")]
+            self.files.update({words[3] + name[len(words[2]):]: self.files[name] for name in inside})
             return []
         if words[0] == "cat" and ">" in words:
             self.files[words[4]] = self.files[words[1]] + self.files[words[2]]

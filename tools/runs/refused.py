@@ -5,16 +5,18 @@ numbers: also those of the command line and of the C library.
 
 Of the commands of `mig_tool` and `zimgasol` each allocation is refused in turn. A run either ends
 as one with memory does, where the program did without the allocation, or it says that memory was
-refused, and leaves the files that were there as they were. `mig_tool` leaves no other: but for the
-channels' files of `send`, which it writes one after another, and of which the schedule decides
-which packets each has. `zimgasol` leaves no other either, but one that is complete, and what is
-named `.partial`.
+refused, and leaves the files and folders that were there as they were, and no other: but for the
+channels' files of `mig_tool send`, which it writes one after another, and of which the schedule
+decides which packets each has.
+
+Of commands of `zimgasol` whose files exist, each question for a file's metadata fails in turn, too:
+a file of which the system doesn't say whether it is there is not replaced.
 
 Of `mig_rows` every so many allocations are refused in one run. It makes a call that was refused
 again, so its answers have to be those of a run with memory: a refused call leaves what it was
 passed as it was.
 """
-import re
+import errno
 import shutil
 import subprocess
 import tempfile
@@ -47,6 +49,11 @@ ZIMGASOL = ("verify guest.sav", "inspect guest.sav", "inspect guest.sav --json",
             "inspect --frame ram two.sav --channel two.sav.0 --channel two.sav.1",
             "extract --frame ram two.sav back --channel two.sav.0 --channel two.sav.1",
             "save --block ram=memory/ram.bin --since back three.sav")
+# Commands that end with status 3 since their files exist, and one that writes none; and what fails.
+UNSURE = ("extract guest.sav memory", "save --block ram=memory/ram.bin one.sav",
+          "save --block ram=memory/ram.bin --channels 2 two.sav",
+          "extract --frame ram two.sav back --channel two.sav.0 --channel two.sav.1", "compare memory guest.sav")
+ERRORS = (errno.EIO, errno.EACCES, errno.EINTR)
 
 
 @dataclass(frozen=True)
@@ -60,9 +67,9 @@ class Ended:
 
 
 def files_in(folder, loose):
-    """The files of a folder, each with its bytes, but for those named in `loose`."""
-    files = ((str(it.relative_to(folder)), it) for it in folder.rglob("*") if it.is_file())
-    return tuple(sorted((name, it.read_bytes()) for name, it in files if name not in loose))
+    """The files and folders in a folder, each file with its bytes, but for those named in `loose`."""
+    inside = ((str(it.relative_to(folder)), it) for it in folder.rglob("*"))
+    return tuple(sorted((name, it.read_bytes() if it.is_file() else b"") for name, it in inside if name not in loose))
 
 
 class Refusing:
@@ -71,23 +78,23 @@ class Refusing:
     def __init__(self, program, shim, start, given, loose):
         self.program, self.shim, self.start, self.given, self.loose = program, shim, start, given, loose
 
-    def run(self, line, number):
-        """Runs a command with one allocation refused, or with none for 0. Returns how it ended, and whether it was refused."""
+    def run(self, line, refused):
+        """Runs a command, with what `refused` has for refuse.c. Returns how it ended, and whether something was refused."""
         with tempfile.TemporaryDirectory(prefix="refused-") as room:
             folder, log = Path(room) / "at", Path(room) / "log"
             shutil.copytree(self.start, folder)
-            settings = {"LD_PRELOAD": str(self.shim), "REFUSE_FIRST": str(number), "REFUSE_LOG": str(log)}
+            settings = {"LD_PRELOAD": str(self.shim), "REFUSE_LOG": str(log), **refused}
             done = subprocess.run([*self.program, *line.split(" ")], cwd=folder, env=settings, input=self.given,
                                   capture_output=True, timeout=SECONDS)
             return Ended(done.returncode, done.stdout, done.stderr, files_in(folder, self.loose)), log.is_file()
 
     def each(self, line, is_refusal):
         """Refuses each allocation of a command. Returns how many runs there were, and what is wrong."""
-        whole, _ = self.run(line, 0)
+        whole, _ = self.run(line, {})
         before, wrong, runs = files_in(self.start, self.loose), [], 0
         with ThreadPoolExecutor(cpu_count()) as pool:
             for first in range(1, MOST, 64):
-                ends = list(pool.map(lambda it: (it, *self.run(line, it)), range(first, first + 64)))
+                ends = list(pool.map(lambda it: (it, *self.run(line, {"REFUSE_FIRST": str(it)})), range(first, first + 64)))
                 refused = [(number, end) for number, end, was in ends if was]
                 runs += len(refused)
                 wrong += [f"{line}: allocation {number}: {end.status} {(end.printed + end.errors)[:200]!r}"
@@ -99,6 +106,20 @@ class Refusing:
         if runs < 3:
             wrong.append(f"{line}: {runs} allocations were refused: the program doesn't call this malloc")
         return runs, wrong
+
+    def each_question(self, line, error):
+        """Fails each question for metadata of a command. Returns how many runs there were, and what is wrong."""
+        whole, _ = self.run(line, {})
+        before, wrong = files_in(self.start, self.loose), []
+        for number in range(1, MOST):
+            end, was = self.run(line, {"REFUSE_STAT": str(number), "REFUSE_ERROR": str(error)})
+            if not was:
+                break
+            if end.files != before or (end != whole and end.status != 3):
+                wrong.append(f"{line}: error {error} at question {number}: {end.status} {(end.printed + end.errors)[:200]!r}")
+        if number < 3:
+            wrong.append(f"{line}: {number - 1} questions failed: the program doesn't call this statx")
+        return number - 1, wrong
 
 
 def built(folder):
@@ -113,12 +134,9 @@ def of_tool(end, before, _):
     return end.status == 1 and end.printed.rstrip(b"\n") in lines and end.files == before
 
 
-def of_zimgasol(end, before, whole):
-    """`zimgasol` ends with status 3 and a message. A file that wasn't there before is complete, or is named `.partial`."""
-    is_told = re.fullmatch(rb"[^\n]*: (no memory|out of memory|is no list of blocks that `extract` wrote)\n", end.errors)
-    known = {*before, *whole.files}
-    return (end.status == 3 and is_told is not None and {*before} <= {*end.files}
-            and all((name, data) in known or ".partial" in name for name, data in end.files))
+def of_zimgasol(end, before, _):
+    """`zimgasol` ends with status 3 and a message on memory alone, and leaves each file as it was."""
+    return end.status == 3 and end.errors == b"zimgasol: no memory\n" and end.files == before
 
 
 def play_commands(program, shim, start, lines, is_refusal, given=b""):
@@ -146,7 +164,12 @@ def play_zimgasol(program, shim, data):
         start = Path(room) / "start"
         start.mkdir()
         shutil.copy(data / "guest.sav", start)
-        return play_commands(program, shim, start, ZIMGASOL, of_zimgasol)
+        runs, wrong = play_commands(program, shim, start, ZIMGASOL, of_zimgasol)
+        for line in UNSURE:
+            for error in ERRORS:
+                count, found = Refusing(program, shim, start, b"", ()).each_question(line, error)
+                runs, wrong = runs + count, wrong + found
+        return runs, wrong
 
 
 def rows_run(program, shim, folder, names, first, every):
@@ -187,8 +210,9 @@ def play(programs, zimgasol_data, rows_data):
     wrong = [*tool[1], *zimgasol[1], *rows[1]]
     for it in wrong[:20]:
         print(it)
-    tried = len(TOOL) + len(ZIMGASOL) + len(EVERY) * ROWS_RUNS
+    played = len(TOOL) + len(ZIMGASOL) + len(UNSURE) * len(ERRORS)
+    tried = played + len(EVERY) * ROWS_RUNS
     failed = min(tried, len(wrong))
-    print(f"refused allocations: {len(TOOL) + len(ZIMGASOL)} commands with {tool[0] + zimgasol[0]} refused one by one, "
+    print(f"refused allocations: {played} commands with {tool[0] + zimgasol[0]} refused one by one, "
           f"{len(EVERY) * ROWS_RUNS} runs of the cases with {rows[0]}, {len(wrong) or 'none'} wrong", flush=True)
     return tried - failed, failed

@@ -79,7 +79,9 @@ def falsified_refusals():
     before, told = (("f", b"1"),), b"zimgasol: no memory\n"
     whole = refused.Ended(0, b"", b"", (("f", b"1"), ("g", b"2")))
     wrong = (refused.Ended(0, b"", told, before), refused.Ended(3, b"", b"", before), refused.Ended(3, b"", told, ()),
-             refused.Ended(3, b"", told, (("f", b"9"),)), refused.Ended(3, b"", told, (*before, ("g", b"9"))))
+             refused.Ended(3, b"", told, (("f", b"9"),)), refused.Ended(3, b"", told, (*before, ("g", b"9"))),
+             refused.Ended(3, b"", told, whole.files), refused.Ended(3, b"", told, (*before, ("g.partial", b""))),
+             refused.Ended(3, b"", b"f: is no list of blocks that `extract` wrote\n", before))
     passes = [it for it in wrong if refused.of_zimgasol(it, before, whole)]
     passes += [it for it in (whole, refused.Ended(1, b"fault 60\n", b"", ())) if refused.of_tool(it, before, whole)]
     for it in passes:

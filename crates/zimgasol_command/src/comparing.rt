@@ -23,11 +23,21 @@ use zimgasol_reading::Survey;
 /// The name of the folder that streams are extracted into.
 const TEMPORARY_NAME: &str = ".zimgasol-compare.partial";
 
+// The operands of `compare`.
+#[derive(Clone, Copy)]
+enum Operand {
+    First,
+    Second,
+}
+
 // The temporary folder that streams are extracted into.
 #[derive(Drop)]
 struct Temporary {
     alloc: Global,
     path: String,
+    // the folders in it, of each operand that is a stream
+    first: String,
+    second: String,
     // whether this run made it
     made: bool,
 }
@@ -41,6 +51,28 @@ fn temporary_path(alloc: Global, path: &str) -> Result<String, AllocError> {
 }
 
 impl Temporary {
+    // Creates the temporary folder next to the file or folder `path`, before it is made.
+    fn new(alloc: Global, path: &str) -> Result<Temporary, AllocError> {
+        let path = temporary_path(alloc, path)?;
+        let first = path_in(alloc, &path, "a", "")?;
+        let second = path_in(alloc, &path, "b", "")?;
+        Ok(Temporary {
+            alloc,
+            path,
+            first,
+            second,
+            made: false,
+        })
+    }
+
+    // Returns the path of the folder that an operand is extracted into.
+    fn folder(&self, operand: Operand) -> &str {
+        match operand {
+            Operand::First => self.first.as_str(),
+            Operand::Second => self.second.as_str(),
+        }
+    }
+
     // Makes the folder, unless this run made it already. Refuses an existing folder.
     fn make<H: Files>(&mut self, rt: &H) -> Result<(), Trouble> {
         if self.made {
@@ -58,11 +90,14 @@ impl Temporary {
         }
     }
 
-    // Removes the folder with all its files, if this run made it.
+    // Removes the folder with all its files, if this run made it. A folder without folders is
+    // removed without memory, so those in it are removed before it.
     fn remove<H: Files>(&self, rt: &H) -> Result<(), Trouble> {
         if !self.made {
             return Ok(());
         }
+        let _left = rt.remove_dir_all(self.alloc, &self.first);
+        let _left = rt.remove_dir_all(self.alloc, &self.second);
         match rt.remove_dir_all(self.alloc, &self.path) {
             Ok(()) => Ok(()),
             Err(error) => Err(unwritten(self.alloc, &self.path, error)),
@@ -142,25 +177,32 @@ fn extracted<'a, H: AllocGlobal + Files + Clock, R: Read, E: Write>(
     Ok(Some(read_folder(rt, path)?))
 }
 
-// Returns the list of an operand's blocks. A stream is extracted first, into the folder `name` of
-// the temporary one; None if it has a fault.
-fn operand<H: AllocGlobal + Files + Clock, R: Read, E: Write>(
+// Returns whether an operand is a folder. The standard input isn't one.
+fn is_folder<H: AllocGlobal + Files>(rt: &H, file: &str) -> Result<bool, Trouble> {
+    if file == "-" {
+        return Ok(false);
+    }
+    match rt.metadata(file) {
+        Ok(metadata) => Ok(metadata.is_dir()),
+        Err(error) => Err(unwritten(rt.alloc(), file, error)),
+    }
+}
+
+// Returns the list of the blocks of `operand`. A stream is extracted first, into its folder of the
+// temporary one; None if it has a fault.
+fn blocks_of<H: AllocGlobal + Files + Clock, R: Read, E: Write>(
     rt: &H,
     words: &StreamWords<'_>,
     temporary: &mut Temporary,
-    name: &str,
+    operand: Operand,
     input: &mut R,
     errors: &mut E,
 ) -> Result<Option<Folder>, Trouble> {
-    if words.file != "-"
-        && let Ok(metadata) = rt.metadata(words.file)
-        && metadata.is_dir()
-    {
+    if is_folder(rt, words.file)? {
         return Ok(Some(read_folder(rt, words.file)?));
     }
     temporary.make(rt)?;
-    let path = path_in(temporary.alloc, &temporary.path, name, "")?;
-    extracted(rt, words, &path, input, errors)
+    extracted(rt, words, temporary.folder(operand), input, errors)
 }
 
 // Adds the differing pages of `pages`; the first of `pages` is the block's page `first`.
@@ -211,7 +253,8 @@ fn differing_pages<H: AllocGlobal + Files>(
     let alloc = rt.alloc();
     let file = open(rt, alloc, &b.path)?;
     let before = open(rt, alloc, &a.path)?;
-    let mut reading = Reading::new(alloc, file, Some(before), page_size.min(8192) as usize)?;
+    let size = page_size.min(8192) as usize;
+    let mut reading = Reading::new(alloc, file, Some(before), size, b.len)?;
     let mut differing = Differing::new(alloc);
     let mut first = 0u64;
     for _ in 0..u64::MAX {
@@ -397,10 +440,10 @@ fn compare_in<H: AllocGlobal + Files + Clock, R: Read, W: Write, E: Write>(
     output: &mut W,
     errors: &mut E,
 ) -> Result<bool, Trouble> {
-    let Some(a) = operand(rt, &words.first, temporary, "a", input, errors)? else {
+    let Some(a) = blocks_of(rt, &words.first, temporary, Operand::First, input, errors)? else {
         return Ok(false);
     };
-    let Some(b) = operand(rt, &words.second, temporary, "b", input, errors)? else {
+    let Some(b) = blocks_of(rt, &words.second, temporary, Operand::Second, input, errors)? else {
         return Ok(false);
     };
     compare_folders(rt, words, &a, &b, output)
@@ -425,11 +468,7 @@ pub(crate) fn compare<H: AllocGlobal + Files + Clock, R: Read, W: Write, E: Writ
         let name = String::from_str(alloc, "compare - -")?;
         return Err(Trouble::Words(name, "only one of the two can be the standard input"));
     }
-    let mut temporary = Temporary {
-        alloc,
-        path: temporary_path(alloc, words.second.file)?,
-        made: false,
-    };
+    let mut temporary = Temporary::new(alloc, words.second.file)?;
     let compared = compare_in(rt, words, &mut temporary, input, output, errors);
     let removed = temporary.remove(rt);
     let is_same = compared?;

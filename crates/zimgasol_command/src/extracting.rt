@@ -37,6 +37,10 @@ struct Run {
 struct Extraction<H: Files> {
     alloc: Global,
     folder: String,
+    // the list of the folder, and its name until it is complete: made before any file is, so that
+    // removing and renaming take no memory
+    list_path: String,
+    list_partial: String,
     // the one block that is extracted; all blocks if there is none
     block: Option<String>,
     // whether existing files are replaced
@@ -64,6 +68,8 @@ impl<H: Files> Extraction<H> {
         since: Option<Folder>,
     ) -> Result<Extraction<H>, Trouble> {
         let folder = String::from_str(alloc, words.folder)?;
+        let list_path = path_in(alloc, words.folder, LIST_NAME, "")?;
+        let list_partial = path_in(alloc, words.folder, LIST_NAME, PARTIAL)?;
         let block = match words.block {
             Some(id) => Some(String::from_str(alloc, id)?),
             None => None,
@@ -73,6 +79,8 @@ impl<H: Files> Extraction<H> {
         Ok(Extraction {
             alloc,
             folder,
+            list_path,
+            list_partial,
             block,
             replace: words.replace,
             digest: words.digest,
@@ -112,6 +120,9 @@ impl<H: Files> Extraction<H> {
     fn open_block(&mut self, rt: &H, id: &[u8], block: usize, len: u64) -> Result<(), Trouble> {
         let names = names_in(self.alloc, &self.folder, id, block)?;
         self.is_free(rt, &names.path)?;
+        // nothing takes memory between the file's making and its place in `files`
+        let id = id.to_vec(self.alloc)?;
+        self.files.reserve(1)?;
         let file = create(rt, self.alloc, &names.partial_path)?;
         let BlockNames {
             name,
@@ -120,7 +131,7 @@ impl<H: Files> Extraction<H> {
         } = names;
         self.files.push(BlockFile {
             block,
-            id: id.to_vec(self.alloc)?,
+            id,
             name,
             partial_path,
             path,
@@ -216,19 +227,16 @@ impl<H: Files> Extraction<H> {
         for file in &self.files {
             rename(rt, self.alloc, &file.partial_path, &file.path)?;
         }
-        let path = path_in(self.alloc, &self.folder, LIST_NAME, "")?;
-        let partial_path = path_in(self.alloc, &self.folder, LIST_NAME, PARTIAL)?;
-        rename(rt, self.alloc, &partial_path, &path)
+        rename(rt, self.alloc, &self.list_partial, &self.list_path)
     }
 
     // Writes the list of blocks.
     fn write_list(&self, rt: &H) -> Result<(), Trouble> {
         let text = self.list()?.to_string_pretty(self.alloc)?;
-        let partial_path = path_in(self.alloc, &self.folder, LIST_NAME, PARTIAL)?;
-        let mut file = create(rt, self.alloc, &partial_path)?;
+        let mut file = create(rt, self.alloc, &self.list_partial)?;
         match write_text(&mut file, text.as_bytes()) {
             Ok(()) => Ok(()),
-            Err(error) => Err(unwritten(self.alloc, &partial_path, error)),
+            Err(error) => Err(unwritten(self.alloc, &self.list_partial, error)),
         }
     }
 
@@ -256,14 +264,13 @@ impl<H: Files> Extraction<H> {
         completed
     }
 
-    // Removes the files that have no final name, and the folder if this run made it.
+    // Removes the files that have no final name, and the folder if this run made it. It takes no
+    // memory.
     fn remove(&self, rt: &H) {
         for file in &self.files {
             let _left = rt.remove_file(&file.partial_path);
         }
-        if let Ok(path) = path_in(self.alloc, &self.folder, LIST_NAME, PARTIAL) {
-            let _left = rt.remove_file(&path);
-        }
+        let _left = rt.remove_file(&self.list_partial);
         if self.made {
             let _left = rt.remove_dir(&self.folder);
         }
@@ -358,8 +365,7 @@ impl<H: Files> Extraction<H> {
 impl<H: Files> PageSink<H> for Extraction<H> {
     fn begin(&mut self, rt: &H, table: &Table) -> Result<(), Trouble> {
         self.make_folder(rt)?;
-        let list = path_in(self.alloc, &self.folder, LIST_NAME, "")?;
-        self.is_free(rt, &list)?;
+        self.is_free(rt, &self.list_path)?;
         self.open_blocks(rt, table)?;
         self.written = Some(Dirty::none(self.alloc, table)?);
         if let Some(since) = self.since.take() {
@@ -466,16 +472,16 @@ pub(crate) fn extract_survey<H: AllocGlobal + Files + Clock, R: Read, E: Write>(
     fill_single(rt, words, &mut extraction, input, errors)
 }
 
-// Prints the verdict on a single stream. Returns whether it is complete.
+// Prints the verdict on a single stream. Returns whether it is complete; `name` is printable.
 fn judge_single<W: Write, E: Write>(
     alloc: Global,
     words: &StreamWords<'_>,
+    name: &str,
     survey: &Survey,
     output: &mut W,
     errors: &mut E,
 ) -> Result<bool, Trouble> {
-    let name = shown_name(alloc, words.file)?;
-    put_judgement(alloc, output, errors, &name, survey, words.talk)
+    put_judgement(alloc, output, errors, name, survey, words.talk)
 }
 
 // Reads a main stream and its channels into the files of `extraction`. After an error they are
@@ -523,30 +529,32 @@ fn survey_several<H: AllocGlobal + Files + Clock, R: Read, E: Write>(
     fill_several(rt, words, channels, &mut extraction, input, errors)
 }
 
-// Prints the verdict on a main stream and its channels. Returns whether all sources are complete.
+// Prints the verdict on a main stream and its channels. Returns whether all sources are complete;
+// `name` is printable.
 fn judge_several<F: Read + OpenFile + Drop, W: Write, E: Write>(
     alloc: Global,
     words: &StreamWords<'_>,
+    name: &str,
     several: &Several<F>,
     output: &mut W,
     errors: &mut E,
 ) -> Result<bool, Trouble> {
-    let name = shown_name(alloc, words.file)?;
-    put_several_judgement(alloc, output, errors, &name, several, words.talk)
+    put_several_judgement(alloc, output, errors, name, several, words.talk)
 }
 
 // Extracts the memory of a main stream and its channels, and prints the verdict. Returns whether
-// all sources are complete.
+// all sources are complete; `name` is printable.
 fn extract_several<H: AllocGlobal + Files + Clock, R: Read, W: Write, E: Write>(
     rt: &H,
     words: &ExtractWords<'_>,
     channels: &ChannelWords<'_>,
+    name: &str,
     input: &mut R,
     output: &mut W,
     errors: &mut E,
 ) -> Result<bool, Trouble> {
     let several = survey_several(rt, words, channels, input, errors)?;
-    judge_several(rt.alloc(), &words.stream, &several, output, errors)
+    judge_several(rt.alloc(), &words.stream, name, &several, output, errors)
 }
 
 /// Extracts the memory of a stream, with its channels, and prints the verdict. Returns whether it
@@ -563,9 +571,11 @@ pub(crate) fn extract<H: AllocGlobal + Files + Clock, R: Read, W: Write, E: Writ
     output: &mut W,
     errors: &mut E,
 ) -> Result<bool, Trouble> {
+    // made first: nothing takes memory after the files are complete, but for a note on a block
+    let name = shown_name(rt.alloc(), words.stream.file)?;
     if !channels.is_single(rt.alloc())? {
-        return extract_several(rt, words, channels, input, output, errors);
+        return extract_several(rt, words, channels, &name, input, output, errors);
     }
     let survey = extract_survey(rt, words, input, errors)?;
-    judge_single(rt.alloc(), &words.stream, &survey, output, errors)
+    judge_single(rt.alloc(), &words.stream, &name, &survey, output, errors)
 }

@@ -194,6 +194,15 @@ fn put_unfit<E: Write>(errors: &mut E, name: &str, why: Unfit) -> io::Result<()>
             errors,
             "{name}: has pages of {size} bytes, and the other one of {other}"
         ),
+        Unfit::SavedPages(size, other) => writeln!(
+            errors,
+            "{name}: has pages of {size} bytes, and the stream would have pages of {other}; save with `--page {size}`"
+        ),
+        Unfit::ListedLen(len, listed) => writeln!(
+            errors,
+            "{name}: has {len} bytes, and `blocks.json` lists {listed}"
+        ),
+        Unfit::IdTwice => writeln!(errors, "{name}: lists an id twice"),
     }
 }
 

@@ -1,8 +1,10 @@
 //! Reads `blocks.json`, the list of blocks in a folder that `extract` made.
 
 use crate::opened::{open, unfit};
+use crate::target::unwritten;
 use crate::trouble::{Trouble, Unfit};
-use serde_json::Value;
+use mig_mem::is_page_size;
+use serde_json::{Category, Value};
 use std::alloc::{AllocError, AllocGlobal, Global};
 use std::fs::Files;
 use std::str;
@@ -13,6 +15,9 @@ pub const LIST_NAME: &str = "blocks.json";
 
 /// The most bytes of a list that are read. A list of 256 blocks with the longest ids has fewer.
 const MOST_LIST_LEN: usize = 1_048_576;
+
+/// The most blocks of a list: a stream has at most as many.
+const MOST_BLOCKS: usize = 256;
 
 /// A block in the folder.
 #[derive(Drop)]
@@ -65,11 +70,31 @@ impl Folder {
         }
         total
     }
+
+    // Returns whether two blocks have one id.
+    fn has_id_twice(&self) -> bool {
+        for (number, block) in self.blocks.iter().enumerate() {
+            if self.find(&block.id) != Some(number) {
+                return true;
+            }
+        }
+        false
+    }
+}
+
+// Returns whether `len` bytes are one or more pages.
+fn is_block_len(len: u64, page_size: u64) -> bool {
+    page_size != 0 && len != 0 && len % page_size == 0
 }
 
 // Returns the block that an entry of the list describes. None if `extract` writes no such entry, or
 // if its file is outside of the folder.
-fn block_in(alloc: Global, folder: &str, entry: &Value) -> Result<Option<FolderBlock>, AllocError> {
+fn block_in(
+    alloc: Global,
+    folder: &str,
+    entry: &Value,
+    page_size: u64,
+) -> Result<Option<FolderBlock>, AllocError> {
     let Some(id) = entry.get("id").and_then(Value::as_str) else {
         return Ok(None);
     };
@@ -79,7 +104,7 @@ fn block_in(alloc: Global, folder: &str, entry: &Value) -> Result<Option<FolderB
     let Some(len) = entry.get("bytes").and_then(Value::as_u64) else {
         return Ok(None);
     };
-    if file.contains('/') {
+    if file.contains('/') || !is_block_len(len, page_size) {
         return Ok(None);
     }
     Ok(Some(FolderBlock {
@@ -97,9 +122,12 @@ fn folder_in(alloc: Global, folder: &str, list: &Value) -> Result<Option<Folder>
     let Some(entries) = list.get("blocks").and_then(Value::as_array) else {
         return Ok(None);
     };
+    if !is_page_size(page_size) || entries.len() > MOST_BLOCKS {
+        return Ok(None);
+    }
     let mut blocks = Vec::new(alloc);
     for entry in entries {
-        match block_in(alloc, folder, entry)? {
+        match block_in(alloc, folder, entry, page_size)? {
             Some(block) => blocks.push(block)?,
             None => return Ok(None),
         }
@@ -114,24 +142,55 @@ fn folder_of(alloc: Global, folder: &str, bytes: &[u8]) -> Result<Option<Folder>
     };
     match Value::from_str(alloc, text) {
         Ok(list) => folder_in(alloc, folder, &list),
-        Err(_) => Ok(None),
+        Err(error) => match error.classify() {
+            Category::Memory => Err(AllocError),
+            _ => Ok(None),
+        },
     }
 }
 
-/// Reads the list of the folder `folder`.
-///
-/// # Errors
-///
-/// `Trouble::OfFile` if it can't be opened or read, `Trouble::Unfit` if `extract` writes no such
-/// list, `Trouble::NoMemory`.
-pub fn read_folder<H: AllocGlobal + Files>(rt: &H, folder: &str) -> Result<Folder, Trouble> {
+// Reads and parses the list `path` of the folder `folder`.
+fn read_list<H: AllocGlobal + Files>(rt: &H, folder: &str, path: &str) -> Result<Folder, Trouble> {
     let alloc = rt.alloc();
-    let path = path_in(alloc, folder, LIST_NAME, "")?;
     let mut buffer = vec![in alloc; 0u8; MOST_LIST_LEN]?;
-    let mut file = open(rt, alloc, &path)?;
+    let mut file = open(rt, alloc, path)?;
     let len = file.read(&mut buffer)?;
     match folder_of(alloc, folder, &buffer[..len])? {
         Some(folder) => Ok(folder),
-        None => Err(unfit(alloc, &path, Unfit::NoList)),
+        None => Err(unfit(alloc, path, Unfit::NoList)),
     }
+}
+
+// Refuses a block whose file has another length than the list says.
+fn check_len<H: AllocGlobal + Files>(rt: &H, block: &FolderBlock) -> Result<(), Trouble> {
+    let alloc = rt.alloc();
+    let metadata = match rt.metadata(&block.path) {
+        Ok(metadata) => metadata,
+        Err(error) => return Err(unwritten(alloc, &block.path, error)),
+    };
+    if metadata.is_file() && metadata.len() != block.len {
+        let why = Unfit::ListedLen(metadata.len(), block.len);
+        return Err(unfit(alloc, &block.path, why));
+    }
+    Ok(())
+}
+
+/// Reads the list of the folder `folder`, and checks the lengths of its files.
+///
+/// # Errors
+///
+/// `Trouble::OfFile` if the list can't be opened or read, or the system doesn't report a file's
+/// length. `Trouble::Unfit` if `extract` writes no such list, the list has an id twice, or a file
+/// has another length than the list says. `Trouble::NoMemory`.
+pub fn read_folder<H: AllocGlobal + Files>(rt: &H, folder: &str) -> Result<Folder, Trouble> {
+    let alloc = rt.alloc();
+    let path = path_in(alloc, folder, LIST_NAME, "")?;
+    let list = read_list(rt, folder, &path)?;
+    if list.has_id_twice() {
+        return Err(unfit(alloc, &path, Unfit::IdTwice));
+    }
+    for block in &list.blocks {
+        check_len(rt, block)?;
+    }
+    Ok(list)
 }

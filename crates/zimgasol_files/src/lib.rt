@@ -36,7 +36,7 @@ pub use input::{piece_buffer, read_piece};
 pub use opened::{Opened, open, unfit};
 pub use pages::{PIECE_PAGES, Pages, Reading};
 pub use pieces::Pieces;
-pub use target::{Outlet, PARTIAL, create, is_free, rename, sync, unwritten};
+pub use target::{Outlet, PARTIAL, create, is_free, remove_old, rename, sync, unwritten};
 pub use trouble::{Trouble, Unfit, wrong};
 pub use watch::Watch;
 pub use words::{

@@ -78,15 +78,19 @@ pub struct Reading<F: Drop> {
     len: usize,
     old_bytes: Vec<u8>,
     old_len: usize,
+    // the bytes that weren't read yet
+    left: u64,
 }
 
 impl<F: Read + OpenFile + Drop> Reading<F> {
     /// Creates the reading of `file` and the older file `before`, before its first byte was read.
+    /// `left` is the length that each of them has to have.
     pub fn new(
         alloc: Global,
         file: Opened<F>,
         before: Option<Opened<F>>,
         page_size: usize,
+        left: u64,
     ) -> Result<Reading<F>, Trouble> {
         let room = page_size.saturating_mul(PIECE_PAGES);
         let old_room = if before.is_some() { room } else { 0 };
@@ -100,6 +104,7 @@ impl<F: Read + OpenFile + Drop> Reading<F> {
             len: 0,
             old_bytes,
             old_len: 0,
+            left,
         })
     }
 
@@ -107,13 +112,21 @@ impl<F: Read + OpenFile + Drop> Reading<F> {
     ///
     /// # Errors
     ///
-    /// `Trouble::OfFile` if a read fails.
+    /// `Trouble::OfFile` if a read fails, `Trouble::Unfit` if a file has another length.
     pub fn read_on(&mut self) -> Result<bool, Trouble> {
+        let wanted = self.left.min(self.bytes.len() as u64) as usize;
         self.len = self.file.read(&mut self.bytes)?;
+        if self.len != wanted {
+            return Err(self.changed());
+        }
         if let Some(before) = &mut self.before {
             self.old_len = before.read(&mut self.old_bytes)?;
+            if self.old_len != wanted {
+                return Err(before.unfit(Unfit::Changed));
+            }
         }
-        Ok(self.len != 0)
+        self.left = self.left.saturating_sub(wanted as u64);
+        Ok(wanted != 0)
     }
 
     /// Returns the error that the file's length has changed.

@@ -4,7 +4,7 @@ use crate::opened::unfit;
 use crate::trouble::{Trouble, Unfit};
 use std::alloc::Global;
 use std::fs::{File, Files, OpenFile};
-use std::io::{self, Write};
+use std::io::{self, ErrorKind, Write};
 use zimgasol_names::shown_name;
 
 /// The suffix of the name of an incomplete file.
@@ -23,10 +23,12 @@ pub fn unwritten(alloc: Global, path: &str, error: io::Error) -> Trouble {
 /// # Errors
 ///
 /// `Trouble::Exists` for a plain file, `Trouble::Unfit` for anything else, such as a link or a
-/// folder.
+/// folder. `Trouble::OfFile` if the system doesn't report whether there is one.
 pub fn is_free<H: Files>(rt: &H, alloc: Global, path: &str, replace: bool) -> Result<(), Trouble> {
-    let Ok(metadata) = rt.symlink_metadata(path) else {
-        return Ok(());
+    let metadata = match rt.symlink_metadata(path) {
+        Ok(metadata) => metadata,
+        Err(error) if error.kind() == ErrorKind::NotFound => return Ok(()),
+        Err(error) => return Err(unwritten(alloc, path, error)),
     };
     if !metadata.is_file() {
         return Err(unfit(alloc, path, Unfit::NoFile));
@@ -51,6 +53,19 @@ pub fn create<H: Files>(rt: &H, alloc: Global, path: &str) -> Result<H::File, Tr
         .open(rt, path)
     {
         Ok(file) => Ok(file),
+        Err(error) => Err(unwritten(alloc, path, error)),
+    }
+}
+
+/// Removes the file `path`, if there is one.
+///
+/// # Errors
+///
+/// `Trouble::OfFile` if it can't be removed.
+pub fn remove_old<H: Files>(rt: &H, alloc: Global, path: &str) -> Result<(), Trouble> {
+    match rt.remove_file(path) {
+        Ok(()) => Ok(()),
+        Err(error) if error.kind() == ErrorKind::NotFound => Ok(()),
         Err(error) => Err(unwritten(alloc, path, error)),
     }
 }

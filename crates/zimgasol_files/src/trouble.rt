@@ -53,6 +53,12 @@ pub enum Unfit {
     OtherLen(u64, u64),
     /// Its page size, and the different page size of the other operand.
     OtherPages(u64, u64),
+    /// The page size of the folder of `--since`, and the different one of the stream that is saved.
+    SavedPages(u64, u64),
+    /// Its length in bytes, and the different length in the list of its folder.
+    ListedLen(u64, u64),
+    /// It lists an id twice.
+    IdTwice,
 }
 
 impl From<AllocError> for Trouble {

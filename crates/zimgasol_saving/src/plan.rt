@@ -159,23 +159,37 @@ fn check_machine(alloc: Global, words: &SaveWords<'_>) -> Result<(), Trouble> {
     }
 }
 
+// Reads the list of the folder of `--since`. Refuses it if its page size isn't the stream's.
+fn since_of<H: AllocGlobal + Files>(
+    rt: &H,
+    words: &SaveWords<'_>,
+) -> Result<Option<Folder>, Trouble> {
+    let Some(path) = words.since else {
+        return Ok(None);
+    };
+    let since = read_folder(rt, path)?;
+    let page_size = words.page_size.bytes();
+    if since.page_size != page_size {
+        let why = Unfit::SavedPages(since.page_size, page_size);
+        return Err(unfit(rt.alloc(), path, why));
+    }
+    Ok(Some(since))
+}
+
 /// Returns the plan for the arguments.
 ///
 /// # Errors
 ///
 /// `Trouble::Words` for wrong arguments, `Trouble::Unfit` for a file that isn't a block's memory or
-/// isn't in the folder of `--since`, `Trouble::TooLarge`, and `Trouble::OfFile` if a file can't be
-/// opened.
+/// isn't in the folder of `--since`, and for such a folder of another page size, or whose files
+/// aren't those of its list. `Trouble::TooLarge`, and `Trouble::OfFile` if a file can't be opened.
 pub(crate) fn plan_of<'a, H: AllocGlobal + Files>(
     rt: &H,
     words: &SaveWords<'a>,
 ) -> Result<Plan<'a>, Trouble> {
     let alloc = rt.alloc();
     check_machine(alloc, words)?;
-    let since = match words.since {
-        Some(folder) => Some(read_folder(rt, folder)?),
-        None => None,
-    };
+    let since = since_of(rt, words)?;
     let sources = sources_of(rt, words, &since)?;
     let table = table_of(alloc, words.page_size.bytes(), &sources)?;
     Ok(Plan { table, sources })

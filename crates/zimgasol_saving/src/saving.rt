@@ -6,7 +6,7 @@
 use crate::plan::{Plan, Source, plan_of};
 use crate::saving_channels::{ChannelPlan, channel_plan, save_channels};
 use crate::send::Sending;
-use std::alloc::{AllocGlobal, Global};
+use std::alloc::AllocGlobal;
 use std::fs::{Files, OpenFile};
 use std::io::{self, Read, Write};
 use std::rt::Clock;
@@ -39,7 +39,13 @@ fn reading_of<H: AllocGlobal + Files>(
         Some(path) => Some(open(rt, alloc, path)?),
         None => None,
     };
-    Reading::new(alloc, file, before, page_size.min(8192) as usize)
+    Reading::new(
+        alloc,
+        file,
+        before,
+        page_size.min(8192) as usize,
+        source.len,
+    )
 }
 
 // A block that is being sent.
@@ -310,18 +316,16 @@ fn put_counts<W: Write>(
     }
 }
 
-// Writes the line on what was saved.
+// Writes the line on what was saved; `name` is printable.
 fn put_saved<W: Write>(
-    alloc: Global,
     output: &mut W,
-    words: &SaveWords<'_>,
+    name: &str,
     plan: &Plan<'_>,
     saved: Saved,
 ) -> Result<(), Trouble> {
-    let name = shown_name(alloc, words.file)?;
     let blocks = plan.sources.len();
     let total = plan.total();
-    match put_counts(output, &name, blocks, total, saved) {
+    match put_counts(output, name, blocks, total, saved) {
         Ok(()) => Ok(()),
         Err(error) => Err(Trouble::Output(error)),
     }
@@ -356,6 +360,8 @@ fn save_files<H: AllocGlobal + Files + Clock, W: Write, E: Write>(
     output: &mut W,
     errors: &mut E,
 ) -> Result<(), Trouble> {
+    // made first: nothing takes memory after the files are complete
+    let name = shown_name(rt.alloc(), words.file)?;
     let saved = match channels {
         Some(channels) => save_channels(rt, words, plan, channels, errors)?,
         None => save_file(rt, words, plan, errors)?,
@@ -363,7 +369,7 @@ fn save_files<H: AllocGlobal + Files + Clock, W: Write, E: Write>(
     if words.talk.quiet {
         return Ok(());
     }
-    put_saved(rt.alloc(), output, words, plan, saved)
+    put_saved(output, &name, plan, saved)
 }
 
 /// Saves the memory of blocks as a stream, with channels if the arguments ask for them. Returns

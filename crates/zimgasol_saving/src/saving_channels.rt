@@ -10,7 +10,8 @@ use std::io::Write;
 use std::rt::Clock;
 use uuid::Uuid;
 use zimgasol_files::{
-    Outlet, PARTIAL, SaveWords, Trouble, count_word, create, is_free, unwritten, uuid_word, wrong,
+    Outlet, PARTIAL, SaveWords, Trouble, count_word, create, is_free, remove_old, unwritten,
+    uuid_word, wrong,
 };
 
 /// The number of channels that are written, and their UUID.
@@ -49,6 +50,16 @@ pub(crate) fn channel_plan(
 // Returns the path of a channel's file: the main stream's path, a dot, and `number`.
 fn channel_path(alloc: Global, file: &str, number: usize) -> Result<String, AllocError> {
     format!(in alloc; "{file}.{number}")
+}
+
+// Returns the names that all files have until they are complete.
+fn partial_paths(alloc: Global, file: &str, count: usize) -> Result<Vec<String>, AllocError> {
+    let mut paths = Vec::new(alloc);
+    paths.push(format!(in alloc; "{file}{PARTIAL}")?)?;
+    for number in 0..count {
+        paths.push(format!(in alloc; "{file}.{number}{PARTIAL}")?)?;
+    }
+    Ok(paths)
 }
 
 // Refuses files that exist, unless `--replace` is set and they are plain files.
@@ -158,18 +169,10 @@ fn write_all<H: AllocGlobal + Files + Clock, E: Write>(
     end_all(sending, main, words.frame)
 }
 
-// Removes the files that have no final name.
-fn remove_all<H: AllocGlobal + Files>(rt: &H, words: &SaveWords<'_>, count: usize) {
-    let alloc = rt.alloc();
-    for number in 0..count {
-        if let Ok(path) = channel_path(alloc, words.file, number)
-            && let Ok(partial) = format!(in alloc; "{path}{PARTIAL}")
-        {
-            let _left = rt.remove_file(&partial);
-        }
-    }
-    if let Ok(path) = format!(in alloc; "{}{PARTIAL}", words.file) {
-        let _left = rt.remove_file(&path);
+// Removes files, as far as there are any. It takes no memory.
+fn remove_all<H: Files>(rt: &H, paths: &[String]) {
+    for path in paths {
+        let _left = rt.remove_file(path);
     }
 }
 
@@ -180,7 +183,7 @@ fn rename_all<H: Files>(
     main: &Outlet<H::File>,
     outlets: &[Outlet<H::File>],
 ) -> Result<(), Trouble> {
-    let _left = rt.remove_file(&main.path);
+    remove_old(rt, main.alloc, &main.path)?;
     for outlet in outlets {
         outlet.rename(rt)?;
     }
@@ -252,10 +255,10 @@ pub(crate) fn save_channels<H: AllocGlobal + Files + Clock, E: Write>(
     errors: &mut E,
 ) -> Result<Saved, Trouble> {
     check_free(rt, words, channels.count)?;
-    let count = channels.count;
+    let partials = partial_paths(rt.alloc(), words.file, channels.count)?;
     let saved = save_all(rt, words, plan, channels, errors);
     if saved.is_err() {
-        remove_all(rt, words, count);
+        remove_all(rt, &partials);
     }
     saved
 }
