@@ -91,13 +91,16 @@ impl Temporary {
     }
 
     // Removes the folder with all its files, if this run made it. A folder without folders is
-    // removed without memory, so those in it are removed before it.
+    // removed without memory, so those in it are removed first.
     fn remove<H: Files>(&self, rt: &H) -> Result<(), Trouble> {
         if !self.made {
             return Ok(());
         }
         let _left = rt.remove_dir_all(self.alloc, &self.first);
         let _left = rt.remove_dir_all(self.alloc, &self.second);
+        if rt.remove_dir(&self.path).is_ok() {
+            return Ok(());
+        }
         match rt.remove_dir_all(self.alloc, &self.path) {
             Ok(()) => Ok(()),
             Err(error) => Err(unwritten(self.alloc, &self.path, error)),
