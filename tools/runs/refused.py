@@ -3,11 +3,11 @@
 `refuse.c` beside this is loaded into a program (LD_PRELOAD), and refuses the allocations of chosen
 numbers: also those of the command line and of the C library.
 
-Of the commands of `mig_tool` and `zimgasol` each allocation is refused in turn. A run either ends
-as one with memory does, where the program did without the allocation, or it says that memory was
-refused, and leaves the files and folders that were there as they were, and no other: but for the
-channels' files of `mig_tool send`, which it writes one after another, and of which the schedule
-decides which packets each has.
+Of the commands of `mig_tool` and `zimgasol` each allocation is refused in turn; of `zimgasol` also
+together with all that follow it. A run either ends as one with memory does, where the program did
+without the allocation, or it says that memory was refused, and leaves the files and folders that
+were there as they were, and no other: but for the channels' files of `mig_tool send`, which it
+writes one after another, and of which the schedule decides which packets each has.
 
 Of commands of `zimgasol` whose files exist, each question for a file's metadata fails in turn, too:
 a file of which the system doesn't say whether it is there is not replaced.
@@ -88,16 +88,17 @@ class Refusing:
                                   capture_output=True, timeout=SECONDS)
             return Ended(done.returncode, done.stdout, done.stderr, files_in(folder, self.loose)), log.is_file()
 
-    def each(self, line, is_refusal):
-        """Refuses each allocation of a command. Returns how many runs there were, and what is wrong."""
+    def each(self, line, is_refusal, every):
+        """Refuses each allocation of a command, and then every so many. Returns how many runs there were, and what is wrong."""
         whole, _ = self.run(line, {})
         before, wrong, runs = files_in(self.start, self.loose), [], 0
         with ThreadPoolExecutor(cpu_count()) as pool:
             for first in range(1, MOST, 64):
-                ends = list(pool.map(lambda it: (it, *self.run(line, {"REFUSE_FIRST": str(it)})), range(first, first + 64)))
+                ends = list(pool.map(lambda it: (it, *self.run(line, {"REFUSE_FIRST": str(it), "REFUSE_EVERY": str(every)})),
+                                     range(first, first + 64)))
                 refused = [(number, end) for number, end, was in ends if was]
                 runs += len(refused)
-                wrong += [f"{line}: allocation {number}: {end.status} {(end.printed + end.errors)[:200]!r}"
+                wrong += [f"{line}: allocation {number}, every {every}: {end.status} {(end.printed + end.errors)[:200]!r}"
                           for number, end in refused if end != whole and not is_refusal(end, before, whole)]
                 if len(refused) < len(ends):
                     break
@@ -139,13 +140,14 @@ def of_zimgasol(end, before, _):
     return end.status == 3 and end.errors == b"zimgasol: no memory\n" and end.files == before
 
 
-def play_commands(program, shim, start, lines, is_refusal, given=b""):
+def play_commands(program, shim, start, lines, is_refusal, distances, given=b""):
     """Plays commands one after another: each begins with the files that those before it left."""
     runs, wrong = 0, []
     for line in lines:
         loose = LOOSE if line.startswith("send") and "--channels" in line else ()
-        count, found = Refusing(program, shim, start, given, loose).each(line, is_refusal)
-        runs, wrong = runs + count, wrong + found
+        for every in distances:
+            count, found = Refusing(program, shim, start, given, loose).each(line, is_refusal, every)
+            runs, wrong = runs + count, wrong + found
         subprocess.run([*program, *line.split(" ")], cwd=start, input=given, stdout=subprocess.DEVNULL, check=False)
     return runs, wrong
 
@@ -156,7 +158,7 @@ def play_tool(program, shim):
         start.mkdir()
         (start / "s").write_text(SCENARIO)
         (start / "i").write_bytes(b"as it was")
-        return play_commands(program, shim, start, TOOL, of_tool, SCENARIO.encode())
+        return play_commands(program, shim, start, TOOL, of_tool, (0,), SCENARIO.encode())
 
 
 def play_zimgasol(program, shim, data):
@@ -164,7 +166,7 @@ def play_zimgasol(program, shim, data):
         start = Path(room) / "start"
         start.mkdir()
         shutil.copy(data / "guest.sav", start)
-        runs, wrong = play_commands(program, shim, start, ZIMGASOL, of_zimgasol)
+        runs, wrong = play_commands(program, shim, start, ZIMGASOL, of_zimgasol, (0, 1))
         for line in UNSURE:
             for error in ERRORS:
                 count, found = Refusing(program, shim, start, b"", ()).each_question(line, error)
