@@ -246,7 +246,9 @@ typedef enum zimgasol_status {
      * again, and so does the next piece */
     ZIMGASOL_WAITS = 111,
     /* a frame that isn't one */
-    ZIMGASOL_BAD_FRAME = 113
+    ZIMGASOL_BAD_FRAME = 113,
+    /* an end of rounds that isn't one */
+    ZIMGASOL_BAD_ROUND_END = 114
 } zimgasol_status;
 
 ZIMGASOL_ASSERT(sizeof(zimgasol_status) == sizeof(uint32_t), "an enum has the size of an int");
@@ -269,8 +271,25 @@ typedef enum zimgasol_frame {
 
 ZIMGASOL_ASSERT(sizeof(zimgasol_frame) == sizeof(uint32_t), "an enum has the size of an int");
 
+/* What ends a round of a main stream (a session and a load in place of several channels).
+ * BY_FLUSH: each FLUSH record, as the senders of this library write it, and QEMU for machine types
+ * of 8.1 and newer. BY_EOS: each EOS of a section, as QEMU writes it for machine types of 8.0 and
+ * older, or with `multifd-flush-after-each-section=on`, which have no FLUSH. AS_SHOWN: what the
+ * stream shows, BY_FLUSH if START has a FLUSH or the first record behind START is one, and BY_EOS
+ * otherwise. It reads each of the streams above, so a receiver that doesn't know who sends uses it.
+ * With a wrong one of the other two, sources wait for each other for ever, or files have a fault
+ * 33, 52 or 53. */
+typedef enum zimgasol_round_end {
+    ZIMGASOL_BY_FLUSH = 0,
+    ZIMGASOL_BY_EOS = 1,
+    ZIMGASOL_AS_SHOWN = 2
+} zimgasol_round_end;
+
+ZIMGASOL_ASSERT(sizeof(zimgasol_round_end) == sizeof(uint32_t), "an enum has the size of an int");
+
 /* What a load is passed beside its streams, where its _new says `_within`. All zeros are the
  * settings of the same call without it, in the frame RAM.
+ *  - `round_end`: what ends a round of a main stream. A load of a single stream doesn't use it.
  *  - `waiting`: the most page records of one section of a single stream, or of one round of a main
  *    stream. One more is the fault STREAM_WAITING. Each channel may have as many packets and pages
  *    together in a round; one more is CHANNEL_WAITING. 0 sets no limit. A loader keeps the pages of
@@ -283,6 +302,7 @@ ZIMGASOL_ASSERT(sizeof(zimgasol_frame) == sizeof(uint32_t), "an enum has the siz
  *  - `reserved`: zeros, as room for what may come. */
 typedef struct zimgasol_settings {
     zimgasol_frame frame;
+    zimgasol_round_end round_end;
     uint64_t waiting;
     uint64_t reserved[6];
 } zimgasol_settings;
@@ -623,7 +643,7 @@ ZIMGASOL_API void zimgasol_in_place_free(zimgasol_in_place *in_place);
 ZIMGASOL_API zimgasol_status zimgasol_session_new(zimgasol_session *session, uint64_t page_size,
     const uint8_t *uuid, size_t uuid_len, size_t channels, uint64_t limit, zimgasol_frame frame);
 
-/* As zimgasol_session_new, with settings. */
+/* As zimgasol_session_new, with settings. Returns BAD_ROUND_END, too. */
 ZIMGASOL_API zimgasol_status zimgasol_session_new_within(zimgasol_session *session,
     uint64_t page_size, const uint8_t *uuid, size_t uuid_len, size_t channels, uint64_t limit,
     const zimgasol_settings *settings);
@@ -717,7 +737,7 @@ ZIMGASOL_API zimgasol_status zimgasol_in_place_session_new(zimgasol_in_place_ses
     zimgasol_table *table, const uint8_t *uuid, size_t uuid_len, size_t channels,
     zimgasol_frame frame);
 
-/* As zimgasol_in_place_session_new, with settings. */
+/* As zimgasol_in_place_session_new, with settings. Returns BAD_ROUND_END, too. */
 ZIMGASOL_API zimgasol_status zimgasol_in_place_session_new_within(
     zimgasol_in_place_session *session, zimgasol_table *table, const uint8_t *uuid,
     size_t uuid_len, size_t channels, const zimgasol_settings *settings);

@@ -120,7 +120,7 @@ def struct_fields():
         body = re.search(r"#\[repr\(C\)\]\s*(?:#\[[^]]*\]\s*)*pub struct %s \{(.*?)\n\}" % rust, sources, re.S)[1]
         ours = [line for label, kind in FIELD.findall(body) for line in c_fields(label, kind)]
         theirs = [line.strip() for line in re.search(r"typedef struct %s \{(.*?)\}" % name, header, re.S)[1].split(";") if line.strip()]
-        yield name, ours, [line.replace("zimgasol_frame ", "uint32_t ") for line in theirs]
+        yield name, ours, [re.sub("zimgasol_(frame|round_end) ", "uint32_t ", line) for line in theirs]
 
     for name, ours in SLICES.values():
         theirs = [line.strip() for line in re.search(r"typedef struct %s \{(.*?)\}" % name, header, re.S)[1].split(";") if line.strip()]
@@ -134,8 +134,9 @@ def statuses():
     specs = dict(re.findall(r"^(\w+) = (\d+)$", (TOP / "crates/mig_c_calls/specs/Status.antt").read_text(), re.M))
     for name in ours:
         yield name, ours[name], theirs.get(name), specs.get(name.lower())
-    for name, number in re.findall(r"const (\w+): u32 = (\d+);", (TOP / "crates/mig_c_loads/src/frame.rt").read_text()):
-        yield name, number, theirs.get(name), number
+    for module in ("frame", "round_end"):
+        for name, number in re.findall(r"const (\w+): u32 = (\d+);", (TOP / f"crates/mig_c_loads/src/{module}.rt").read_text()):
+            yield name, number, theirs.get(name), number
 
 
 # where the numbers of faults are defined, and how the header's names of these begin

@@ -22,6 +22,8 @@ use Rattle.mig_send.specs.DealtRounds.{DealtRound, IsDealtRound}
 use Rattle.mig_send.specs.ReadBack.{SendingsAreReadBack, MachineSendingsAreReadBack}
 use Rattle.mig_single_load.specs.Settings.{ram_settings}
 use Rattle.mig_single_load.specs.declared.settings.LoadSettings.{LoadSettings}
+use Rattle.mig_single_load.specs.declared.settings.RoundEnd.{RoundEnd}
+use Rattle.mig_single_load.specs.declared.settings.RoundEnd.TheVariants.{Flush as by_flush}
 use Rattle.mig_single_load.specs.declared.loaded.Loaded.{Loaded}
 use Rattle.mig_answer.specs.declared.verdict.Verdict.{Verdict}
 use Rattle.mig_answer.specs.declared.verdict.Verdict.TheVariants.{Done}
@@ -160,9 +162,10 @@ machine_as_sent back table uuid limit rounds main channels sent room =
     }
 
 pub machine_sendings_law : MachineSendingsAreReadBack → MachineSendingsAreLoaded
-machine_sendings_law back = λ given table uuid rounds main channels answer is_machine unlimited same room sent answers.
+machine_sendings_law back = λ given table uuid rounds main channels answer is_machine unlimited flushes same room sent answers.
     let named : given ≡ framed Machine table.page_size given.limit =
-    ap (λ (f : Frame). record given { frame = f }) is_machine ∙ ap (λ (n : Option ℕ). record given { frame = Machine; waiting = n }) unlimited ∙ ap (λ (n : ℕ). framed Machine n given.limit) (sym same) in
+    ap (λ (f : Frame). record given { frame = f }) is_machine ∙ ap (λ (n : Option ℕ). record given { frame = Machine; waiting = n }) unlimited
+    ∙ ap (λ (e : RoundEnd). record given { frame = Machine; waiting = None; round_end = e }) flushes ∙ ap (λ (n : ℕ). framed Machine n given.limit) (sym same) in
     read_law Machine table uuid given.limit rounds main channels answer (machine_as_sent back table uuid given.limit rounds main channels sent room)
     (subst (λ (g : LoadSettings). IsAnswer g uuid (ended_texts main channels) answer) named answers)
 

@@ -19,6 +19,7 @@ use Rattle.mig_packet.specs.Reading.{Settings, settings, ChannelReading, IsReadi
 use Rattle.mig_send.specs.DealtRounds.{DealtRound, IsSending, channel_text}
 use Rattle.mig_send.specs.ReadBack.{channel_told, round_packets}
 use Rattle.mig_single_load.specs.declared.settings.LoadSettings.{LoadSettings}
+use Rattle.mig_single_load.specs.declared.settings.RoundEnd.TheVariants.{Flush}
 use Rattle.mig_single_load.specs.declared.fault.Origin.TheVariants as origin
 use Rattle.mig_answer.specs.declared.status.Status.{Status}
 use Rattle.mig_answer.specs.declared.status.Status.TheVariants.{Whole, Clean}
@@ -45,7 +46,7 @@ read_each given told n (text ∷ texts) each =
 
 -- for a load of a table's page size
 abbrev pub framed : Frame → ℕ → ℕ → LoadSettings
-framed frame page_size limit = record { page_size = page_size; limit = limit; frame = frame; waiting = None }
+framed frame page_size limit = record { page_size = page_size; limit = limit; frame = frame; waiting = None; round_end = Flush }
 
 -- The channels are those of a sending, in any order, and the main stream is read in a frame as what
 -- it has of RAM: the table, and as many rounds.

@@ -12,6 +12,7 @@ use Rattle.mig_send.specs.DealtRounds.{DealtRound, IsSending, IsMachineSending}
 use Rattle.mig_single_load.specs.Settings.{ram_settings}
 use Rattle.mig_single_load.specs.declared.loaded.Loaded.{Loaded}
 use Rattle.mig_single_load.specs.declared.settings.LoadSettings.{LoadSettings}
+use Rattle.mig_single_load.specs.declared.settings.RoundEnd.TheVariants.{Flush as by_flush}
 use Rattle.mig_answer.specs.declared.verdict.Verdict.TheVariants.{Done}
 use Rattle.mig_single_load.specs.SingleLoad.{IsSingleAnswer}
 use Rattle.mig_answer.specs.Texts.{ended_texts}
@@ -57,7 +58,7 @@ pub record IsMachineSentInAnyOrder (table : RamTable) (uuid : List ℕ) (rounds 
 -- streams without one. Any number of page records may wait.
 abbrev pub MachineSendingsAreLoaded : Type 0
 MachineSendingsAreLoaded = (given : LoadSettings) (table : RamTable) (uuid : List ℕ) (rounds : List DealtRound) (main : List ℕ) (channels : List (List ℕ)) (answer : Answer)
-    → given.frame ≡ Machine → given.waiting ≡ None → table.page_size ≡ given.page_size → total_bytes table ≤ given.limit → IsMachineSentInAnyOrder table uuid rounds main channels
+    → given.frame ≡ Machine → given.waiting ≡ None → given.round_end ≡ by_flush → table.page_size ≡ given.page_size → total_bytes table ≤ given.limit → IsMachineSentInAnyOrder table uuid rounds main channels
     → IsAnswer given uuid (ended_texts main channels) answer → answer ≡ sent_answer table rounds
 
 -- a load of several channels and one of a single stream gave the same memory, and both are Ok; a

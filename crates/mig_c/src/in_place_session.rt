@@ -12,10 +12,13 @@ ghost use Rattle.mig_c_loads.specs.InPlaceSessions.{Opens, OpensInto, FeedsBlock
 
 use crate::handle::{Handle, InPlaceSessionHandle, TableHandle};
 use crate::object::Object;
-use mig_c_calls::status::{BAD_CHANNELS, BAD_FRAME, BAD_LENGTH, DONE, NO_MEMORY};
-use mig_c_loads::{AskedSettings, FoundFault, HeldSession, frame_of, source_of, waiting_of};
+use mig_c_calls::status::{BAD_CHANNELS, BAD_FRAME, BAD_LENGTH, BAD_ROUND_END, DONE, NO_MEMORY};
+use mig_c_loads::{
+    AskedSettings, FoundFault, HeldSession, frame_of, round_end_of, source_of, waiting_of,
+};
 use mig_mem::{NoMemory, Table};
 use mig_session::Source;
+use mig_single_load::RoundEnd;
 use mig_stream::Frame;
 use std::alloc::Global;
 use uuid::Uuid;
@@ -28,11 +31,12 @@ fn made(
     channels: usize,
     frame: Frame,
     waiting: Option<u64>,
+    round_end: RoundEnd,
 ) -> Result<Box<Object>, NoMemory>
     requires channels { (1 ≤ channels) × (channels ≤ 255) }
-    ensures { IfOk result (λ object. Opens (Some table.now) uuid.now channels (Some frame) waiting (in_place_session_in (Some object.value))) }
+    ensures { IfOk result (λ object. Opens (Some table.now) uuid.now channels (Some frame) waiting (Some round_end) (in_place_session_in (Some object.value))) }
 {
-    let load = HeldSession::new(alloc, table, uuid, channels, frame, waiting)?;
+    let load = HeldSession::new(alloc, table, uuid, channels, frame, waiting, round_end)?;
     Ok(Box::new(alloc, Object::InPlaceSession(load))?)
 }
 
@@ -43,13 +47,14 @@ fn made_of(
     channels: usize,
     frame: Frame,
     waiting: Option<u64>,
+    round_end: RoundEnd,
 ) -> Result<Box<Object>, NoMemory>
     requires table { IsSome (table_in (Some table.now)) }
     requires channels { (1 ≤ channels) × (channels ≤ 255) }
-    ensures { IfOk result (λ object. Opens (table_in (Some table.now)) uuid.now channels (Some frame) waiting (in_place_session_in (Some object.value))) }
+    ensures { IfOk result (λ object. Opens (table_in (Some table.now)) uuid.now channels (Some frame) waiting (Some round_end) (in_place_session_in (Some object.value))) }
 {
     match table {
-        Object::Table(table) => made(alloc, table, uuid, channels, frame, waiting),
+        Object::Table(table) => made(alloc, table, uuid, channels, frame, waiting, round_end),
         _ => unreachable!(),
     }
 }
@@ -62,10 +67,11 @@ fn opened(
     channels: usize,
     frame: u32,
     waiting: Option<u64>,
+    round_end: u32,
 ) -> Result<Box<Object>, u32>
     requires { IsSome (table_in table.old.handle.value) }
-    ensures ok { IfOk result (λ object. OpensInto (table_in table.old.handle.value) uuid.now channels frame waiting done (in_place_session_in (Some object.value))) }
-    ensures err { IfErr result (λ status. OpensInto (table_in table.old.handle.value) uuid.now channels frame waiting status None) }
+    ensures ok { IfOk result (λ object. OpensInto (table_in table.old.handle.value) uuid.now channels frame waiting round_end done (in_place_session_in (Some object.value))) }
+    ensures err { IfErr result (λ status. OpensInto (table_in table.old.handle.value) uuid.now channels frame waiting round_end status None) }
     ensures refused { IfErr result (λ status. status ≢ done) }
     ensures table { table.new.handle.value ≡ table.old.handle.value }
 {
@@ -78,8 +84,11 @@ fn opened(
     let Some(frame) = frame_of(frame) else {
         return Err(BAD_FRAME);
     };
+    let Some(round_end) = round_end_of(round_end) else {
+        return Err(BAD_ROUND_END);
+    };
     let object = table.handle.take().into_box(alloc);
-    let made = made_of(alloc, &object, &uuid, channels, frame, waiting);
+    let made = made_of(alloc, &object, &uuid, channels, frame, waiting, round_end);
     table.handle = Handle::of(object);
     match made {
         Ok(object) => Ok(object),
@@ -100,11 +109,11 @@ pub extern "C" fn zimgasol_in_place_session_new(
 ) -> u32
     requires none { session.old.handle.value ≡ None }
     requires table { IsSome (table_in table.old.handle.value) }
-    ensures opens { OpensInto (table_in table.old.handle.value) uuid.now channels frame None result (in_place_session_in session.new.handle.value) }
+    ensures opens { OpensInto (table_in table.old.handle.value) uuid.now channels frame None 0 result (in_place_session_in session.new.handle.value) }
     ensures none { result ≢ done → session.new.handle.value ≡ None }
     ensures table { table.new.handle.value ≡ table.old.handle.value }
 {
-    match opened(alloc, table, uuid, channels, frame, None) {
+    match opened(alloc, table, uuid, channels, frame, None, 0) {
         Ok(object) => {
             session.handle = Handle::of(object);
             session.full = 1;
@@ -127,13 +136,14 @@ pub extern "C" fn zimgasol_in_place_session_new_within(
 ) -> u32
     requires none { session.old.handle.value ≡ None }
     requires table { IsSome (table_in table.old.handle.value) }
-    ensures opens { OpensInto (table_in table.old.handle.value) uuid.now channels settings.now.frame (most_waiting settings.now.waiting) result
+    ensures opens { OpensInto (table_in table.old.handle.value) uuid.now channels settings.now.frame (most_waiting settings.now.waiting) settings.now.round_end result
         (in_place_session_in session.new.handle.value) }
     ensures none { result ≢ done → session.new.handle.value ≡ None }
     ensures table { table.new.handle.value ≡ table.old.handle.value }
 {
     let waiting = waiting_of(settings.waiting);
-    match opened(alloc, table, uuid, channels, settings.frame, waiting) {
+    let (frame, ends) = (settings.frame, settings.round_end);
+    match opened(alloc, table, uuid, channels, frame, waiting, ends) {
         Ok(object) => {
             session.handle = Handle::of(object);
             session.full = 1;

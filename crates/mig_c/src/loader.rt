@@ -18,7 +18,7 @@ use mig_c_loads::{
     read_block, read_page, read_pages, settle_loader, waiting_of,
 };
 use mig_mem::{NoMemory, is_page_size};
-use mig_single_load::{LoadSettings, SingleLoader};
+use mig_single_load::{LoadSettings, RoundEnd, SingleLoader};
 use std::alloc::Global;
 
 // Creates a loader in a box.
@@ -57,6 +57,7 @@ fn opened(
         limit,
         frame,
         waiting,
+        round_end: RoundEnd::Flush,
     };
     match made(alloc, settings) {
         Ok(object) => Ok(object),

@@ -14,11 +14,13 @@ use crate::handle::{Handle, SessionHandle};
 use crate::object::Object;
 use mig_c_calls::NamedBlock;
 use mig_c_calls::status::{
-    BAD_CHANNELS, BAD_FRAME, BAD_LENGTH, BAD_LIMIT, BAD_PAGE_SIZE, DONE, MAX_LIMIT, NO_MEMORY,
+    BAD_CHANNELS, BAD_FRAME, BAD_LENGTH, BAD_LIMIT, BAD_PAGE_SIZE, BAD_ROUND_END, DONE, MAX_LIMIT,
+    NO_MEMORY,
 };
 use mig_c_loads::{
     AskedSettings, FoundFault, closed_at_of, count_blocks, end_source, fed_of, feed_source,
-    frame_of, read_block, read_page, read_pages, source_of, valid_up_to_of, verdict_of, waiting_of,
+    frame_of, read_block, read_page, read_pages, round_end_of, source_of, valid_up_to_of,
+    verdict_of, waiting_of,
 };
 use mig_mem::{NoMemory, is_page_size};
 use mig_session::{Session, Source};
@@ -51,9 +53,10 @@ fn opened(
     limit: u64,
     frame: u32,
     waiting: Option<u64>,
+    round_end: u32,
 ) -> Result<Box<Object>, u32>
-    ensures ok { IfOk result (λ object. OpensSession page_size uuid.now channels limit frame waiting done (session_in (Some object.value))) }
-    ensures err { IfErr result (λ status. OpensSession page_size uuid.now channels limit frame waiting status None) }
+    ensures ok { IfOk result (λ object. OpensSession page_size uuid.now channels limit frame waiting round_end done (session_in (Some object.value))) }
+    ensures err { IfErr result (λ status. OpensSession page_size uuid.now channels limit frame waiting round_end status None) }
     ensures refused { IfErr result (λ status. status ≢ done) }
 {
     if !is_page_size(page_size) {
@@ -71,11 +74,15 @@ fn opened(
     let Some(frame) = frame_of(frame) else {
         return Err(BAD_FRAME);
     };
+    let Some(round_end) = round_end_of(round_end) else {
+        return Err(BAD_ROUND_END);
+    };
     let settings = LoadSettings {
         page_size,
         limit,
         frame,
         waiting,
+        round_end,
     };
     match made(alloc, settings, &uuid, channels) {
         Ok(object) => Ok(object),
@@ -96,10 +103,10 @@ pub extern "C" fn zimgasol_session_new(
     frame: u32,
 ) -> u32
     requires none { session.old.handle.value ≡ None }
-    ensures opens { OpensSession page_size uuid.now channels limit frame None result (session_in session.new.handle.value) }
+    ensures opens { OpensSession page_size uuid.now channels limit frame None 0 result (session_in session.new.handle.value) }
     ensures none { result ≢ done → session.new.handle.value ≡ None }
 {
-    match opened(alloc, page_size, uuid, channels, limit, frame, None) {
+    match opened(alloc, page_size, uuid, channels, limit, frame, None, 0) {
         Ok(object) => {
             session.handle = Handle::of(object);
             session.full = 1;
@@ -122,12 +129,14 @@ pub extern "C" fn zimgasol_session_new_within(
     settings: &AskedSettings,
 ) -> u32
     requires none { session.old.handle.value ≡ None }
-    ensures opens { OpensSession page_size uuid.now channels limit settings.now.frame (most_waiting settings.now.waiting) result (session_in session.new.handle.value) }
+    ensures opens { OpensSession page_size uuid.now channels limit settings.now.frame (most_waiting settings.now.waiting) settings.now.round_end result (session_in session.new.handle.value) }
     ensures none { result ≢ done → session.new.handle.value ≡ None }
 {
     let waiting = waiting_of(settings.waiting);
-    let frame = settings.frame;
-    match opened(alloc, page_size, uuid, channels, limit, frame, waiting) {
+    let (frame, ends) = (settings.frame, settings.round_end);
+    match opened(
+        alloc, page_size, uuid, channels, limit, frame, waiting, ends,
+    ) {
         Ok(object) => {
             session.handle = Handle::of(object);
             session.full = 1;

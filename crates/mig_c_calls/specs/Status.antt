@@ -76,6 +76,10 @@ waits = 111
 abbrev pub bad_frame : ℕ
 bad_frame = 113
 
+-- a number that ends no rounds
+abbrev pub bad_round_end : ℕ
+bad_round_end = 114
+
 -- ----
 
 -- no other status is returned

@@ -54,6 +54,9 @@ pub const WAITS: u32 = 111;
 /// A number that is no frame.
 pub const BAD_FRAME: u32 = 113;
 
+/// A number that ends no rounds.
+pub const BAD_ROUND_END: u32 = 114;
+
 /// The most bytes that a guest's blocks may have together.
 pub const MAX_LIMIT: u64 = 1 << 40;
 

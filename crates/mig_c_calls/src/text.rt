@@ -128,6 +128,7 @@ fn of_call(status: u32) -> &'static [u8]
         110 => b"too many pages for a packet\0",
         111 => b"taken, waits for guest memory\0",
         113 => b"no such frame\0",
+        114 => b"no such end of rounds\0",
         _ => b"unknown status\0",
     }
 }

@@ -1,21 +1,37 @@
--- What C passes to a load beside its streams: what they are read as, and what may wait.
+-- What C passes to a load beside its streams: what they are read as, what ends the rounds, and what
+-- may wait.
 use Rattle.std.specs.Prelude.{ℕ, ◌==◌, Option, None, Some, if◌then◌else◌}
-use Rattle.std.specs.Option.{option_map}
+use Rattle.std.specs.Option.{option_map, option_and_then}
 use Rattle.mig_stream.specs.declared.item.Frame.{Frame}
 use Rattle.mig_stream.specs.declared.item.Frame.TheVariants.{Ram, Machine}
 use Rattle.mig_single_load.specs.declared.settings.LoadSettings.{LoadSettings}
+use Rattle.mig_single_load.specs.declared.settings.RoundEnd.{RoundEnd}
+use Rattle.mig_single_load.specs.declared.settings.RoundEnd.TheVariants.{Flush, Eos, AsShown}
 
 -- 0 is RAM's sections alone, 1 a machine's stream, and no other number is a frame
 abbrev pub frame_of : ℕ → Option Frame
 frame_of number = if number == 0 then Some Ram else if number == 1 then Some Machine else None
+
+-- 0 is each FLUSH, 1 each EOS, 2 as the stream shows, and no other number ends rounds
+abbrev pub round_end_of : ℕ → Option RoundEnd
+round_end_of number = if number == 0 then Some Flush else if number == 1 then Some Eos else if number == 2 then Some AsShown else None
 
 -- the most page records of a section or a round: 0 sets no limit
 abbrev pub waiting_of : ℕ → Option ℕ
 waiting_of count = if count == 0 then None else Some count
 
 abbrev pub load_settings : ℕ → ℕ → Option ℕ → Frame → LoadSettings
-load_settings page_size limit waiting frame = record { page_size = page_size; limit = limit; frame = frame; waiting = waiting }
+load_settings page_size limit waiting frame = record { page_size = page_size; limit = limit; frame = frame; waiting = waiting; round_end = Flush }
 
 -- the settings that C asks for, if there is such a frame
 abbrev pub asked_settings : ℕ → ℕ → ℕ → Option ℕ → Option LoadSettings
 asked_settings page_size limit frame waiting = option_map (load_settings page_size limit waiting) (frame_of frame)
+
+-- with another end of a main stream's rounds
+abbrev pub with_round_end : LoadSettings → RoundEnd → LoadSettings
+with_round_end given ends = record given { round_end = ends }
+
+-- the settings that C asks for a main stream, if there are such a frame and such an end of rounds
+abbrev pub main_settings : ℕ → ℕ → ℕ → Option ℕ → ℕ → Option LoadSettings
+main_settings page_size limit frame waiting ends =
+    option_and_then (λ given. option_map (with_round_end given) (round_end_of ends)) (asked_settings page_size limit frame waiting)

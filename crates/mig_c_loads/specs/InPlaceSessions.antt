@@ -8,6 +8,7 @@ use Rattle.mig_stream.specs.declared.item.Frame.{Frame}
 use Rattle.mig_stream.specs.Reader.{HasClosedAt}
 use Rattle.mig_single_load.specs.Settings.{for_table, main_of}
 use Rattle.mig_single_load.specs.declared.settings.LoadSettings.{LoadSettings}
+use Rattle.mig_single_load.specs.declared.settings.RoundEnd.{RoundEnd}
 use Rattle.mig_single_load.specs.declared.fault.Origin.TheVariants as origin
 use Rattle.mig_single_load.specs.declared.fault.Fault.TheVariants as fault
 use Rattle.mig_answer.specs.declared.verdict.Verdict.{Verdict}
@@ -18,37 +19,41 @@ use Rattle.mig_session.specs.declared.source.Source.{Source}
 use Rattle.mig_session.specs.Session.{HasSource, count_of, feed_step, end_step, with_fed, with_end, IsSourceValidUpTo}
 use Rattle.mig_in_place.specs.Sources.{counts_of}
 use Rattle.mig_in_place.specs.Session.{InPlaceLoad, StandsFor, LacksMemory, StepsOn, RunsOut, Tells, TakesBytes}
-use Rattle.mig_c_calls.specs.Status.{IsOneOf, done, running, no_memory, bad_channels, bad_source, is_over, too_long, bad_length, bad_frame}
-use Rattle.mig_c_loads.specs.Frames.{frame_of}
+use Rattle.mig_c_calls.specs.Status.{IsOneOf, done, running, no_memory, bad_channels, bad_source, is_over, too_long, bad_length, bad_frame, bad_round_end}
+use Rattle.mig_c_loads.specs.Frames.{frame_of, round_end_of, with_round_end}
 use Rattle.mig_c_loads.specs.Found.{if_told}
 use Rattle.mig_c_loads.specs.InPlace.{settings_into}
 
 -- ---- the calls
 
 -- With any blocks that fit this table it took nothing yet: of a main stream that is read in this
--- frame, and may have so many page records in a round, and of so many channels under this UUID.
-pub record BeginsInto (table : RamTable) (uuid : List ℕ) (channels : ℕ) (frame : Frame) (waiting : Option ℕ) (s : InPlaceLoad) : Type 0 where
+-- frame, may have so many page records in a round and has this end of rounds, and of so many
+-- channels under this UUID.
+pub record BeginsInto (table : RamTable) (uuid : List ℕ) (channels : ℕ) (frame : Frame) (waiting : Option ℕ) (ends : RoundEnd) (s : InPlaceLoad) : Type 0 where
   pub same_table : s.table ≡ table
   pub as_many : length (counts_of s.sources).channels ≡ channels
   pub stands : (blocks : List (List ℕ)) → FitTable table blocks
-      → StandsFor (settings_into table frame waiting) uuid (lent_image table blocks) (no_texts channels) (lent_image table blocks) s
+      → StandsFor (with_round_end (settings_into table frame waiting) ends) uuid (lent_image table blocks) (no_texts channels) (lent_image table blocks) s
 
-abbrev pub Opens : Option RamTable → List ℕ → ℕ → Option Frame → Option ℕ → Option InPlaceLoad → Type 0
-Opens None uuid channels frame waiting made = ⊤
-Opens (Some table) uuid channels None waiting made = ⊥
-Opens (Some table) uuid channels (Some frame) waiting None = ⊥
-Opens (Some table) uuid channels (Some frame) waiting (Some s) = BeginsInto table uuid channels frame waiting s
+abbrev pub Opens : Option RamTable → List ℕ → ℕ → Option Frame → Option ℕ → Option RoundEnd → Option InPlaceLoad → Type 0
+Opens None uuid channels frame waiting ends made = ⊤
+Opens (Some table) uuid channels None waiting ends made = ⊥
+Opens (Some table) uuid channels (Some frame) waiting None made = ⊥
+Opens (Some table) uuid channels (Some frame) waiting (Some ends) None = ⊥
+Opens (Some table) uuid channels (Some frame) waiting (Some ends) (Some s) = BeginsInto table uuid channels frame waiting ends s
 
 -- What `new` does, with a table: the first thing that is wrong with what it is given is returned.
-pub record OpensInto (table : Option RamTable) (uuid : List ℕ) (channels frame : ℕ) (waiting : Option ℕ) (status : ℕ) (made : Option InPlaceLoad) : Type 0 where
-  pub is_named : IsOneOf (done ∷ no_memory ∷ bad_channels ∷ bad_length ∷ bad_frame ∷ []) status
-  pub opens : status ≡ done → Opens table uuid channels (frame_of frame) waiting made
+pub record OpensInto (table : Option RamTable) (uuid : List ℕ) (channels frame : ℕ) (waiting : Option ℕ) (ends status : ℕ) (made : Option InPlaceLoad) : Type 0 where
+  pub is_named : IsOneOf (done ∷ no_memory ∷ bad_channels ∷ bad_length ∷ bad_frame ∷ bad_round_end ∷ []) status
+  pub opens : status ≡ done → Opens table uuid channels (frame_of frame) waiting (round_end_of ends) made
   pub no_number : status ≡ bad_channels → (channels ≡ 0) ⊎ (255 < channels)
   pub numbered : status ≢ bad_channels → (1 ≤ channels) × (channels ≤ 255)
   pub short : status ≡ bad_length → length uuid ≢ 16
   pub is_uuid : status ≢ bad_channels → status ≢ bad_length → length uuid ≡ 16
   pub no_frame : status ≡ bad_frame → frame_of frame ≡ None
   pub has_frame : status ≢ bad_channels → status ≢ bad_length → status ≢ bad_frame → frame_of frame ≢ None
+  pub no_round_end : status ≡ bad_round_end → round_end_of ends ≡ None
+  pub has_round_end : status ≢ bad_channels → status ≢ bad_length → status ≢ bad_frame → status ≢ bad_round_end → round_end_of ends ≢ None
 
 -- Why a piece of `len` bytes of a source isn't taken into these blocks: the first reason that
 -- applies.

@@ -10,8 +10,8 @@ use Rattle.mig_answer.specs.Texts.{Texts, no_texts}
 use Rattle.mig_session.specs.Session.{LoadSession, StandsFor, HasSource, count_of, feed_step, end_step, answer_in, StepsOn, RunsOut, StillLacks, AsRead, LacksMemory, IsSourceValidUpTo}
 use Rattle.mig_session.specs.Advancing.{failed_without_memory}
 use Rattle.mig_mem.specs.PageSize.{IsPageSize}
-use Rattle.mig_c_calls.specs.Status.{IsOneOf, done, running, no_memory, bad_page_size, bad_limit, bad_channels, bad_source, is_over, too_long, bad_length, bad_frame}
-use Rattle.mig_c_loads.specs.Frames.{frame_of, asked_settings}
+use Rattle.mig_c_calls.specs.Status.{IsOneOf, done, running, no_memory, bad_page_size, bad_limit, bad_channels, bad_source, is_over, too_long, bad_length, bad_frame, bad_round_end}
+use Rattle.mig_c_loads.specs.Frames.{frame_of, round_end_of, main_settings}
 use Rattle.mig_c_loads.specs.Found.{if_told}
 
 -- a session that was fed nothing
@@ -21,9 +21,9 @@ Opens (Some given) uuid channels None = ⊥
 Opens (Some given) uuid channels (Some s) = StandsFor given uuid (no_texts channels) s
 
 -- What `new` does: it reports the first argument that is wrong.
-pub record OpensSession (page_size : ℕ) (uuid : List ℕ) (channels limit frame : ℕ) (waiting : Option ℕ) (status : ℕ) (made : Option LoadSession) : Type 0 where
-  pub is_named : IsOneOf (done ∷ no_memory ∷ bad_page_size ∷ bad_limit ∷ bad_channels ∷ bad_length ∷ bad_frame ∷ []) status
-  pub opens : status ≡ done → Opens (asked_settings page_size limit frame waiting) uuid channels made
+pub record OpensSession (page_size : ℕ) (uuid : List ℕ) (channels limit frame : ℕ) (waiting : Option ℕ) (ends status : ℕ) (made : Option LoadSession) : Type 0 where
+  pub is_named : IsOneOf (done ∷ no_memory ∷ bad_page_size ∷ bad_limit ∷ bad_channels ∷ bad_length ∷ bad_frame ∷ bad_round_end ∷ []) status
+  pub opens : status ≡ done → Opens (main_settings page_size limit frame waiting ends) uuid channels made
   pub foreign_size : status ≡ bad_page_size → IsPageSize page_size → ⊥
   pub has_size : status ≢ bad_page_size → IsPageSize page_size
   pub above : status ≡ bad_limit → 2 ^ 40 < limit
@@ -34,6 +34,8 @@ pub record OpensSession (page_size : ℕ) (uuid : List ℕ) (channels limit fram
   pub is_uuid : status ≢ bad_page_size → status ≢ bad_limit → status ≢ bad_channels → status ≢ bad_length → length uuid ≡ 16
   pub no_frame : status ≡ bad_frame → frame_of frame ≡ None
   pub has_frame : status ≢ bad_page_size → status ≢ bad_limit → status ≢ bad_channels → status ≢ bad_length → status ≢ bad_frame → frame_of frame ≢ None
+  pub no_round_end : status ≡ bad_round_end → round_end_of ends ≡ None
+  pub has_round_end : status ≢ bad_page_size → status ≢ bad_limit → status ≢ bad_channels → status ≢ bad_length → status ≢ bad_frame → status ≢ bad_round_end → round_end_of ends ≢ None
 
 -- The effect of `feed` on a source.
 pub record FeedsSource (from : Source) (piece : List ℕ) (status : ℕ) (old new : LoadSession) : Type 0 where

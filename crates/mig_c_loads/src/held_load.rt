@@ -13,7 +13,7 @@ use mig_c_calls::status::{
     BAD_LENGTH, DONE, IS_OVER, MAX_LIMIT, NO_MEMORY, ROOM, RUNNING, TOO_LONG,
 };
 use mig_mem::{NoMemory, Table};
-use mig_single_load::{InPlaceState, LoadSettings};
+use mig_single_load::{InPlaceState, LoadSettings, RoundEnd};
 use mig_stream::Frame;
 use std::alloc::Global;
 use std::marker::Model;
@@ -115,6 +115,7 @@ impl HeldLoad {
             limit: MAX_LIMIT,
             frame,
             waiting,
+            round_end: RoundEnd::Flush,
         };
         let state = InPlaceState::new_in(alloc, table, settings)?;
         let table = Some(table.copy_in(alloc)?);

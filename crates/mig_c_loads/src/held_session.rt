@@ -17,7 +17,7 @@ use mig_c_calls::status::{
 use mig_in_place::InPlaceSession;
 use mig_mem::{NoMemory, Table};
 use mig_session::Source;
-use mig_single_load::LoadSettings;
+use mig_single_load::{LoadSettings, RoundEnd};
 use mig_stream::Frame;
 use std::alloc::Global;
 use std::marker::Model;
@@ -166,15 +166,17 @@ impl HeldSession {
         channels: usize,
         frame: Frame,
         waiting: Option<u64>,
+        round_end: RoundEnd,
     ) -> Result<HeldSession, NoMemory>
         requires channels { (1 ≤ channels) × (channels ≤ 255) }
-        ensures { IfOk result (λ s. BeginsInto table.now uuid.now channels frame waiting s) }
+        ensures { IfOk result (λ s. BeginsInto table.now uuid.now channels frame waiting round_end s) }
     {
         let settings = LoadSettings {
             page_size: table.page_size(),
             limit: MAX_LIMIT,
             frame,
             waiting,
+            round_end,
         };
         let session = InPlaceSession::new_in(alloc, table, settings, uuid, channels)?;
         let table = Some(table.copy_in(alloc)?);

@@ -2,9 +2,10 @@
 //!
 //! They work on a loader of one stream (`loading`), a session (`sources`), and the loads into
 //! blocks of C (`held_load`, `held_session`). The blocks are lent to a call (`lent`), which writes
-//! pages into their bytes (`putting`). C passes the number of a frame, and settings (`frame`,
-//! `settings`). It sees a load's fault (`fault`) and what the next bytes are (`next_bytes`), and
-//! reads the pages of the memory (`reading`). Statuses are those of `mig_c_calls`.
+//! pages into their bytes (`putting`). C passes the numbers of a frame and of what ends rounds, and
+//! settings (`frame`, `round_end`, `settings`). It sees a load's fault (`fault`) and what the next
+//! bytes are (`next_bytes`), and reads the pages of the memory (`reading`). Statuses are those of
+//! `mig_c_calls`.
 #![tactic(auto)]
 
 mod fault;
@@ -16,6 +17,7 @@ mod loading;
 mod next_bytes;
 mod putting;
 mod reading;
+mod round_end;
 mod settings;
 mod sources;
 
@@ -26,6 +28,7 @@ pub use held_session::HeldSession;
 pub use loading::{fault_of, feed_loader, loader_closed_at, settle_loader};
 pub use next_bytes::NextBytes;
 pub use reading::{count_blocks, next_nonzero, read_block, read_page, read_pages};
+pub use round_end::round_end_of;
 pub use settings::{AskedSettings, waiting_of};
 pub use sources::{
     closed_at_of, end_source, fed_of, feed_source, source_of, valid_up_to_of, verdict_of,

@@ -3,13 +3,15 @@
 ghost use Rattle.std.specs.Prelude.{◌≡◌};
 ghost use Rattle.mig_c_loads.specs.Frames.{waiting_of};
 
-/// The settings of a load. All zeros are those of a stream of RAM's sections alone, with no limit
-/// on the page records that wait.
+/// The settings of a load. All zeros are those of a stream of RAM's sections alone, whose rounds end
+/// with FLUSH, with no limit on the page records that wait.
 #[repr(C)]
 #[derive(Clone, Copy)]
 pub struct AskedSettings {
     /// What the stream is read as, by its number.
     pub frame: u32,
+    /// What ends a round of a main stream, by its number. A single stream doesn't use it.
+    pub round_end: u32,
     /// The most page records of a section, or of a round of a main stream; 0 sets no limit.
     pub waiting: u64,
     /// Zeros, as room for what may come.

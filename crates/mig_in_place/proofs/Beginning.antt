@@ -8,14 +8,13 @@ use Rattle.mig_mem.specs.PageSize.{IsPageSize}
 use Rattle.mig_mem.specs.First.{first_some}
 use Rattle.mig_mem.specs.RamTable.{RamTable, IsTable}
 use Rattle.mig_mem.specs.Image.{Image, IsImage}
-use Rattle.mig_stream.specs.declared.item.Mode.TheVariants.{Main}
 use Rattle.mig_stream.specs.declared.item.StreamState.TheVariants.{Reading}
 use Rattle.mig_stream.specs.Progress.{StreamProgress, start}
 use Rattle.mig_stream.specs.Reading.{StreamReading}
 use Rattle.mig_stream.proofs.Feeding.{reads_short}
 use Rattle.mig_packet.specs.Reading.{Settings}
 use Rattle.mig_packet.specs.Paging.{none_given}
-use Rattle.mig_single_load.specs.Settings.{main_of, channel_of, for_table}
+use Rattle.mig_single_load.specs.Settings.{main_of, channel_of, for_table, mode_of}
 use Rattle.mig_single_load.specs.declared.settings.LoadSettings.{LoadSettings}
 use Rattle.mig_answer.specs.declared.verdict.Verdict.{Verdict}
 use Rattle.mig_answer.specs.declared.verdict.Verdict.TheVariants.{Running}
@@ -34,7 +33,7 @@ nothing_read = record { table = None; rounds = []; state = Reading }
 
 main_nothing : (given : LoadSettings) (reading : StreamReading) → IsPageSize given.page_size → IsMainReading given no_text reading → reading ≡ nothing_read
 main_nothing given reading size is =
-    let begin : StreamProgress = start given.frame Main given.page_size given.limit given.waiting in
+    let begin : StreamProgress = start given.frame (mode_of given.round_end) given.page_size given.limit given.waiting in
     same_main given no_text reading nothing_read size is (record {
       found = nothing_read;
       is_reading = record { to = begin; rest = []; reads = reads_short begin [] (omega arith); has_table = refl; has_rounds = refl };
@@ -115,7 +114,7 @@ first_channels given t (suc n) (c ∷ channels) same holds =
 
 pub first_main : (given : LoadSettings) (t : RamTable) (m : KeptMain) → IsPageSize given.page_size → given.page_size ≡ t.page_size → HoldsMain (main_of given) 0 no_text m → IsFalse m.is_whole → IsMainOf t m
 first_main given t m size same holds open_ =
-    let begin : StreamProgress = start given.frame Main given.page_size given.limit given.waiting in
+    let begin : StreamProgress = start given.frame (mode_of given.round_end) given.page_size given.limit given.waiting in
     record {
       given = main_of given;
       k = 0;

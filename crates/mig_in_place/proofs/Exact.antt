@@ -14,7 +14,6 @@ use Rattle.mig_mem.specs.Round.{last_at, all_pages}
 use Rattle.mig_mem.proofs.Images.{image_agree, image_is, content_at-image_of}
 use Rattle.mig_stream.specs.declared.item.StreamState.{StreamState}
 use Rattle.mig_stream.specs.declared.item.StreamState.TheVariants as stream_state
-use Rattle.mig_stream.specs.declared.item.Mode.TheVariants.{Main}
 use Rattle.mig_stream.specs.PageRecord.{PageRecord}
 use Rattle.mig_stream.specs.Progress.{StreamProgress}
 use Rattle.mig_stream.specs.Reading.{StreamReading, state_at, Ends}
@@ -27,7 +26,7 @@ use Rattle.mig_packet.specs.Reading.{Settings, ChannelReading, IsReading, state_
 use Rattle.mig_packet.specs.Reading as channel
 use Rattle.mig_packet.proofs.Exists.{one_reading_law as channel_law}
 use Rattle.mig_assemble.proofs.Elements.{contains_cases}
-use Rattle.mig_single_load.specs.Settings.{for_table, main_of, channel_of}
+use Rattle.mig_single_load.specs.Settings.{for_table, main_of, channel_of, mode_of}
 use Rattle.mig_single_load.specs.declared.settings.LoadSettings.{LoadSettings}
 use Rattle.mig_single_load.specs.declared.fault.Origin.TheVariants as origin
 use Rattle.mig_answer.specs.declared.status.Status.{Status}
@@ -39,7 +38,7 @@ use Rattle.mig_answer.specs.MultiLoad.{Standing, main_at, channels_at}
 use Rattle.mig_answer.proofs.Statuses.{status_whole, status_end}
 use Rattle.mig_in_place.specs.Named.{MainNames, ChannelNames, SomeChannelNames, IsNamed, round_so_far, begun, packet_places}
 use Rattle.mig_in_place.specs.Law.{InPlaceDoneIsExact}
-use Rattle.mig_in_place.proofs.Tail.{closed_has_none}
+use Rattle.mig_in_place.proofs.Tail.{main_is_not_single, closed_has_none}
 use Rattle.mig_in_place.proofs.Done.{own_or_other, done_is_clean}
 
 -- ---- a source that is clean
@@ -87,7 +86,7 @@ main_names_none given k text reading p is e clean names =
     let same = one_stream _ text.bytes its.to mine.to its.rest mine.rest names.reading.state is.found.state its.reads mine.reads in
     let closed : is.found.state ≡ stream_state.Closed = stream_closed text.ended is.found.state (sym (ap (λ (r : StreamReading). is_clean (stream_end r.state)) is.has_end) ∙ clean) in
     let ends : Ends mine.to mine.rest stream_state.Closed = subst (λ (s : StreamState). Ends mine.to mine.rest s) closed mine.reads.ends in
-    let none : mine.to.records ≡ [] = closed_has_none given.frame Main given.page_size given.limit given.waiting mine.reads.front mine.to refl mine.reads.leads ends in
+    let none : mine.to.records ≡ [] = closed_has_none given.frame (mode_of given.round_end) given.page_size given.limit given.waiting mine.reads.front mine.to (main_is_not_single given.round_end) mine.reads.leads ends in
     let rounds : length names.reading.rounds ≡ k =
     ap (λ (l : List (List PageRecord)). length l) (its.has_rounds ∙ ap (λ (c : StreamProgress). c.rounds) same.0 ∙ sym mine.has_rounds ∙ sym (ap (λ (r : StreamReading). r.rounds) is.has_end)) ∙ sym e in
     let here : round_so_far k names.reading.rounds its.to.records ≡ [] =

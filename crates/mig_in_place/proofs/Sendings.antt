@@ -1,6 +1,6 @@
 -- What was sent on several channels is loaded in place: the memory has the rounds sent on top of
 -- what it held.
-use Rattle.std.proofs.Common.{ℕ, zero, suc, ◌≡◌, ◌+◌, ◌<◌, ◌≤◌, List, [], ◌∷◌, ◌++◌, length, map, take, get_or, Option, refl, sym, ap, subst, ◌∙◌, inr, arith}
+use Rattle.std.proofs.Common.{None, ℕ, zero, suc, ◌≡◌, ◌+◌, ◌<◌, ◌≤◌, List, [], ◌∷◌, ◌++◌, length, map, take, get_or, Option, refl, sym, ap, subst, ◌∙◌, inr, arith}
 use Rattle.std.specs.List.{range_with_len}
 use Rattle.std.proofs.lemmas.List.{length-map, get_or-map, take_more, take_all}
 use Rattle.std.proofs.lemmas.List.FromFn.{map-range_with_len_more}
@@ -21,6 +21,7 @@ use Rattle.mig_send.proofs.ReadBack.{sendings_are_read_back, machine_sendings_ar
 use Rattle.mig_single_load.specs.Settings.{for_table}
 use Rattle.mig_single_load.specs.InPlace.{IsOfOwnTable}
 use Rattle.mig_single_load.specs.declared.settings.LoadSettings.{LoadSettings}
+use Rattle.mig_single_load.specs.declared.settings.RoundEnd.{RoundEnd}
 use Rattle.mig_answer.specs.declared.verdict.Verdict.{Verdict}
 use Rattle.mig_answer.specs.declared.verdict.Verdict.TheVariants.{Done}
 use Rattle.mig_answer.specs.Texts.{Texts, Readings, ended_texts}
@@ -110,10 +111,11 @@ sent_law uuid limit first rounds main channels memory k verdict is_table is_imag
     read_in_place Ram uuid limit first rounds main channels memory k verdict is_table is_image is_memory (as_sent read_back first.table uuid limit rounds main channels sent room) here
 
 pub machine_sent_law : MachineSentIsLoadedInPlace
-machine_sent_law given uuid first rounds main channels memory k verdict is_table is_image is_memory is_machine unlimited sent room here =
+machine_sent_law given uuid first rounds main channels memory k verdict is_table is_image is_memory is_machine unlimited flushes sent room here =
     let own : LoadSettings = for_table first.table given in
     let named : own ≡ framed Machine first.table.page_size given.limit =
-    ap (λ (f : Frame). record own { frame = f }) is_machine ∙ ap (λ (n : Option ℕ). record own { frame = Machine; waiting = n }) unlimited in
+    ap (λ (f : Frame). record own { frame = f }) is_machine ∙ ap (λ (n : Option ℕ). record own { frame = Machine; waiting = n }) unlimited
+    ∙ ap (λ (e : RoundEnd). record own { frame = Machine; waiting = None; round_end = e }) flushes in
     let there : IsInPlaceAnswer own uuid first (ended_texts main channels) memory k verdict =
     record { readings = here.readings; are_readings = here.are_readings; own = here.own; unknown = here.unknown; other = here.other } in
     read_in_place Machine uuid given.limit first rounds main channels memory k verdict is_table is_image is_memory

@@ -7,7 +7,10 @@ use Rattle.mig_mem.specs.First.{first_of}
 use Rattle.mig_stream.specs.declared.fault.StreamFault.TheVariants as stream_fault
 use Rattle.mig_stream.specs.declared.item.Frame.{Frame}
 use Rattle.mig_stream.specs.declared.item.Mode.{Mode}
-use Rattle.mig_stream.specs.declared.item.Mode.TheVariants.{Main}
+use Rattle.mig_stream.specs.declared.item.Mode.TheVariants.{Single, Main, MainBySection, MainAsShown}
+use Rattle.mig_single_load.specs.declared.settings.RoundEnd.{RoundEnd}
+use Rattle.mig_single_load.specs.declared.settings.RoundEnd.TheVariants.{Flush as by_flush, Eos as by_eos, AsShown as as_shown}
+use Rattle.mig_single_load.specs.Settings.{mode_of}
 use Rattle.mig_stream.specs.declared.item.Section.TheVariants as section
 use Rattle.mig_stream.specs.declared.item.Before.{Before}
 use Rattle.mig_stream.specs.declared.item.Before.TheVariants as before
@@ -21,8 +24,9 @@ use Rattle.mig_stream.specs.declared.item.RecordKind.TheVariants.{SizeList, Name
 use Rattle.mig_stream.specs.declared.item.Due.{Due}
 use Rattle.mig_stream.specs.declared.item.Due.TheVariants.{FileHeader, TypeByte, ConfigLength, ConfigName, StartHead, SectionHead, RecordHead, ListEntry, BlockName, Content, Footer, Passed, Nothing}
 use Rattle.mig_stream.specs.Format.{configuration_type, section_type, end_byte, subsection_version}
+use Rattle.mig_stream.specs.PageRecord.{PageRecord}
 use Rattle.mig_stream.specs.Progress.{StreamProgress, start}
-use Rattle.mig_stream.specs.Items.{id_in, is_single, is_allowed, is_passed, has_tail, closes, footer_of, subsection_of, body_of, capabilities_due, behind_passed, passed_by, after_type, after_type_byte, after_head, after_item, after, end_section, faults}
+use Rattle.mig_stream.specs.Items.{id_in, is_single, is_allowed, is_passed, has_tail, closes, footer_of, subsection_of, body_of, capabilities_due, behind_passed, passed_by, after_type, after_type_byte, after_head, after_item, after, end_section, faults, open_records}
 use Rattle.mig_stream.specs.Fields.{be32_at}
 use Rattle.mig_stream.specs.Reading.{AreFaultless, after_all, Front}
 use Rattle.mig_stream.proofs.Feeding.{front_item}
@@ -36,10 +40,22 @@ not_false : (b : Bool) → not b ≡ false → b ≡ true
 not_false true e = refl
 not_false false e = absurd cc
 
+-- a main stream is none that is single, whatever ends its rounds
+pub main_is_not_single : (r : RoundEnd) → is_single (mode_of r) ≡ false
+main_is_not_single by_flush = refl
+main_is_not_single by_eos = refl
+main_is_not_single as_shown = refl
+
+open_nil : (m : Mode) (records : List PageRecord) → records ≡ [] → open_records m records ≡ []
+open_nil Single records none = refl
+open_nil Main records none = none
+open_nil MainBySection records none = none
+open_nil MainAsShown records none = none
+
 -- if a main stream may end it has no tail
-no_tail : (ends : Bool) (c : StreamProgress) → c.mode ≡ Main → ends ≡ true → has_tail ends c ≡ false → c.records ≡ []
+no_tail : (ends : Bool) (c : StreamProgress) → is_single c.mode ≡ false → ends ≡ true → has_tail ends c ≡ false → c.records ≡ []
 no_tail ends c main is none =
-    let t : (true && not (is_single Main) && not (length c.records == 0)) ≡ false = rw (is, main) at none in
+    let t : (true && not false && not (length c.records == 0)) ≡ false = rw (is, main) at none in
     nil_from_length c.records (eqb-true (length c.records) 0 (not_false (length c.records == 0) t))
 
 -- a type byte that begins nothing is the end byte
@@ -78,7 +94,7 @@ type_ends c before b allowed closed = elim (cases_Bool (b == configuration_type)
   ]
 ]
 
-type_closes : (c : StreamProgress) (before : Before) (item : List ℕ) → c.mode ≡ Main → first_of (faults c (TypeByte before) item) ≡ None
+type_closes : (c : StreamProgress) (before : Before) (item : List ℕ) → is_single c.mode ≡ false → first_of (faults c (TypeByte before) item) ≡ None
     → (after_type_byte c before (slice_index item 0)).due ≡ Nothing → (after_type_byte c before (slice_index item 0)).records ≡ []
 type_closes c before item main free closed =
     let b : ℕ = slice_index item 0 in
@@ -93,13 +109,13 @@ type_closes c before item main free closed =
           ap (λ (x : StreamProgress). x.records) here ∙ type_records c b ∙ no_tail (b == end_byte) c main end t2.0
     ]
 
-footer_closes : (c : StreamProgress) (item : List ℕ) → c.mode ≡ Main → first_of (faults c Footer item) ≡ None → (end_section c).due ≡ Nothing → (end_section c).records ≡ []
+footer_closes : (c : StreamProgress) (item : List ℕ) → is_single c.mode ≡ false → first_of (faults c Footer item) ≡ None → (end_section c).due ≡ Nothing → (end_section c).records ≡ []
 footer_closes c item main free closed = elim (cases_Bool (closes c.frame c.section)) [
   | inl t ↦
       let t1 = passed _ stream_fault.Footer ((has_tail (closes c.frame c.section) c, stream_fault.Tail) ∷ []) free in
       let t2 = passed (has_tail (closes c.frame c.section) c) stream_fault.Tail [] t1.1 in
       let none : c.records ≡ [] = no_tail (closes c.frame c.section) c main t t2.0 in
-      rw main none
+      open_nil c.mode c.records none
   | inr f ↦ absurd (let e : TypeByte (footer_of c.section) ≡ Nothing = rw f at closed in cc)
 ]
 
@@ -140,7 +156,7 @@ config_never : (b : Bool) (n : ℕ) → cond b (TypeByte before.Configuration) (
 config_never true n e = absurd cc
 config_never false n e = absurd cc
 
-item_closes : (c : StreamProgress) (d : Due) (item : List ℕ) → c.due ≡ d → c.mode ≡ Main → first_of (faults c d item) ≡ None → d ≢ Nothing → (after_item c d item).due ≡ Nothing
+item_closes : (c : StreamProgress) (d : Due) (item : List ℕ) → c.due ≡ d → is_single c.mode ≡ false → first_of (faults c d item) ≡ None → d ≢ Nothing → (after_item c d item).due ≡ Nothing
     → (after_item c d item).records ≡ []
 item_closes c FileHeader item here main free some closed = absurd cc
 item_closes c (TypeByte before) item here main free some closed = type_closes c before item main free closed
@@ -161,13 +177,13 @@ item_closes c Nothing item here main free some closed = absurd (some refl)
 abbrev IsFlushed : StreamProgress → Type 0
 IsFlushed c = c.due ≡ Nothing → c.records ≡ []
 
-all_flushed : (c : StreamProgress) (items : List (List ℕ)) → c.mode ≡ Main → IsFlushed c → AreFaultless c items → IsFlushed (after_all c items)
+all_flushed : (c : StreamProgress) (items : List (List ℕ)) → is_single c.mode ≡ false → IsFlushed c → AreFaultless c items → IsFlushed (after_all c items)
 all_flushed c [] main so_far free = so_far
 all_flushed c (item ∷ items) main so_far free =
-    let there = (IsLater-front c (after c item) item (front_item c item free.0 free.1)).same_mode ∙ main in
+    let there = (IsLater-front c (after c item) item (front_item c item free.0 free.1)).same_single ∙ main in
     all_flushed (after c item) items there (λ closed. item_closes c c.due item refl main free.1 free.0.is_due closed) free.2
 
-pub closed_has_none : (frame : Frame) (m : Mode) (p limit : ℕ) (waiting : Option ℕ) (bytes : List ℕ) (to : StreamProgress) → m ≡ Main → Front (start frame m p limit waiting) bytes to → to.due ≡ Nothing → to.records ≡ []
+pub closed_has_none : (frame : Frame) (m : Mode) (p limit : ℕ) (waiting : Option ℕ) (bytes : List ℕ) (to : StreamProgress) → is_single m ≡ false → Front (start frame m p limit waiting) bytes to → to.due ≡ Nothing → to.records ≡ []
 closed_has_none frame m p limit waiting bytes to main f closed =
     let last : IsFlushed to = subst IsFlushed (sym f.leads_to) (all_flushed (start frame m p limit waiting) f.items main (λ e. refl) f.are_faultless) in
     last closed

@@ -10,6 +10,7 @@ use Rattle.mig_single_load.specs.Settings.{ram_settings, for_table}
 use Rattle.mig_single_load.specs.declared.fault.Origin.TheVariants as origin
 use Rattle.mig_single_load.specs.declared.fault.Fault.TheVariants as fault
 use Rattle.mig_single_load.specs.declared.settings.LoadSettings.{LoadSettings}
+use Rattle.mig_single_load.specs.declared.settings.RoundEnd.TheVariants.{Flush as by_flush}
 use Rattle.mig_answer.specs.declared.verdict.Verdict.{Verdict}
 use Rattle.mig_answer.specs.declared.verdict.Verdict.TheVariants.{Running, Done}
 use Rattle.mig_answer.specs.Texts.{Text, Texts, ended_texts}
@@ -57,7 +58,7 @@ SentIsLoadedInPlace = (uuid : List ℕ) (limit : ℕ) (first : Image) (rounds : 
 -- follows RAM's END. Any number of page records may wait.
 abbrev pub MachineSentIsLoadedInPlace : Type 0
 MachineSentIsLoadedInPlace = (given : LoadSettings) (uuid : List ℕ) (first : Image) (rounds : List DealtRound) (main : List ℕ) (channels : List (List ℕ)) (memory : Image) (k : ℕ) (verdict : Verdict)
-    → IsTable first.table → IsImage first → IsImage memory → given.frame ≡ Machine → given.waiting ≡ None
+    → IsTable first.table → IsImage first → IsImage memory → given.frame ≡ Machine → given.waiting ≡ None → given.round_end ≡ by_flush
     → IsMachineSentInAnyOrder first.table uuid rounds main channels → total_bytes first.table ≤ given.limit
     → IsInPlaceAnswer given uuid first (ended_texts main channels) memory k verdict
     → (verdict ≡ Done) × (k ≡ length rounds) × (memory ≡ with_rounds first (sent_rounds rounds))

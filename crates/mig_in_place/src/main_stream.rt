@@ -16,7 +16,7 @@ ghost use Rattle.mig_in_place.specs.Sources.{StandsAt, HasNoRound, HoldsMain, Te
 use mig_answer::{Status, stream_end};
 use mig_mem::{NoMemory, Table};
 use mig_single_load::LoadSettings;
-use mig_stream::{Mode, StreamReader, StreamRound, StreamState};
+use mig_stream::{StreamReader, StreamRound, StreamState};
 use std::alloc::{Allocator, Global};
 use std::marker::Model;
 
@@ -67,7 +67,7 @@ impl<A: Allocator + Copy> MainStream<A> {
             reader: StreamReader::new_within(
                 alloc,
                 settings.frame,
-                Mode::Main,
+                settings.main_mode(),
                 settings.page_size,
                 settings.limit,
                 settings.waiting,

@@ -9,6 +9,7 @@ use Rattle.mig_stream.specs.Text.{total_bytes}
 use Rattle.mig_send.specs.DealtRounds.{DealtRound}
 use Rattle.mig_single_load.specs.Settings.{ram_settings}
 use Rattle.mig_single_load.specs.declared.settings.LoadSettings.{LoadSettings}
+use Rattle.mig_single_load.specs.declared.settings.RoundEnd.TheVariants.{Flush as by_flush}
 use Rattle.mig_single_load.specs.declared.loaded.Loaded.{Loaded}
 use Rattle.mig_single_load.specs.SingleLoad.{unloaded}
 use Rattle.mig_answer.specs.Texts.{Texts, ended_texts}
@@ -51,8 +52,8 @@ sending_is_loaded p uuid limit main channels answer (inr refused) = λ table rou
 pub machine_sending_is_loaded : (given : LoadSettings) (uuid : List ℕ) (main : List ℕ) (channels : List (List ℕ)) (answer : Answer)
     → IsAnswerOrWithoutMemory given uuid (ended_texts main channels) answer
     → (table : RamTable) (rounds : List DealtRound) → IsMachineSentInAnyOrder table uuid rounds main channels
-    → given.frame ≡ Machine → given.waiting ≡ None → table.page_size ≡ given.page_size → total_bytes table ≤ given.limit
+    → given.frame ≡ Machine → given.waiting ≡ None → given.round_end ≡ by_flush → table.page_size ≡ given.page_size → total_bytes table ≤ given.limit
     → (answer ≡ sent_answer table rounds) ⊎ IsWithoutMemory given uuid (ended_texts main channels) answer
-machine_sending_is_loaded given uuid main channels answer (inl is) = λ table rounds sent frame unlimited size room.
-    inl (machine_sendings_are_loaded given table uuid rounds main channels answer frame unlimited size room sent is)
-machine_sending_is_loaded given uuid main channels answer (inr refused) = λ table rounds sent frame unlimited size room. inr refused
+machine_sending_is_loaded given uuid main channels answer (inl is) = λ table rounds sent frame unlimited flushes size room.
+    inl (machine_sendings_are_loaded given table uuid rounds main channels answer frame unlimited flushes size room sent is)
+machine_sending_is_loaded given uuid main channels answer (inr refused) = λ table rounds sent frame unlimited flushes size room. inr refused

@@ -1,5 +1,6 @@
 //! The load of complete streams on several channels: a relay, with a worker for each channel.
 
+ghost use Rattle.mig_single_load.specs.declared.settings.RoundEnd.TheVariants.{Flush as by_flush};
 ghost use Rattle.std.specs.Prelude.{◌≡◌, ◌<◌, ◌≤◌, ◌^◌, ◌⊎◌, List, None, length, is_ok, IfOk, vec_len, vec_capacity};
 ghost use Rattle.std.specs.List.{AllZip};
 ghost use Rattle.mig_mem.specs.PageSize.{IsPageSize};
@@ -108,7 +109,7 @@ pub fn load_multi_in<
     requires limit { settings.limit ≤ 2 ^ 40 }
     ensures answer { IsAnswerOrWithoutMemory settings uuid.now (ended_texts main.now (bytes_of channels.now)) (answer_of result) }
     ensures machine { (table : RamTable) (rounds : List DealtRound) → IsMachineSentInAnyOrder table uuid.now rounds main.now (bytes_of channels.now)
-        → settings.frame ≡ Machine → settings.waiting ≡ None → table.page_size ≡ settings.page_size → total_bytes table ≤ settings.limit
+        → settings.frame ≡ Machine → settings.waiting ≡ None → settings.round_end ≡ by_flush → table.page_size ≡ settings.page_size → total_bytes table ≤ settings.limit
         → (answer_of result ≡ sent_answer table rounds)
         ⊎ IsWithoutMemory settings uuid.now (ended_texts main.now (bytes_of channels.now)) (answer_of result) }
 {

@@ -20,7 +20,7 @@ use mig_answer::{Status, Verdict, put, stream_end, verdict_told};
 use mig_assemble::{Gathered, Target};
 use mig_mem::NoMemory;
 use mig_single_load::{LoadFault, LoadSettings, Loaded, Origin, no_memory, without_memory};
-use mig_stream::{Mode, StreamReader, StreamRound, StreamState};
+use mig_stream::{StreamReader, StreamRound, StreamState};
 use std::alloc::Allocator;
 use std::sync::Wait;
 
@@ -237,7 +237,7 @@ pub(crate) fn begin<'t, 'a, R: Wait, A: Allocator + Copy>(
     let Ok(mut reader) = StreamReader::of_text_within(
         alloc,
         settings.frame,
-        Mode::Main,
+        settings.main_mode(),
         page_size,
         settings.limit,
         waiting,

@@ -12,7 +12,7 @@ ghost use Rattle.mig_relay.specs.Valid.{IsOriginValidUpTo};
 use mig_mem::NoMemory;
 use mig_packet::ChannelReader;
 use mig_single_load::{LoadSettings, Origin};
-use mig_stream::{Mode, StreamReader};
+use mig_stream::StreamReader;
 use std::alloc::Allocator;
 use uuid::Uuid;
 
@@ -69,7 +69,7 @@ fn main_valid_up_to<A: Allocator + Copy>(
     let reader = StreamReader::of_text_within(
         alloc,
         settings.frame,
-        Mode::Main,
+        settings.main_mode(),
         settings.page_size,
         settings.limit,
         settings.waiting,

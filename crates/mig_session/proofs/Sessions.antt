@@ -9,7 +9,6 @@ use Rattle.std.proofs.lemmas.List.Elements.{All-nil, All-cons, All-head, All-tai
 use Rattle.mig_mem.specs.PageSize.{IsPageSize}
 use Rattle.mig_mem.specs.RamTable.{RamTable}
 use Rattle.mig_mem.specs.Round.{after}
-use Rattle.mig_stream.specs.declared.item.Mode.TheVariants.{Main}
 use Rattle.mig_stream.specs.declared.item.StreamState.TheVariants.{Reading, Closed}
 use Rattle.mig_stream.specs.Progress.{StreamProgress, start}
 use Rattle.mig_stream.specs.PageRecord.{PageRecord}
@@ -25,7 +24,7 @@ use Rattle.mig_assemble.specs.Target.{LoadTarget}
 use Rattle.mig_session.specs.declared.counts.Count.{Count}
 use Rattle.mig_session.specs.declared.source.Source.{Source}
 use Rattle.mig_session.specs.declared.source.Source.TheVariants as source
-use Rattle.mig_single_load.specs.Settings.{main_of, channel_of}
+use Rattle.mig_single_load.specs.Settings.{main_of, channel_of, mode_of}
 use Rattle.mig_single_load.specs.declared.settings.LoadSettings.{LoadSettings}
 use Rattle.mig_single_load.specs.declared.fault.Origin.TheVariants as origin
 use Rattle.mig_answer.specs.declared.status.Status.{Status}
@@ -242,7 +241,7 @@ nothing_read = record { table = None; rounds = []; state = Reading }
 
 main_nothing : (given : LoadSettings) (reading : StreamReading) → IsPageSize given.page_size → IsMainReading given no_text reading → reading ≡ nothing_read
 main_nothing given reading size is =
-    let begin : StreamProgress = start given.frame Main given.page_size given.limit given.waiting in
+    let begin : StreamProgress = start given.frame (mode_of given.round_end) given.page_size given.limit given.waiting in
     same_main given no_text reading nothing_read size is (record {
       found = nothing_read;
       is_reading = record { to = begin; rest = []; reads = reads_short begin [] (omega arith); has_table = refl; has_rounds = refl };
@@ -256,13 +255,13 @@ none_counted (suc n) = ap (λ (l : List Count). no_count ∷ l) (none_counted n)
 -- nothing is valid up to its first byte
 main_first : (given : LoadSettings) → stream.IsValidUpTo (main_of given) [] 0
 main_first given =
-    let begin : StreamProgress = start given.frame Main given.page_size given.limit given.waiting in
+    let begin : StreamProgress = start given.frame (mode_of given.round_end) given.page_size given.limit given.waiting in
     let reads : Reads begin [] begin [] Reading = reads_short begin [] (omega arith) in
     record { to = begin; rest = []; state = Reading; reads = reads; has_length = omega (arith, ap (λ (l : List ℕ). length l) reads.has_text, length-append reads.front []) }
 
 main_open : (given : LoadSettings) → stream.HasClosedAt (main_of given) [] None
 main_open given =
-    let begin : StreamProgress = start given.frame Main given.page_size given.limit given.waiting in
+    let begin : StreamProgress = start given.frame (mode_of given.round_end) given.page_size given.limit given.waiting in
     (nothing_read, record { to = begin; rest = []; reads = reads_short begin [] (omega arith); has_table = refl; has_rounds = refl }, λ e. absurd cc)
 
 channel_first : (given : Settings) → channel.IsValidUpTo given [] 0

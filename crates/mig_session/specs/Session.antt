@@ -12,6 +12,7 @@ use Rattle.mig_packet.specs.Reader as channel
 use Rattle.mig_send.specs.DealtRounds.{DealtRound}
 use Rattle.mig_single_load.specs.Settings.{ram_settings, main_of, channel_of}
 use Rattle.mig_single_load.specs.declared.settings.LoadSettings.{LoadSettings}
+use Rattle.mig_single_load.specs.declared.settings.RoundEnd.TheVariants.{Flush as by_flush}
 use Rattle.mig_session.specs.declared.counts.Count.{Count}
 use Rattle.mig_session.specs.declared.source.Source.{Source}
 use Rattle.mig_session.specs.declared.source.Source.TheVariants as source
@@ -206,5 +207,5 @@ LoadsSent s = (table : RamTable) (uuid : List ℕ) (limit : ℕ) (rounds : List 
 -- The sender's streams with a machine's main stream are loaded, too, whatever follows RAM's END.
 abbrev pub LoadsMachineSent : LoadSession → Type 0
 LoadsMachineSent s = (given : LoadSettings) (table : RamTable) (uuid : List ℕ) (rounds : List DealtRound) (main : List ℕ) (channels : List (List ℕ))
-    → given.frame ≡ Machine → given.waiting ≡ None → table.page_size ≡ given.page_size → total_bytes table ≤ given.limit → IsMachineSentInAnyOrder table uuid rounds main channels
+    → given.frame ≡ Machine → given.waiting ≡ None → given.round_end ≡ by_flush → table.page_size ≡ given.page_size → total_bytes table ≤ given.limit → IsMachineSentInAnyOrder table uuid rounds main channels
     → StandsFor given uuid (ended_texts main channels) s → answer_in s ≡ sent_answer table rounds

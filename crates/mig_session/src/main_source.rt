@@ -13,7 +13,7 @@ ghost use Rattle.mig_session.specs.Sources.{HoldsMain, TakesMain, TellsMainStatu
 use mig_answer::{Status, stream_end};
 use mig_mem::{NoMemory, Table};
 use mig_single_load::LoadSettings;
-use mig_stream::{Mode, StreamReader, StreamRound};
+use mig_stream::{StreamReader, StreamRound};
 use std::alloc::{Allocator, Global};
 use std::marker::Model;
 
@@ -45,7 +45,7 @@ impl<A: Allocator + Copy> MainSource<A> {
             reader: StreamReader::new_within(
                 alloc,
                 settings.frame,
-                Mode::Main,
+                settings.main_mode(),
                 settings.page_size,
                 settings.limit,
                 settings.waiting,

@@ -33,6 +33,6 @@ pub use in_place::{InPlaceLoader, sent_is_loaded_in_place};
 pub use in_place_state::{InPlaceState, in_place_keeps_other_places, in_place_ok_is_whole};
 pub use loaded::Loaded;
 pub use loader::SingleLoader;
-pub use settings::LoadSettings;
+pub use settings::{LoadSettings, RoundEnd};
 pub use settle::{no_memory, without_memory};
 pub use single::{load_single, load_single_in, single_closed_at, single_valid_up_to};

@@ -2,9 +2,23 @@
 //! `_in` take them.
 
 ghost use Rattle.std.specs.Prelude.{◌≡◌};
-ghost use Rattle.mig_single_load.specs.Settings.{ram_settings};
+ghost use Rattle.mig_single_load.specs.Settings.{ram_settings, mode_of};
 
-use mig_stream::Frame;
+use mig_stream::{Frame, Mode};
+
+/// What ends a round of a main stream.
+#[derive(Clone, Copy, Debug, PartialEq, Eq)]
+pub enum RoundEnd {
+    /// Each FLUSH record, as the senders here write it, and QEMU for machine types of 8.1 and newer.
+    Flush,
+    /// Each EOS of a section, START's and END's too, and each FLUSH record. QEMU writes it so, with
+    /// no FLUSH, for machine types of 8.0 and older (`multifd-flush-after-each-section`).
+    Eos,
+    /// As the stream shows: `Flush` where START has a FLUSH, or where the first record behind START
+    /// is one, and otherwise `Eos`. So it needs no setting, and nothing waits for it: START's EOS
+    /// ends the first round, and a FLUSH that is the first record behind START ends none.
+    AsShown,
+}
 
 /// The settings of a load. The caller passes them, since they aren't in the stream.
 ///
@@ -33,6 +47,8 @@ pub struct LoadSettings {
     /// `ChannelFault::Waiting`. `None` is any number. Every load tests it, also one that keeps no
     /// records or packets, so that all have one result.
     pub waiting: Option<u64>,
+    /// What ends a round of a main stream. A single stream's rounds are its sections.
+    pub round_end: RoundEnd,
 }
 
 impl LoadSettings {
@@ -46,6 +62,7 @@ impl LoadSettings {
             limit,
             frame: Frame::Ram,
             waiting: None,
+            round_end: RoundEnd::Flush,
         }
     }
 
@@ -62,5 +79,23 @@ impl LoadSettings {
         ensures { result ≡ record self { waiting = waiting } }
     {
         LoadSettings { waiting, ..self }
+    }
+
+    /// Returns the settings for a main stream whose rounds end with other records.
+    pub fn with_round_end(self, round_end: RoundEnd) -> LoadSettings
+        ensures { result ≡ record self { round_end = round_end } }
+    {
+        LoadSettings { round_end, ..self }
+    }
+
+    /// Returns the mode of the reader of a main stream.
+    pub fn main_mode(&self) -> Mode
+        ensures { result ≡ mode_of self.now.round_end }
+    {
+        match self.round_end {
+            RoundEnd::Flush => Mode::Main,
+            RoundEnd::Eos => Mode::MainBySection,
+            RoundEnd::AsShown => Mode::MainAsShown,
+        }
     }
 }

@@ -17,6 +17,7 @@ use Rattle.mig_stream.specs.Fields.{be32_at}
 use Rattle.mig_stream.specs.PageRecord.{PageRecord}
 use Rattle.mig_stream.specs.Progress.{StreamProgress, start}
 use Rattle.mig_stream.specs.Items.{length_in, is_passed, behind_passed, end_section, after_type, after_type_byte, after_head, open_records, after_item, after}
+use Rattle.mig_stream.specs.Later.{is_open}
 use Rattle.mig_stream.specs.Reading.{AreFaultless, after_all, Front}
 use Rattle.mig_stream.proofs.Feeding.{front_item}
 use Rattle.mig_stream.proofs.Steps.{IsLater-front}
@@ -89,7 +90,7 @@ item_empty c Nothing item single e h = e
 all_empty : (c : StreamProgress) (items : List (List ℕ)) → c.mode ≡ Single → StaysEmpty c → AreFaultless c items → StaysEmpty (after_all c items)
 all_empty c [] single e free = e
 all_empty c (item ∷ items) single e free =
-    let there = (IsLater-front c (after c item) item (front_item c item free.0 free.1)).same_mode ∙ single in
+    let there = (IsLater-front c (after c item) item (front_item c item free.0 free.1)).same_mode (ap is_open single) ∙ single in
     all_empty (after c item) items there (item_empty c c.due item single e e) free.2
 
 -- After the end byte no record waits.

@@ -1,5 +1,5 @@
 -- What is read to its end byte is spelled so.
-use Rattle.std.proofs.Common.{◌≡◌, ℕ, ◌+◌, ◌^◌, ◌<◌, ◌≤◌, false, List, [], ◌∷◌, ◌++◌, length, Option, Some, None, refl, sym, ap, subst, ◌∙◌, append_assoc, arith}
+use Rattle.std.proofs.Common.{◌≡◌, ℕ, ◌+◌, ◌^◌, ◌<◌, ◌≤◌, Bool, true, false, List, [], ◌∷◌, ◌++◌, length, Option, Some, None, refl, sym, ap, subst, ◌∙◌, append_assoc, arith}
 use Rattle.std.specs.List.{flat_map, AllByRecursion}
 use Rattle.std.specs.Prelude.{All, IfSome}
 use Rattle.std.proofs.lemmas.List.{append-nil}
@@ -17,12 +17,14 @@ use Rattle.mig_stream.specs.PageRecord.{PageRecord}
 use Rattle.mig_stream.specs.Fields.{be64}
 use Rattle.mig_stream.specs.Format.{end_byte, flags_of, most_name_bytes}
 use Rattle.mig_stream.specs.Progress.{StreamProgress, start, whole_table}
-use Rattle.mig_stream.specs.Items.{is_machine}
+use Rattle.mig_stream.specs.Items.{is_single, is_machine}
 use Rattle.mig_stream.specs.Reading.{Settings, Ends, StreamReading, IsReading}
 use Rattle.mig_stream.specs.Text.{Record, file_header, configuration, start_head, size_list, total_bytes, entry, Follow, all_records, body, section, IsText, AreRounds}
 use Rattle.mig_stream.specs.Machine.{Command, command, IsCommand, SubsectionBody, subsection, Configuration, configured, IsConfiguration, PartOrCommand, PartOf, CommandOf, part_or_command, IsPartOrCommand, parts_of, IsMachineText}
 use Rattle.mig_stream.specs.Law.{ReadIsSpelled, MachineReadIsSpelled}
 use Rattle.mig_stream.proofs.Tables.{sum_of, table_from_blocks, total_is_sum}
+use Rattle.mig_stream.proofs.After.{FlushesFit}
+use Rattle.mig_stream.proofs.Modes.{single_kept}
 use Rattle.mig_stream.proofs.SectionRounds.{rounds_spelled}
 use Rattle.mig_stream.proofs.FoundFields.{IsBytes, bytes_from_all, bytes_of_front}
 use Rattle.mig_stream.proofs.FoundTail.{ending, HasNoCommand, Follow-append, FlushesFit-cons}
@@ -94,7 +96,8 @@ text_found frame mode page_size limit waiting to text size small file =
     let spelled : text ≡ file_header ++ (configured opening.machine ++ (flat_map command before.commands ++ (start_head id ++ (size_list table ++ (body table id records.records ++ others))))) =
     file.has_bytes ∙ ap (λ (x : List ℕ). file_header ++ x) three in
     let sum : total_bytes table ≡ sum_of page_size list.blocks = total_is_sum table in
-    let rounds = rounds_spelled mode (records.records ∷ parts_of tail.others ++ tail.last ∷ []) (FlushesFit-cons mode records.records (parts_of tail.others ++ tail.last ∷ []) records.flushes tail.flushes) tail.no_tail in
+    let behind : List (List Record) = parts_of tail.others ++ tail.last ∷ [] in
+    let rounds = rounds_spelled mode (records.records ∷ behind) (FlushesFit-cons (is_single mode) records.records behind records.flushes (subst (λ (single : Bool). FlushesFit single behind) (single_kept mode true [] records.records) tail.flushes)) tail.no_tail in
     record {
       table = table;
       has_page_size = refl;

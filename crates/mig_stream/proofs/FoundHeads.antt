@@ -14,7 +14,7 @@ use Rattle.mig_stream.specs.Fields.{be64}
 use Rattle.mig_stream.specs.Format.{flags_of}
 use Rattle.mig_stream.specs.Progress.{StreamProgress}
 use Rattle.mig_mem.specs.First.{first_of}
-use Rattle.mig_stream.specs.Items.{record_kind, has_page, is_single, is_full, head_faults, end_round, after_head}
+use Rattle.mig_stream.specs.Items.{record_kind, has_page, is_single, is_full, head_faults, flush_records, after_head}
 use Rattle.mig_stream.proofs.FoundFields.{passed, kind_found}
 use Rattle.mig_stream.proofs.FoundPages.{RestOfBody, RestOfPage, named_back, continued_back}
 use Rattle.mig_stream.proofs.FoundSections.{at_head, end_back, flush_back, bare_head}
@@ -88,5 +88,5 @@ head_back to c flags page item bytes (Some Flush) due head is free r =
     let t1 = passed (is_none c.left) fault.SizePlace ((is_single c.mode, fault.Flush) ∷ (not (eqb page 0), fault.OffsetOut) ∷ []) free in
     let t2 = passed (is_single c.mode) fault.Flush ((not (eqb page 0), fault.OffsetOut) ∷ []) t1.1 in
     let h = bare_head c.page_size page (flags_of Flush) item (kind_head c flags page item Flush head is) (zero_page page t2.1) in
-    let at : RestAt to (end_round c) RecordHead bytes = subst (λ (d : Due). RestAt to (end_round c) d bytes) due r in
+    let at : RestAt to (flush_records c) RecordHead bytes = subst (λ (d : Due). RestAt to (flush_records c) d bytes) due r in
     behind_list to c (item ++ bytes) t1.0 (λ used. flush_back (Behind to) c item bytes h t2.0 (at.1 used))

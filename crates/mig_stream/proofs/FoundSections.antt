@@ -11,7 +11,7 @@ use Rattle.mig_stream.specs.Fields.{be32, be64, be32_at}
 use Rattle.mig_stream.specs.Format.{flags_of, footer_type}
 use Rattle.mig_stream.specs.Progress.{StreamProgress}
 use Rattle.mig_mem.specs.First.{first_of}
-use Rattle.mig_stream.specs.Items.{is_single, closes, has_tail, faults, end_round, end_section}
+use Rattle.mig_stream.specs.Items.{is_single, closes, has_tail, faults, flush_records, end_section, end_records}
 use Rattle.mig_stream.specs.Text.{FlushMark, footer}
 use Rattle.mig_stream.proofs.FoundFields.{IsBytes, passed, be32_found}
 use Rattle.mig_stream.proofs.FoundParts.{footer_found}
@@ -59,7 +59,7 @@ section_back Behind c item bytes len all free r =
     }
 
 -- an EOS, in front of the footer
-pub end_back : (Behind : StreamProgress → List ℕ → Type 0) (c : StreamProgress) (item bytes : List ℕ) → item ≡ be64 (flags_of EndOfSection) → RestOfFooter Behind (record c { due = Footer }) bytes
+pub end_back : (Behind : StreamProgress → List ℕ → Type 0) (c : StreamProgress) (item bytes : List ℕ) → item ≡ be64 (flags_of EndOfSection) → RestOfFooter Behind (end_records c) bytes
     → RestOfBody Behind c (item ++ bytes)
 end_back Behind c item bytes e r = record {
   records = [];
@@ -72,7 +72,7 @@ end_back Behind c item bytes e r = record {
 
 -- a FLUSH, in front of the records after it
 pub flush_back : (Behind : StreamProgress → List ℕ → Type 0) (c : StreamProgress) (item bytes : List ℕ) → item ≡ be64 (flags_of Flush) → is_single c.mode ≡ false
-    → RestOfBody Behind (end_round c) bytes → RestOfBody Behind c (item ++ bytes)
+    → RestOfBody Behind (flush_records c) bytes → RestOfBody Behind c (item ++ bytes)
 flush_back Behind c item bytes e main r = record {
   records = FlushMark ∷ r.records;
   more = r.more;

@@ -5,7 +5,7 @@ use Rattle.std.specs.List.{flat_map, AllByRecursion}
 use Rattle.std.proofs.lemmas.Bool.{not-false, eqb-true}
 use Rattle.mig_mem.specs.RamTable.{RamTable}
 use Rattle.mig_stream.specs.declared.item.Mode.{Mode}
-use Rattle.mig_stream.specs.declared.item.Mode.TheVariants.{Single, Main}
+use Rattle.mig_stream.specs.declared.item.Mode.TheVariants.{Single, Main, MainBySection, MainAsShown}
 use Rattle.mig_stream.specs.declared.item.Section.{Section}
 use Rattle.mig_stream.specs.declared.item.Section.TheVariants.{Start, Part, End}
 use Rattle.mig_stream.specs.declared.item.Due.{Due}
@@ -17,7 +17,8 @@ use Rattle.mig_stream.specs.Progress.{StreamProgress, table_of, whole_table}
 use Rattle.mig_stream.specs.Items.{is_single, is_machine, open_records}
 use Rattle.mig_stream.specs.Machine.{Command, command_bytes, command, IsCommand, PartOrCommand, PartOf, CommandOf, part_or_command, IsPartOrCommand, parts_of}
 use Rattle.mig_stream.specs.Text.{named_after, Record, PageOf, FlushMark, Follow, HasNoFlush, all_records, body, section}
-use Rattle.mig_stream.proofs.After.{records_behind, rounds_behind, FlushesFit, HasNoTail}
+use Rattle.mig_stream.proofs.After.{mode_behind, records_behind, rounds_behind, FlushesFit, HasNoTail}
+use Rattle.mig_stream.proofs.Modes.{single_kept}
 use Rattle.mig_stream.proofs.FoundSections.{RestOfSection}
 
 -- what ends a stream: the end byte, and of a machine's stream nothing
@@ -46,9 +47,9 @@ pub record RestOfParts (to c : StreamProgress) (bytes : List ℕ) : Type 0 where
   pub are_others : AllByRecursion IsPartOrCommand others
   pub in_frame : is_machine c.frame ≡ false → HasNoCommand others
   pub follow : Follow (table_of c) c.named (all_records (parts_of others) ++ last)
-  pub flushes : FlushesFit c.mode (parts_of others ++ last ∷ [])
-  pub no_tail : HasNoTail c.mode (records_behind c.mode c.records (parts_of others ++ last ∷ []))
-  pub has_rounds : to.rounds ≡ rounds_behind c.mode c.records c.rounds (parts_of others ++ last ∷ [])
+  pub flushes : FlushesFit (is_single c.mode) (parts_of others ++ last ∷ [])
+  pub no_tail : HasNoTail (mode_behind c.mode false c.records (parts_of others ++ last ∷ [])) (records_behind c.mode false c.records (parts_of others ++ last ∷ []))
+  pub has_rounds : to.rounds ≡ rounds_behind c.mode false c.records c.rounds (parts_of others ++ last ∷ [])
   pub has_table : whole_table to ≡ whole_table c
 
 -- what is left after the footer of a section
@@ -70,10 +71,10 @@ Follow-append table before (PageOf continued r ∷ xs) ys f g = (f.0, Follow-app
 Follow-append table before (FlushMark ∷ xs) ys f g = Follow-append table before xs ys f g
 
 -- a section in front of others
-pub FlushesFit-cons : (mode : Mode) (records : List Record) (sections : List (List Record)) → (is_single mode ≡ false) ⊎ HasNoFlush records → FlushesFit mode sections → FlushesFit mode (records ∷ sections)
-FlushesFit-cons mode records sections (inl main) others = inl main
-FlushesFit-cons mode records sections (inr none) (inl main) = inl main
-FlushesFit-cons mode records sections (inr none) (inr others) = inr (none, others)
+pub FlushesFit-cons : (single : Bool) (records : List Record) (sections : List (List Record)) → (single ≡ false) ⊎ HasNoFlush records → FlushesFit single sections → FlushesFit single (records ∷ sections)
+FlushesFit-cons single records sections (inl main) others = inl main
+FlushesFit-cons single records sections (inr none) (inl main) = inl main
+FlushesFit-cons single records sections (inr none) (inr others) = inr (none, others)
 
 -- ---- a PART or END, in front of what is left after it
 
@@ -98,7 +99,8 @@ part_back to c bytes r =
       are_others = (tt, q.are_others);
       in_frame = q.in_frame;
       follow = subst (Follow (table_of c) c.named) (sym (append_assoc s.records (all_records (parts_of q.others)) q.last)) (Follow-append (table_of c) c.named s.records (all_records (parts_of q.others) ++ q.last) s.follow q.follow);
-      flushes = FlushesFit-cons c.mode s.records (parts_of q.others ++ q.last ∷ []) s.flushes q.flushes;
+      flushes = FlushesFit-cons (is_single c.mode) s.records (parts_of q.others ++ q.last ∷ []) s.flushes
+          (subst (λ (single : Bool). FlushesFit single (parts_of q.others ++ q.last ∷ [])) (single_kept c.mode false c.records s.records) q.flushes);
       no_tail = q.no_tail;
       has_rounds = q.has_rounds;
       has_table = q.has_table;
@@ -124,7 +126,7 @@ last_back to c bytes r =
       are_others = tt;
       in_frame = λ ram. tt;
       follow = s.follow;
-      flushes = FlushesFit-cons c.mode s.records [] s.flushes (inr tt);
+      flushes = FlushesFit-cons (is_single c.mode) s.records [] s.flushes (inr tt);
       no_tail = q.no_tail;
       has_rounds = q.has_rounds;
       has_table = q.has_table;
@@ -160,15 +162,22 @@ command_back to c x tail bytes machine is e q = record {
   has_table = q.has_table;
 }
 
+no_records_left : (records : List PageRecord) → not (eqb (length records) 0) ≡ false → records ≡ []
+no_records_left [] e = refl
+no_records_left (r ∷ records) e =
+    let none : length (r ∷ records) ≡ 0 = eqb-true _ _ (not-false (eqb (length (r ∷ records)) 0) e) in
+    absurd (omega arith)
+
 -- the end byte's second test found no fault
 pub no_tail_found : (mode : Mode) (records : List PageRecord) → (true && not (is_single mode) && not (eqb (length records) 0)) ≡ false → HasNoTail mode records
 no_tail_found Single records e = inl refl
-no_tail_found Main [] e = inr refl
-no_tail_found Main (r ∷ records) e =
-    let none : length (r ∷ records) ≡ 0 = eqb-true _ _ (not-false (eqb (length (r ∷ records)) 0) e) in
-    absurd (omega arith)
+no_tail_found Main records e = inr (no_records_left records e)
+no_tail_found MainBySection records e = inr (no_records_left records e)
+no_tail_found MainAsShown records e = inr (no_records_left records e)
 
 -- and so the last footer's second test
 pub no_tail_closed : (mode : Mode) (records : List PageRecord) → (not (is_single mode) && not (eqb (length records) 0)) ≡ false → HasNoTail mode (open_records mode records)
 no_tail_closed Single records e = inl refl
 no_tail_closed Main records e = no_tail_found Main records e
+no_tail_closed MainBySection records e = no_tail_found MainBySection records e
+no_tail_closed MainAsShown records e = no_tail_found MainAsShown records e

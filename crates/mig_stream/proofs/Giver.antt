@@ -10,7 +10,7 @@ use Rattle.mig_mem.specs.Place.{IsPlace}
 use Rattle.mig_mem.specs.First.{first_of}
 use Rattle.mig_mem.proofs.PageSizes.{page_size_some}
 use Rattle.mig_stream.specs.declared.item.Mode.{Mode}
-use Rattle.mig_stream.specs.declared.item.Mode.TheVariants.{Single, Main}
+use Rattle.mig_stream.specs.declared.item.Mode.TheVariants.{Single, Main, MainBySection, MainAsShown}
 use Rattle.mig_stream.specs.declared.item.Filling.TheVariants.{Zero, Normal}
 use Rattle.mig_stream.specs.declared.item.Due.{Due}
 use Rattle.mig_stream.specs.declared.item.Due.TheVariants.{FileHeader, TypeByte, ConfigLength, ConfigName, StartHead, SectionHead, RecordHead, ListEntry, BlockName, Content, Footer, Passed, Nothing}
@@ -24,7 +24,8 @@ use Rattle.mig_stream.specs.Fields.{be32_at}
 use Rattle.mig_stream.specs.Format.{end_byte, footer_type}
 use Rattle.mig_stream.specs.PageRecord.{PageRecord}
 use Rattle.mig_stream.specs.Progress.{StreamProgress, start, is_used_up, table_of, whole_table}
-use Rattle.mig_stream.specs.Items.{is_single, less_room, is_allowed, is_passed, closes, passed_by, after_type_byte, kind_faults, head_faults, faults, after_type, after_kind, after_head, end_round, open_records, whole_rounds, end_section, after_item, after}
+use Rattle.mig_stream.specs.Items.{is_single, less_room, is_allowed, is_passed, closes, passed_by, after_type_byte, kind_faults, head_faults, faults, after_type, after_kind, after_head, end_round, open_records, whole_rounds, end_section, after_item, after, eos_records, eos_rounds, end_records, is_start, has_none, flush_mode, flush_ends, flush_rounds, flush_records}
+use Rattle.mig_stream.specs.Later.{is_open}
 use Rattle.mig_stream.specs.Reading.{Settings, AreFaultless, after_all, Front, Ends, Reads, StreamReading, IsReading}
 use Rattle.mig_stream.specs.Taking.{HasTakenTo}
 use Rattle.mig_stream.specs.Reader.{with_taken, IsUnfinished, HasTable}
@@ -56,6 +57,8 @@ head_faults-open b c flags (Some k) page = kind_faults-open b c k page
 no_tail : (is_end : Bool) (m : Mode) (x y : Bool) → m ≡ Single → (is_end && not (is_single m) && x) ≡ (is_end && not (is_single m) && y)
 no_tail true Single x y single = refl
 no_tail true Main x y single = absurd cc
+no_tail true MainBySection x y single = absurd cc
+no_tail true MainAsShown x y single = absurd cc
 no_tail false m x y single = refl
 
 type_faults-open : (b : List PageRecord) (c : StreamProgress) (before : Before) (item : List ℕ) → c.mode ≡ Single → faults (with_open b c) (TypeByte before) item ≡ faults c (TypeByte before) item
@@ -103,16 +106,45 @@ end_round-open b c =
     ap (λ (x : List PageRecord). record c { room = c.waiting; records = x; rounds = rounds_behind b c.rounds ++ records_behind b c.rounds c.records ∷ [] }) (records_pushed b c.rounds c.records)
     ∙ ap (λ (x : List (List PageRecord)). record c { room = c.waiting; records = records_behind b (c.rounds ++ c.records ∷ []) []; rounds = x }) (rounds_push b c.rounds c.records)
 
-after_kind-open : (b : List PageRecord) (c : StreamProgress) (k : RecordKind) (page : ℕ) → after_kind (with_open b c) k page ≡ with_open b (after_kind c k page)
-after_kind-open b c SizeList page = refl
-after_kind-open b c (Named f) page = refl
-after_kind-open b c (Continued f) page = refl
-after_kind-open b c EndOfSection page = refl
-after_kind-open b c Flush page = end_round-open b c
+eos_records-open : (b : List PageRecord) (m : Mode) (rounds : List (List PageRecord)) (records : List PageRecord)
+    → eos_records m (records_behind b rounds records) ≡ records_behind b (eos_rounds m rounds records) (eos_records m records)
+eos_records-open b Single rounds records = refl
+eos_records-open b Main rounds records = refl
+eos_records-open b MainBySection rounds records = records_pushed b rounds records
+eos_records-open b MainAsShown rounds records = records_pushed b rounds records
 
-after_head-open : (b : List PageRecord) (c : StreamProgress) (k : Option RecordKind) (page : ℕ) → after_head (with_open b c) k page ≡ with_open b (after_head c k page)
-after_head-open b c None page = refl
-after_head-open b c (Some k) page = after_kind-open b c k page
+eos_rounds-open : (b : List PageRecord) (m : Mode) (rounds : List (List PageRecord)) (records : List PageRecord)
+    → eos_rounds m (rounds_behind b rounds) (records_behind b rounds records) ≡ rounds_behind b (eos_rounds m rounds records)
+eos_rounds-open b Single rounds records = refl
+eos_rounds-open b Main rounds records = refl
+eos_rounds-open b MainBySection rounds records = rounds_push b rounds records
+eos_rounds-open b MainAsShown rounds records = rounds_push b rounds records
+
+end_records-open : (b : List PageRecord) (c : StreamProgress) → end_records (with_open b c) ≡ with_open b (end_records c)
+end_records-open b c =
+    ap (λ (x : List PageRecord). record (end_records c) { records = x; rounds = eos_rounds c.mode (rounds_behind b c.rounds) (records_behind b c.rounds c.records) }) (eos_records-open b c.mode c.rounds c.records)
+    ∙ ap (λ (x : List (List PageRecord)). record (end_records c) { records = records_behind b (eos_rounds c.mode c.rounds c.records) (eos_records c.mode c.records); rounds = x }) (eos_rounds-open b c.mode c.rounds c.records)
+
+-- in a single stream, were it allowed there, a FLUSH would end a round
+single_flush : (c : StreamProgress) → c.mode ≡ Single → flush_records c ≡ end_round c
+single_flush c single =
+    let none : Bool = has_none c.records in
+    ap (λ (m : Mode). record c { mode = flush_mode m (is_start c.section) none; room = c.waiting; records = []; rounds = flush_rounds (flush_ends m (is_start c.section) none) c.rounds c.records }) single
+    ∙ ap (λ (m : Mode). record (end_round c) { mode = m }) (sym single)
+
+flush_records-open : (b : List PageRecord) (c : StreamProgress) → c.mode ≡ Single → flush_records (with_open b c) ≡ with_open b (flush_records c)
+flush_records-open b c single = single_flush (with_open b c) single ∙ end_round-open b c ∙ ap (with_open b) (sym (single_flush c single))
+
+after_kind-open : (b : List PageRecord) (c : StreamProgress) (k : RecordKind) (page : ℕ) → c.mode ≡ Single → after_kind (with_open b c) k page ≡ with_open b (after_kind c k page)
+after_kind-open b c SizeList page single = refl
+after_kind-open b c (Named f) page single = refl
+after_kind-open b c (Continued f) page single = refl
+after_kind-open b c EndOfSection page single = end_records-open b c
+after_kind-open b c Flush page single = flush_records-open b c single
+
+after_head-open : (b : List PageRecord) (c : StreamProgress) (k : Option RecordKind) (page : ℕ) → c.mode ≡ Single → after_head (with_open b c) k page ≡ with_open b (after_head c k page)
+after_head-open b c None page single = refl
+after_head-open b c (Some k) page single = after_kind-open b c k page single
 
 -- a test chooses between two, and what is said of it holds of both
 choice : {A B : Type 0} (f : A → B) (b : Bool) (x y : A) → f (cond b x y) ≡ cond b (f x) (f y)
@@ -135,55 +167,60 @@ footer_records : (b : List PageRecord) (m : Mode) (rounds : List (List PageRecor
     → open_records m (records_behind b rounds records) ≡ records_behind b (whole_rounds m rounds records) (open_records m records)
 footer_records b Single rounds records = records_pushed b rounds records
 footer_records b Main rounds records = refl
+footer_records b MainBySection rounds records = refl
+footer_records b MainAsShown rounds records = refl
 
 footer_rounds : (b : List PageRecord) (m : Mode) (rounds : List (List PageRecord)) (records : List PageRecord)
     → whole_rounds m (rounds_behind b rounds) (records_behind b rounds records) ≡ rounds_behind b (whole_rounds m rounds records)
 footer_rounds b Single rounds records = rounds_push b rounds records
 footer_rounds b Main rounds records = refl
+footer_rounds b MainBySection rounds records = refl
+footer_rounds b MainAsShown rounds records = refl
 
 end_section-open : (b : List PageRecord) (c : StreamProgress) → end_section (with_open b c) ≡ with_open b (end_section c)
 end_section-open b c =
     ap (λ (x : List PageRecord). record (end_section c) { records = x; rounds = whole_rounds c.mode (rounds_behind b c.rounds) (records_behind b c.rounds c.records) }) (footer_records b c.mode c.rounds c.records)
     ∙ ap (λ (x : List (List PageRecord)). record (end_section c) { records = records_behind b (whole_rounds c.mode c.rounds c.records) (open_records c.mode c.records); rounds = x }) (footer_rounds b c.mode c.rounds c.records)
 
-after_item-open : (b : List PageRecord) (c : StreamProgress) (d : Due) (item : List ℕ) → after_item (with_open b c) d item ≡ with_open b (after_item c d item)
-after_item-open b c FileHeader item = refl
-after_item-open b c (TypeByte before) item = after_type_byte-open b c before (slice_index item 0)
-after_item-open b c ConfigLength item = refl
-after_item-open b c (ConfigName n) item = refl
-after_item-open b c StartHead item = refl
-after_item-open b c SectionHead item = refl
-after_item-open b c RecordHead item = after_head-open b c _ _
-after_item-open b c ListEntry item = refl
-after_item-open b c (BlockName f page) item = refl
-after_item-open b c (Content Zero place) item = with_record-open b c (record { place = place; content = None })
-after_item-open b c (Content Normal place) item = with_record-open b c (record { place = place; content = Some item })
-after_item-open b c Footer item = end_section-open b c
-after_item-open b c (Passed passed) item = refl
-after_item-open b c Nothing item = refl
+after_item-open : (b : List PageRecord) (c : StreamProgress) (d : Due) (item : List ℕ) → c.mode ≡ Single → after_item (with_open b c) d item ≡ with_open b (after_item c d item)
+after_item-open b c FileHeader item single = refl
+after_item-open b c (TypeByte before) item single = after_type_byte-open b c before (slice_index item 0)
+after_item-open b c ConfigLength item single = refl
+after_item-open b c (ConfigName n) item single = refl
+after_item-open b c StartHead item single = refl
+after_item-open b c SectionHead item single = refl
+after_item-open b c RecordHead item single = after_head-open b c _ _ single
+after_item-open b c ListEntry item single = refl
+after_item-open b c (BlockName f page) item single = refl
+after_item-open b c (Content Zero place) item single = with_record-open b c (record { place = place; content = None })
+after_item-open b c (Content Normal place) item single = with_record-open b c (record { place = place; content = Some item })
+after_item-open b c Footer item single = end_section-open b c
+after_item-open b c (Passed passed) item single = refl
+after_item-open b c Nothing item single = refl
 
 -- an item leaves a single stream one
 single_after : (c : StreamProgress) (item : List ℕ) (items : List (List ℕ)) → c.mode ≡ Single → AreFaultless c (item ∷ items) → (after c item).mode ≡ Single
-single_after c item items single free = (IsLater-front c (after c item) item (front_item c item free.0 free.1)).same_mode ∙ single
+single_after c item items single free = (IsLater-front c (after c item) item (front_item c item free.0 free.1)).same_mode (ap is_open single) ∙ single
 
 AreFaultless-open : (b : List PageRecord) (c : StreamProgress) (items : List (List ℕ)) → c.mode ≡ Single → AreFaultless c items → AreFaultless (with_open b c) items
 AreFaultless-open b c [] single free = tt
 AreFaultless-open b c (item ∷ items) single free = (
   record { is_due = free.0.is_due; is_whole = free.0.is_whole },
   ap first_of (faults-open b c c.due item single) ∙ free.1,
-  subst (λ (x : StreamProgress). AreFaultless x items) (sym (after_item-open b c c.due item)) (AreFaultless-open b (after c item) items (single_after c item items single free) free.2),
+  subst (λ (x : StreamProgress). AreFaultless x items) (sym (after_item-open b c c.due item single)) (AreFaultless-open b (after c item) items (single_after c item items single free) free.2),
 )
 
-after_all-open : (b : List PageRecord) (c : StreamProgress) (items : List (List ℕ)) → after_all (with_open b c) items ≡ with_open b (after_all c items)
-after_all-open b c [] = refl
-after_all-open b c (item ∷ items) = ap (λ (x : StreamProgress). after_all x items) (after_item-open b c c.due item) ∙ after_all-open b (after c item) items
+after_all-open : (b : List PageRecord) (c : StreamProgress) (items : List (List ℕ)) → c.mode ≡ Single → AreFaultless c items → after_all (with_open b c) items ≡ with_open b (after_all c items)
+after_all-open b c [] single free = refl
+after_all-open b c (item ∷ items) single free =
+    ap (λ (x : StreamProgress). after_all x items) (after_item-open b c c.due item single) ∙ after_all-open b (after c item) items (single_after c item items single free) free.2
 
 Front-open : (b : List PageRecord) (c d : StreamProgress) (bytes : List ℕ) → c.mode ≡ Single → Front c bytes d → Front (with_open b c) bytes (with_open b d)
 Front-open b c d bytes single f = record {
   items = f.items;
   has_bytes = f.has_bytes;
   are_faultless = AreFaultless-open b c f.items single f.are_faultless;
-  leads_to = ap (with_open b) f.leads_to ∙ sym (after_all-open b c f.items);
+  leads_to = ap (with_open b) f.leads_to ∙ sym (after_all-open b c f.items single f.are_faultless);
 }
 
 Ends-open : (b : List PageRecord) (c : StreamProgress) (rest : List ℕ) (s : StreamState) → c.mode ≡ Single → Ends c rest s → Ends (with_open b c) rest s
@@ -196,7 +233,7 @@ Ends-open b c rest (Bad f) single e = (e.0, e.1, e.2, record { is_due = e.3.is_d
 -- it is a single stream that is read
 reads_single : (given : Settings) (text : List ℕ) (so_far : GivenSoFar) (r : Giver) → Gives given text so_far r → r.progress.mode ≡ Single
 reads_single given text so_far r g =
-    (IsLater-front (start given.frame given.mode given.page_size given.limit given.waiting) (all_read so_far r.progress) g.front g.leads).same_mode ∙ g.is_single
+    (IsLater-front (start given.frame given.mode given.page_size given.limit given.waiting) (all_read so_far r.progress) g.front g.leads).same_mode (ap is_open g.is_single) ∙ g.is_single
 
 pub same_page_size : (given : Settings) (text : List ℕ) (so_far : GivenSoFar) (r : Giver) → Gives given text so_far r → r.progress.page_size ≡ given.page_size
 same_page_size given text so_far r g = (IsLater-front (start given.frame given.mode given.page_size given.limit given.waiting) (all_read so_far r.progress) g.front g.leads).same_page_size
@@ -223,7 +260,7 @@ pub reads_behind : (given : Settings) (text : List ℕ) (so_far : GivenSoFar) (o
     → new.fed ≡ old.fed → Gives given text so_far old → Gives given text so_far new
 reads_behind given text so_far old new taken ends fed g =
     let single = reads_single given text so_far old g in
-    let there = (IsLater-front old.progress new.progress taken.0 taken.2).same_mode ∙ single in
+    let there = (IsLater-front old.progress new.progress taken.0 taken.2).same_mode (ap is_open single) ∙ single in
     let o : StreamProgress = with_open so_far.open_section old.progress in
     let n : StreamProgress = with_open so_far.open_section new.progress in record {
       is_single = g.is_single;

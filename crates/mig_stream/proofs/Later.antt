@@ -2,7 +2,7 @@
 use Rattle.std.proofs.Common.{◌≡◌, ◌≢◌, ℕ, Bool, true, false, cond, List, [], ◌∷◌, ◌++◌, Option, Some, None, refl, sym, ap, subst, ◌∙◌, append_assoc}
 use Rattle.std.specs.Prelude.{slice_index}
 use Rattle.mig_stream.specs.declared.item.Mode.{Mode}
-use Rattle.mig_stream.specs.declared.item.Mode.TheVariants.{Single, Main}
+use Rattle.mig_stream.specs.declared.item.Mode.TheVariants.{Single, Main, MainBySection, MainAsShown}
 use Rattle.mig_stream.specs.declared.item.Filling.TheVariants.{Zero, Normal}
 use Rattle.mig_stream.specs.declared.item.Before.{Before}
 use Rattle.mig_stream.specs.declared.item.Due.{Due}
@@ -14,7 +14,7 @@ use Rattle.mig_stream.specs.declared.item.StreamState.TheVariants.{Reading, Clos
 use Rattle.mig_stream.specs.PageRecord.{PageRecord}
 use Rattle.mig_stream.specs.Progress.{StreamProgress}
 use Rattle.mig_mem.specs.First.{first_of}
-use Rattle.mig_stream.specs.Items.{is_passed, passed_by, after_type_byte, kind_faults, head_faults, faults, after_type, after_kind, after_head, end_round, whole_rounds, end_section, after_item, after}
+use Rattle.mig_stream.specs.Items.{is_passed, passed_by, after_type_byte, kind_faults, head_faults, faults, after_type, after_kind, after_head, is_start, has_none, flush_ends, flush_rounds, flush_records, whole_rounds, end_section, after_item, after, eos_rounds, end_records}
 use Rattle.mig_stream.specs.Reading.{AreFaultless, after_all, Front, Ends, Reads}
 use Rattle.mig_stream.specs.Reader.{with_taken}
 use Rattle.mig_stream.proofs.Fronts.{Front-append}
@@ -48,15 +48,26 @@ faults-taken g c Footer item = refl
 faults-taken g c (Passed passed) item = refl
 faults-taken g c Nothing item = refl
 
-end_round-taken : (g : List (List PageRecord)) (c : StreamProgress) → end_round (with_taken g c) ≡ with_taken g (end_round c)
-end_round-taken g c = ap (λ (r : List (List PageRecord)). record c { room = c.waiting; records = []; rounds = r }) (append_assoc g c.rounds (c.records ∷ []))
+flush_rounds-taken : (g : List (List PageRecord)) (ends : Bool) (rounds : List (List PageRecord)) (records : List PageRecord) → flush_rounds ends (g ++ rounds) records ≡ g ++ flush_rounds ends rounds records
+flush_rounds-taken g true rounds records = append_assoc g rounds (records ∷ [])
+flush_rounds-taken g false rounds records = refl
+
+flush_records-taken : (g : List (List PageRecord)) (c : StreamProgress) → flush_records (with_taken g c) ≡ with_taken g (flush_records c)
+flush_records-taken g c =
+    ap (λ (r : List (List PageRecord)). record (flush_records c) { rounds = r }) (flush_rounds-taken g (flush_ends c.mode (is_start c.section) (has_none c.records)) c.rounds c.records)
+
+eos_rounds-taken : (g : List (List PageRecord)) (m : Mode) (rounds : List (List PageRecord)) (records : List PageRecord) → eos_rounds m (g ++ rounds) records ≡ g ++ eos_rounds m rounds records
+eos_rounds-taken g Single rounds records = refl
+eos_rounds-taken g Main rounds records = refl
+eos_rounds-taken g MainBySection rounds records = append_assoc g rounds (records ∷ [])
+eos_rounds-taken g MainAsShown rounds records = append_assoc g rounds (records ∷ [])
 
 after_kind-taken : (g : List (List PageRecord)) (c : StreamProgress) (k : RecordKind) (page : ℕ) → after_kind (with_taken g c) k page ≡ with_taken g (after_kind c k page)
 after_kind-taken g c SizeList page = refl
 after_kind-taken g c (Named f) page = refl
 after_kind-taken g c (Continued f) page = refl
-after_kind-taken g c EndOfSection page = refl
-after_kind-taken g c Flush page = end_round-taken g c
+after_kind-taken g c EndOfSection page = ap (λ (x : List (List PageRecord)). record (end_records c) { rounds = x }) (eos_rounds-taken g c.mode c.rounds c.records)
+after_kind-taken g c Flush page = flush_records-taken g c
 
 after_head-taken : (g : List (List PageRecord)) (c : StreamProgress) (k : Option RecordKind) (page : ℕ) → after_head (with_taken g c) k page ≡ with_taken g (after_head c k page)
 after_head-taken g c None page = refl
@@ -78,6 +89,8 @@ after_type_byte-taken g c before b =
 whole_rounds-taken : (g : List (List PageRecord)) (m : Mode) (rounds : List (List PageRecord)) (records : List PageRecord) → whole_rounds m (g ++ rounds) records ≡ g ++ whole_rounds m rounds records
 whole_rounds-taken g Single rounds records = append_assoc g rounds (records ∷ [])
 whole_rounds-taken g Main rounds records = refl
+whole_rounds-taken g MainBySection rounds records = refl
+whole_rounds-taken g MainAsShown rounds records = refl
 
 after_item-taken : (g : List (List PageRecord)) (c : StreamProgress) (d : Due) (item : List ℕ) → after_item (with_taken g c) d item ≡ with_taken g (after_item c d item)
 after_item-taken g c FileHeader item = refl

@@ -2,6 +2,7 @@ pub mod Fronts
 pub mod Unique
 pub mod After
 pub mod Tables
+pub mod Modes
 pub mod SectionRounds
 pub mod WrittenText
 pub mod WrittenPages
@@ -46,6 +47,10 @@ pub mod Taken
 pub mod Waiting
 pub mod Closing
 pub mod Valid
+pub mod Flushed
+pub mod NoTail
+pub mod Shown
+pub mod MoreRounds
 pub mod WrittenMachine
 pub mod Configured
 mod Examples

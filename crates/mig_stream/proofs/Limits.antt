@@ -9,7 +9,7 @@ use Rattle.std.proofs.lemmas.Bool.{cond_both, eqb-false, eqb-true, false_from_ne
 use Rattle.mig_mem.specs.RamTable.{RamTable}
 use Rattle.mig_stream.specs.declared.item.Frame.{Frame}
 use Rattle.mig_stream.specs.declared.item.Mode.{Mode}
-use Rattle.mig_stream.specs.declared.item.Mode.TheVariants.{Single, Main}
+use Rattle.mig_stream.specs.declared.item.Mode.TheVariants.{Single, Main, MainBySection, MainAsShown}
 use Rattle.mig_mem.specs.declared.place.Place.{Place}
 use Rattle.mig_stream.specs.declared.item.Filling.{Filling}
 use Rattle.mig_stream.specs.declared.item.Filling.TheVariants.{Zero, Normal}
@@ -27,7 +27,7 @@ use Rattle.mig_stream.specs.Fields.{be32_at}
 use Rattle.mig_stream.specs.PageRecord.{PageRecord}
 use Rattle.mig_stream.specs.Progress.{StreamProgress, start, is_used_up, table_of, whole_table}
 use Rattle.mig_mem.specs.First.{first_of}
-use Rattle.mig_stream.specs.Items.{id_in, is_passed, passed_by, subsection_of, body_of, capabilities_due, behind_passed, after_type_byte, size, length_in, kind_faults, head_faults, faults, after_type, after_kind, after_head, whole_rounds, after_item, after}
+use Rattle.mig_stream.specs.Items.{id_in, is_passed, passed_by, subsection_of, body_of, capabilities_due, behind_passed, after_type_byte, size, length_in, kind_faults, head_faults, faults, after_type, after_kind, after_head, whole_rounds, after_item, after, eos_rounds, is_start, has_none, flush_ends, flush_rounds}
 use Rattle.mig_stream.specs.Reading.{AreFaultless, after_all, Front}
 use Rattle.mig_stream.specs.Law.{ReadingsKeepLimits}
 use Rattle.mig_stream.proofs.Steps.{passed, IsLater-front}
@@ -48,17 +48,29 @@ few_type c byte n =
 few_type_byte : (c : StreamProgress) (before : Before) (byte n : ℕ) → HasFew c.rounds n (after_type_byte c before byte)
 few_type_byte c before byte n = cond_both (is_passed c.frame before byte) _ _ (HasFew c.rounds n) (λ _. omega arith) (λ _. few_type c byte n)
 
+few_eos : (mode : Mode) (rounds : List (List PageRecord)) (records : List PageRecord) → length (eos_rounds mode rounds records) ≤ length rounds + 1
+few_eos Single rounds records = omega arith
+few_eos Main rounds records = omega arith
+few_eos MainBySection rounds records = omega (arith, length-append rounds (records ∷ []))
+few_eos MainAsShown rounds records = omega (arith, length-append rounds (records ∷ []))
+
+few_flush : (ends : Bool) (rounds : List (List PageRecord)) (records : List PageRecord) → length (flush_rounds ends rounds records) ≤ length rounds + 1
+few_flush true rounds records = omega (arith, length-append rounds (records ∷ []))
+few_flush false rounds records = omega arith
+
 few_head : (c : StreamProgress) (kind : Option RecordKind) (page n : ℕ) → 1 ≤ n → HasFew c.rounds n (after_head c kind page)
 few_head c None page n some = omega arith
 few_head c (Some SizeList) page n some = omega arith
 few_head c (Some (Named filling)) page n some = omega arith
 few_head c (Some (Continued filling)) page n some = omega arith
-few_head c (Some EndOfSection) page n some = omega arith
-few_head c (Some Flush) page n some = omega (arith, length-append c.rounds (c.records ∷ []))
+few_head c (Some EndOfSection) page n some = omega (arith, some, few_eos c.mode c.rounds c.records)
+few_head c (Some Flush) page n some = omega (arith, some, few_flush (flush_ends c.mode (is_start c.section) (has_none c.records)) c.rounds c.records)
 
 few_whole : (mode : Mode) (rounds : List (List PageRecord)) (records : List PageRecord) → length (whole_rounds mode rounds records) ≤ length rounds + 1
 few_whole Single rounds records = omega (arith, length-append rounds (records ∷ []))
 few_whole Main rounds records = omega arith
+few_whole MainBySection rounds records = omega arith
+few_whole MainAsShown rounds records = omega arith
 
 -- an item makes one round whole at most, and none if it is empty
 few_item : (c : StreamProgress) (d : Due) (item : List ℕ) → length item ≡ size c.page_size d item → HasFew c.rounds (length item) (after_item c d item)

@@ -1,5 +1,5 @@
 -- The places of the page records that are read: the table has them.
-use Rattle.std.proofs.Common.{◌≡◌, eqb, ℕ, Bool, ◌-◌, ◌<◌, false, not, nat_lt, ◌==◌, List, [], ◌∷◌, ◌++◌, length, get_or, Option, Some, None, All, sym, ap, subst, inl, inr, arith}
+use Rattle.std.proofs.Common.{◌≡◌, eqb, ℕ, Bool, ◌-◌, ◌<◌, false, not, nat_lt, ◌==◌, List, [], ◌∷◌, ◌++◌, length, get_or, Option, Some, None, All, sym, ap, subst, inl, inr, arith, true}
 use Rattle.std.specs.Prelude.{is_none, slice_index, ⊤}
 use Rattle.std.specs.Option.{unwrap_or}
 use Rattle.std.proofs.lemmas.List.{length-append, get_or_append_left, get_or_past}
@@ -11,7 +11,7 @@ use Rattle.mig_mem.specs.RamTable.{Block, RamTable, block, block_of}
 use Rattle.mig_stream.specs.declared.item.Frame.{Frame}
 use Rattle.mig_stream.specs.declared.item.Mode.{Mode}
 use Rattle.mig_stream.specs.declared.item.Section.{Section}
-use Rattle.mig_stream.specs.declared.item.Mode.TheVariants.{Single, Main}
+use Rattle.mig_stream.specs.declared.item.Mode.TheVariants.{Single, Main, MainBySection, MainAsShown}
 use Rattle.mig_stream.specs.declared.item.Filling.TheVariants.{Zero, Normal}
 use Rattle.mig_stream.specs.declared.item.Before.{Before}
 use Rattle.mig_stream.specs.declared.item.PassedItem.{PassedItem}
@@ -28,7 +28,7 @@ use Rattle.mig_stream.specs.Fields.{be32_at}
 use Rattle.mig_stream.specs.PageRecord.{PageRecord}
 use Rattle.mig_stream.specs.Progress.{StreamProgress, start}
 use Rattle.mig_mem.specs.First.{first_of}
-use Rattle.mig_stream.specs.Items.{is_passed, closes, subsection_of, body_of, capabilities_due, behind_passed, behind_footer, after_type_byte, id_in, length_in, has_page, is_full, kind_faults, head_faults, faults, after_type, after_kind, after_head, open_records, whole_rounds, after_item, after}
+use Rattle.mig_stream.specs.Items.{is_passed, closes, subsection_of, body_of, capabilities_due, behind_passed, behind_footer, after_type_byte, id_in, length_in, has_page, is_full, kind_faults, head_faults, faults, after_type, after_kind, after_head, open_records, whole_rounds, after_item, after, eos_records, eos_rounds, is_start, has_none, flush_ends, flush_rounds}
 use Rattle.mig_stream.specs.Reading.{AreFaultless, after_all, Front}
 use Rattle.mig_stream.proofs.Steps.{passed}
 
@@ -105,6 +105,22 @@ passed_in blocks (Capability others) item = capabilities_in blocks others
 footer_in : (blocks : List Block) (frame : Frame) (kind : Section) → DueIn blocks (behind_footer frame kind)
 footer_in blocks frame kind = cond_both (closes frame kind) _ _ (DueIn blocks) (λ _. tt) (λ _. tt)
 
+eos_in : (m : Mode) (blocks : List Block) (records : List PageRecord) → AreIn blocks records → AreIn blocks (eos_records m records)
+eos_in Single blocks records all = all
+eos_in Main blocks records all = all
+eos_in MainBySection blocks records all = All-nil (λ r. HasPage blocks r.place)
+eos_in MainAsShown blocks records all = All-nil (λ r. HasPage blocks r.place)
+
+eos_whole_in : (m : Mode) (blocks : List Block) (rounds : List (List PageRecord)) (records : List PageRecord) → All (AreIn blocks) rounds → AreIn blocks records → All (AreIn blocks) (eos_rounds m rounds records)
+eos_whole_in Single blocks rounds records all last = all
+eos_whole_in Main blocks rounds records all last = all
+eos_whole_in MainBySection blocks rounds records all last = All-push (AreIn blocks) rounds records all last
+eos_whole_in MainAsShown blocks rounds records all last = All-push (AreIn blocks) rounds records all last
+
+flush_in : (ends : Bool) (blocks : List Block) (rounds : List (List PageRecord)) (records : List PageRecord) → All (AreIn blocks) rounds → AreIn blocks records → All (AreIn blocks) (flush_rounds ends rounds records)
+flush_in true blocks rounds records all last = All-push (AreIn blocks) rounds records all last
+flush_in false blocks rounds records all last = all
+
 placed_kind : (c : StreamProgress) (k : RecordKind) (page : ℕ) → Placed c → DueIn c.blocks c.due → first_of (kind_faults c k page) ≡ None → Placed (after_kind c k page)
 placed_kind c SizeList page v d free = record { due = tt; records = v.records; rounds = v.rounds }
 placed_kind c (Named f) page v d free = record { due = tt; records = v.records; rounds = v.rounds }
@@ -115,8 +131,12 @@ placed_kind c (Continued f) page v d free =
     let two = passed (is_none c.named) fault.NoBlock ((not (has_page c.blocks c.named page), fault.OffsetOut) ∷ []) one.1 in
     let three = passed (not (has_page c.blocks c.named page)) fault.OffsetOut [] two.1 in
     record { due = judged c.blocks c.named page three.0; records = v.records; rounds = v.rounds }
-placed_kind c EndOfSection page v d free = record { due = tt; records = v.records; rounds = v.rounds }
-placed_kind c Flush page v d free = record { due = d; records = All-nil (λ r. HasPage c.blocks r.place); rounds = All-push (AreIn c.blocks) c.rounds c.records v.rounds v.records }
+placed_kind c EndOfSection page v d free = record { due = tt; records = eos_in c.mode c.blocks c.records v.records; rounds = eos_whole_in c.mode c.blocks c.rounds c.records v.rounds v.records }
+placed_kind c Flush page v d free = record {
+  due = d;
+  records = All-nil (λ r. HasPage c.blocks r.place);
+  rounds = flush_in (flush_ends c.mode (is_start c.section) (has_none c.records)) c.blocks c.rounds c.records v.rounds v.records;
+}
 
 placed_head : (c : StreamProgress) (flags : ℕ) (k : Option RecordKind) (page : ℕ) → Placed c → DueIn c.blocks c.due → first_of (head_faults c flags k page) ≡ None → Placed (after_head c k page)
 placed_head c flags None page v d free = v
@@ -125,10 +145,14 @@ placed_head c flags (Some k) page v d free = placed_kind c k page v d free
 open_in : (m : Mode) (blocks : List Block) (records : List PageRecord) → AreIn blocks records → AreIn blocks (open_records m records)
 open_in Single blocks records all = All-nil (λ r. HasPage blocks r.place)
 open_in Main blocks records all = all
+open_in MainBySection blocks records all = all
+open_in MainAsShown blocks records all = all
 
 whole_in : (m : Mode) (blocks : List Block) (rounds : List (List PageRecord)) (records : List PageRecord) → All (AreIn blocks) rounds → AreIn blocks records → All (AreIn blocks) (whole_rounds m rounds records)
 whole_in Single blocks rounds records all last = All-push (AreIn blocks) rounds records all last
 whole_in Main blocks rounds records all last = all
+whole_in MainBySection blocks rounds records all last = all
+whole_in MainAsShown blocks rounds records all last = all
 
 placed_item : (c : StreamProgress) (d : Due) (item : List ℕ) → Placed c → DueIn c.blocks d → first_of (faults c d item) ≡ None → Placed (after_item c d item)
 placed_item c FileHeader item v d free = record { due = tt; records = v.records; rounds = v.rounds }

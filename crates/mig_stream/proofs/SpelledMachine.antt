@@ -5,7 +5,7 @@ use Rattle.std.specs.List.{flat_map, AllByRecursion}
 use Rattle.mig_mem.specs.RamTable.{RamTable, IsTable}
 use Rattle.mig_stream.specs.declared.item.Frame.TheVariants.{Machine}
 use Rattle.mig_stream.specs.declared.item.Mode.{Mode}
-use Rattle.mig_stream.specs.declared.item.Mode.TheVariants.{Single, Main}
+use Rattle.mig_stream.specs.declared.item.Mode.TheVariants.{Single, Main, MainBySection, MainAsShown}
 use Rattle.mig_stream.specs.declared.item.Section.TheVariants as sections
 use Rattle.mig_stream.specs.declared.item.Before.{Before}
 use Rattle.mig_stream.specs.declared.item.Before.TheVariants as before
@@ -13,13 +13,14 @@ use Rattle.mig_stream.specs.declared.item.Due.TheVariants.{FileHeader, TypeByte,
 use Rattle.mig_stream.specs.Format.{section_type}
 use Rattle.mig_stream.specs.PageRecord.{PageRecord}
 use Rattle.mig_stream.specs.Progress.{StreamProgress, start, table_of}
-use Rattle.mig_stream.specs.Items.{is_single, open_records, is_allowed, is_machine, may_pass, has_tail}
+use Rattle.mig_stream.specs.Items.{is_single, open_records, is_allowed, is_machine, may_pass, has_tail, end_records}
 use Rattle.mig_stream.specs.Reading.{settings, in_frame, Front, IsReading}
 use Rattle.mig_stream.specs.Text.{Record, Follow, HasNoFlush, all_records, body, section, file_header, start_head, size_list}
 use Rattle.mig_stream.specs.Machine.{Command, command, IsCommand, Configuration, configured, IsConfiguration, PartOrCommand, PartOf, CommandOf, part_or_command, IsPartOrCommand, parts_of, IsMachineText}
 use Rattle.mig_stream.specs.Law.{closed}
 use Rattle.mig_stream.proofs.Fronts.{Front-none, Front-append}
-use Rattle.mig_stream.proofs.After.{unlimited, after_records, after_body, records_behind, FlushesFit, HasNoTail}
+use Rattle.mig_stream.proofs.After.{unlimited, after_records, after_body, mode_behind, records_behind, FlushesFit, HasNoTail}
+use Rattle.mig_stream.proofs.Modes.{single_kept}
 use Rattle.mig_stream.proofs.SectionRounds.{rounds_read}
 use Rattle.mig_stream.proofs.SpelledItems.{type_front, section_front, header_front, configuration_front, start_front}
 use Rattle.mig_stream.proofs.SpelledRecords.{body_front}
@@ -74,15 +75,20 @@ no_tail_left : (mode : Mode) (records : List PageRecord) → HasNoTail mode (ope
 no_tail_left Single records none = refl
 no_tail_left Main records (inl e) = absurd cc
 no_tail_left Main records (inr e) = ap (λ (x : List PageRecord). not (length x == 0)) e
+no_tail_left MainBySection records (inl e) = absurd cc
+no_tail_left MainBySection records (inr e) = ap (λ (x : List PageRecord). not (length x == 0)) e
+no_tail_left MainAsShown records (inl e) = absurd cc
+no_tail_left MainAsShown records (inr e) = ap (λ (x : List PageRecord). not (length x == 0)) e
 
 -- END, whose footer closes the stream
 end_front_of : (c : StreamProgress) (records : List Record) → is_machine c.frame ≡ true → IsTable (table_of c) → c.section_id < 2 ^ 32 → is_none c.left ≡ false → is_single c.mode ≡ false ⊎ HasNoFlush records
-    → Follow (table_of c) c.named records → HasNoTail c.mode (records_behind c.mode c.records (records ∷ []))
+    → Follow (table_of c) c.named records → HasNoTail (mode_behind c.mode false c.records (records ∷ [])) (records_behind c.mode false c.records (records ∷ []))
     → Front (record (unlimited c) { due = TypeByte before.Footer }) (section (table_of c) sections.End c.section_id records) (at_end (unlimited c) (records ∷ []))
 end_front_of c records machine is small begun flushes follow none =
     let u : StreamProgress = unlimited c in
     let d : StreamProgress = record u { section = sections.End } in
-    let whole : has_tail (is_machine u.frame) (after_records d records) ≡ false = ap (λ (x : Bool). has_tail x (after_records d records)) machine ∙ no_tail_left u.mode (after_records d records).records none in
+    let e : StreamProgress = end_records (after_records d records) in
+    let whole : has_tail (is_machine u.frame) e ≡ false = ap (λ (x : Bool). has_tail x e) machine ∙ no_tail_left e.mode e.records none in
     let due : after_body d records ≡ at_end u (records ∷ []) = ap (λ (x : Bool). record (after_body d records) { due = cond x Nothing (TypeByte before.LastFooter) }) machine in
     let there : Front (record d { due = RecordHead }) (body (table_of u) u.section_id records) (at_end u (records ∷ [])) =
     subst (λ (x : StreamProgress). Front (record d { due = RecordHead }) (body (table_of u) u.section_id records) x) due (body_front d records is small begun flushes follow whole) in
@@ -90,11 +96,11 @@ end_front_of c records machine is small begun flushes follow none =
 
 -- PARTs and COMMANDs, and END
 others_front : (c : StreamProgress) (others : List PartOrCommand) (last : List Record) → is_machine c.frame ≡ true → AllByRecursion IsPartOrCommand others → IsTable (table_of c) → c.section_id < 2 ^ 32 → is_none c.left ≡ false
-    → FlushesFit c.mode (parts_of others ++ last ∷ []) → Follow (table_of c) c.named (all_records (parts_of others) ++ last) → HasNoTail c.mode (records_behind c.mode c.records (parts_of others ++ last ∷ []))
+    → FlushesFit (is_single c.mode) (parts_of others ++ last ∷ []) → Follow (table_of c) c.named (all_records (parts_of others) ++ last) → HasNoTail (mode_behind c.mode false c.records (parts_of others ++ last ∷ [])) (records_behind c.mode false c.records (parts_of others ++ last ∷ []))
     → Front (record (unlimited c) { due = TypeByte before.Footer }) (flat_map (part_or_command (table_of c) c.section_id) others ++ section (table_of c) sections.End c.section_id last) (at_end (unlimited c) (parts_of others ++ last ∷ []))
 others_front c [] last machine may is small begun flushes follow none =
     let u : StreamProgress = unlimited c in
-    end_front_of u last machine is small begun (FlushesFit-first u.mode last [] flushes) follow none
+    end_front_of u last machine is small begun (FlushesFit-first (is_single u.mode) last [] flushes) follow none
 others_front c (CommandOf x ∷ others) last machine may is small begun flushes follow none =
     let u : StreamProgress = unlimited c in
     let end : List ℕ = section (table_of u) sections.End u.section_id last in
@@ -109,8 +115,10 @@ others_front c (PartOf records ∷ others) last machine may is small begun flush
     let f : Follow (table_of u) u.named (records ++ more) = subst (Follow (table_of u) u.named) all follow in
     let d : StreamProgress = after_body (record u { section = sections.Part }) records in
     let end : List ℕ = section (table_of u) sections.End u.section_id last in
-    let one = part_front u records is small begun (FlushesFit-first u.mode records (parts_of others ++ last ∷ []) flushes) (Follow-first (table_of u) u.named records more f) in
-    let rest = others_front d others last machine may.1 is small begun (FlushesFit-rest u.mode records (parts_of others ++ last ∷ []) flushes) (Follow-rest (table_of u) u.named records more f) none in
+    let one = part_front u records is small begun (FlushesFit-first (is_single u.mode) records (parts_of others ++ last ∷ []) flushes) (Follow-first (table_of u) u.named records more f) in
+    let fit : FlushesFit (is_single d.mode) (parts_of others ++ last ∷ []) =
+    subst (λ (single : Bool). FlushesFit single (parts_of others ++ last ∷ [])) (sym (single_kept u.mode false u.records records)) (FlushesFit-rest (is_single u.mode) records (parts_of others ++ last ∷ []) flushes) in
+    let rest = others_front d others last machine may.1 is small begun fit (Follow-rest (table_of u) u.named records more f) none in
     let bytes = append_assoc (section (table_of u) sections.Part u.section_id records) (flat_map (part_or_command (table_of u) u.section_id) others) end in
     subst (λ (z : List ℕ). Front (record u { due = TypeByte before.Footer }) z (at_end u ((records ∷ parts_of others) ++ last ∷ []))) (sym bytes) (Front-append _ _ _ _ _ one rest)
 
@@ -134,8 +142,10 @@ machine_is_read mode limit text rest table rounds is =
     let first : StreamProgress = after_body listed is.first in
     let opening = opening_front from is.machine is.commands is.id refl is.has_machine is.are_commands is.has_id in
     let list = list_front begun table is.has_table is.has_limit in
-    let start_body = body_front listed is.first is.has_table is.has_id refl (FlushesFit-first mode is.first others told.0) (Follow-first table None is.first behind follow) refl in
-    let end = others_front first is.others is.last refl is.are_others is.has_table is.has_id refl (FlushesFit-rest mode is.first others told.0) (Follow-rest table None is.first behind follow) told.1 in
+    let fit : FlushesFit (is_single first.mode) others =
+    subst (λ (single : Bool). FlushesFit single others) (sym (single_kept mode true [] is.first)) (FlushesFit-rest (is_single mode) is.first others told.0) in
+    let start_body = body_front listed is.first is.has_table is.has_id refl (FlushesFit-first (is_single mode) is.first others told.0) (Follow-first table None is.first behind follow) refl in
+    let end = others_front first is.others is.last refl is.are_others is.has_table is.has_id refl fit (Follow-rest table None is.first behind follow) told.1 in
     let spelled = is.is_spelled ∙ regroup file_header (configured is.machine) (flat_map command is.commands) (start_head is.id) (size_list table) (body table is.id is.first) (flat_map (part_or_command table is.id) is.others)
     (section table sections.End is.id is.last) in
     let to : StreamProgress = at_end first others in

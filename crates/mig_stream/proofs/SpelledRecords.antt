@@ -19,13 +19,14 @@ use Rattle.mig_stream.specs.Fields.{counted}
 use Rattle.mig_stream.specs.Format.{flags_of}
 use Rattle.mig_stream.specs.PageRecord.{PageRecord, filling_of}
 use Rattle.mig_stream.specs.Progress.{StreamProgress, table_of}
-use Rattle.mig_stream.specs.Items.{closes, has_tail, is_single, id_in, first_fault, end_round, with_record, after}
+use Rattle.mig_stream.specs.Items.{closes, has_tail, is_single, id_in, first_fault, is_start, has_none, flush_records, with_record, after, end_records}
 use Rattle.mig_stream.specs.Reading.{Front}
 use Rattle.mig_stream.specs.Text.{content_bytes, page_record, Fits, Record, PageOf, FlushMark, record_bytes, Follow, HasNoFlush, body}
 use Rattle.mig_stream.proofs.Fronts.{Front-none, Front-append}
 use Rattle.mig_stream.proofs.After.{unlimited, after_page, after_records, after_body}
 use Rattle.mig_stream.proofs.SpelledItems.{item_front, page_size_large, flags_small, head_front, bare_front, footer_front}
 use Rattle.mig_stream.proofs.Tables.{finds_each}
+use Rattle.mig_stream.proofs.Steps.{flush_keeps}
 
 -- ---- a page record
 
@@ -98,7 +99,8 @@ records_front c (PageOf continued r ∷ records) is begun flushes follow =
 records_front c (FlushMark ∷ records) is begun (inl main) follow =
     let u : StreamProgress = unlimited c in
     let first = bare_front u Flush is.has_page_size (rw (begun, main) refl) in
-    let others = records_front (end_round u) records is begun (inl main) follow in
+    let still : is_single (flush_records u).mode ≡ false = (flush_keeps u.mode (is_start u.section) (has_none u.records)).single ∙ main in
+    let others = records_front (flush_records u) records is begun (inl still) follow in
     Front-append _ _ _ _ _ first others
 records_front c (FlushMark ∷ records) is begun (inr none) follow =
     let u : StreamProgress = unlimited c in
@@ -106,10 +108,10 @@ records_front c (FlushMark ∷ records) is begun (inr none) follow =
 
 -- a section's records, EOS and footer
 pub body_front : (c : StreamProgress) (records : List Record) → IsTable (table_of c) → c.section_id < 2 ^ 32 → is_none c.left ≡ false → is_single c.mode ≡ false ⊎ HasNoFlush records
-    → Follow (table_of c) c.named records → has_tail (closes c.frame c.section) (after_records (unlimited c) records) ≡ false
+    → Follow (table_of c) c.named records → has_tail (closes c.frame c.section) (end_records (after_records (unlimited c) records)) ≡ false
     → Front (record (unlimited c) { due = RecordHead }) (body (table_of c) c.section_id records) (after_body (unlimited c) records)
 body_front c records is small begun flushes follow whole =
     let u : StreamProgress = unlimited c in
     let d : StreamProgress = after_records u records in
-    let end = Front-append _ _ _ _ _ (bare_front d EndOfSection is.has_page_size (rw begun refl)) (footer_front d small whole) in
+    let end = Front-append _ _ _ _ _ (bare_front d EndOfSection is.has_page_size (rw begun refl)) (footer_front (end_records d) small whole) in
     Front-append _ _ _ _ _ (records_front u records is begun flushes follow) end

@@ -1,5 +1,5 @@
 -- A complete stream is read as it is spelled, and so no bytes have two prefixes that are streams.
-use Rattle.std.proofs.Common.{◌≡◌, ℕ, List, [], ◌∷◌, ◌++◌, Some, None, refl, sym, ap, subst, ◌∙◌, append_assoc}
+use Rattle.std.proofs.Common.{◌≡◌, ℕ, Bool, true, List, [], ◌∷◌, ◌++◌, Some, None, refl, sym, ap, subst, ◌∙◌, append_assoc}
 use Rattle.std.specs.List.{flat_map}
 use Rattle.std.proofs.lemmas.List.{append_cancel_right}
 use Rattle.mig_mem.specs.RamTable.{RamTable}
@@ -16,7 +16,9 @@ use Rattle.mig_stream.specs.Text.{Record, Follow, all_records, file_header, conf
 use Rattle.mig_stream.specs.Law.{SpelledIsRead, HasOneText}
 use Rattle.mig_stream.proofs.Fronts.{Front-append}
 use Rattle.mig_stream.proofs.Unique.{one_reading}
-use Rattle.mig_stream.proofs.After.{after_body}
+use Rattle.mig_stream.proofs.After.{after_body, FlushesFit}
+use Rattle.mig_stream.proofs.Modes.{single_kept}
+use Rattle.mig_stream.specs.Items.{is_single}
 use Rattle.mig_stream.proofs.SectionRounds.{rounds_read}
 use Rattle.mig_stream.proofs.SpelledItems.{opening_front}
 use Rattle.mig_stream.proofs.SpelledRecords.{body_front}
@@ -49,8 +51,10 @@ text_is_read mode limit text table rounds is =
     let first : StreamProgress = after_body listed is.first in
     let opening = opening_front from is.name is.id is.has_name is.has_id in
     let list = list_front begun table is.has_table is.has_limit in
-    let start_body = body_front listed is.first is.has_table is.has_id refl (FlushesFit-first mode is.first others told.0) (Follow-first table None is.first behind follow) refl in
-    let end = sections_front first is.parts is.last refl is.has_table is.has_id refl (FlushesFit-rest mode is.first others told.0) (Follow-rest table None is.first behind follow) told.1 in
+    let fit : FlushesFit (is_single first.mode) others =
+    subst (λ (single : Bool). FlushesFit single others) (sym (single_kept mode true [] is.first)) (FlushesFit-rest (is_single mode) is.first others told.0) in
+    let start_body = body_front listed is.first is.has_table is.has_id refl (FlushesFit-first (is_single mode) is.first others told.0) (Follow-first table None is.first behind follow) refl in
+    let end = sections_front first is.parts is.last refl is.has_table is.has_id refl fit (Follow-rest table None is.first behind follow) told.1 in
     let parts : List ℕ = flat_map (section table sections.Part is.id) is.parts in
     let spelled = is.is_spelled ∙ regroup file_header (configuration is.name) (start_head is.id) (size_list table) (body table is.id is.first) parts (section table sections.End is.id is.last) (end_byte ∷ []) in
     record {

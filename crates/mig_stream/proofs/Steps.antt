@@ -6,7 +6,7 @@ use Rattle.std.proofs.lemmas.List.{append-nil}
 use Rattle.std.proofs.lemmas.Bool.{cond_both, ltb-false, eqb-false, eqb-true}
 use Rattle.mig_mem.specs.RamTable.{Block, block_of, is_id, max_blocks}
 use Rattle.mig_stream.specs.declared.item.Mode.{Mode}
-use Rattle.mig_stream.specs.declared.item.Mode.TheVariants.{Single, Main}
+use Rattle.mig_stream.specs.declared.item.Mode.TheVariants.{Single, Main, MainBySection, MainAsShown}
 use Rattle.mig_stream.specs.declared.item.Filling.TheVariants.{Zero, Normal}
 use Rattle.mig_stream.specs.declared.item.Before.{Before}
 use Rattle.mig_stream.specs.declared.item.Due.{Due}
@@ -18,9 +18,9 @@ use Rattle.mig_stream.specs.declared.fault.StreamFault.TheVariants as fault
 use Rattle.mig_stream.specs.PageRecord.{PageRecord}
 use Rattle.mig_stream.specs.Progress.{StreamProgress, is_used_up}
 use Rattle.mig_mem.specs.First.{first_of}
-use Rattle.mig_stream.specs.Items.{id_in, length_in, is_passed, after_type_byte, head_faults, faults, first_fault, after_type, after_kind, after_head, open_records, whole_rounds, end_section, after_item, after}
+use Rattle.mig_stream.specs.Items.{id_in, length_in, is_single, is_start, has_none, flush_mode, flush_ends, flush_rounds, flush_records, eos_mode, is_passed, after_type_byte, head_faults, faults, first_fault, after_type, after_kind, after_head, open_records, whole_rounds, end_section, after_item, after, eos_records, eos_rounds, end_records}
 use Rattle.mig_stream.specs.Reading.{AreFaultless, after_all, Front}
-use Rattle.mig_stream.specs.Later.{HasGrown, IsLater}
+use Rattle.mig_stream.specs.Later.{HasGrown, is_open, IsLater}
 
 -- ---- the lists grow
 
@@ -46,34 +46,83 @@ data Change (old new : StreamProgress) : Type 0 where
   one : (r : PageRecord) → new.blocks ≡ old.blocks → new.rounds ≡ old.rounds → new.records ≡ old.records ++ r ∷ [] → Change old new
   whole : new.blocks ≡ old.blocks → new.rounds ≡ old.rounds ++ old.records ∷ [] → Change old new
 
+-- A mode that was shown stays, and no stream becomes single or stops being so.
+pub record Keeps (old new : Mode) : Type 0 where
+  pub single : is_single new ≡ is_single old
+  pub settled : is_open old ≡ false → new ≡ old
+
+same : {old new : Mode} → new ≡ old → Keeps old new
+same e = record { single = ap is_single e; settled = λ shown. e }
+
+pub eos_keeps : (m : Mode) (in_start : Bool) → Keeps m (eos_mode m in_start)
+eos_keeps Single in_start = same refl
+eos_keeps Main in_start = same refl
+eos_keeps MainBySection in_start = same refl
+eos_keeps MainAsShown true = same refl
+eos_keeps MainAsShown false = record { single = refl; settled = λ e. absurd cc }
+
+pub flush_keeps : (m : Mode) (in_start empty : Bool) → Keeps m (flush_mode m in_start empty)
+flush_keeps Single in_start empty = same refl
+flush_keeps Main in_start empty = same refl
+flush_keeps MainBySection in_start empty = same refl
+flush_keeps MainAsShown true empty = record { single = refl; settled = λ e. absurd cc }
+flush_keeps MainAsShown false true = record { single = refl; settled = λ e. absurd cc }
+flush_keeps MainAsShown false false = record { single = refl; settled = λ e. absurd cc }
+
 record Step (old new : StreamProgress) : Type 0 where
   frame : new.frame ≡ old.frame
-  mode : new.mode ≡ old.mode
+  mode : Keeps old.mode new.mode
   page_size : new.page_size ≡ old.page_size
   limit : new.limit ≡ old.limit
   waiting : new.waiting ≡ old.waiting
   change : Change old new
 
 no_change : (c : StreamProgress) → Step c c
-no_change c = record { frame = refl; mode = refl; page_size = refl; limit = refl; waiting = refl; change = none refl refl refl }
+no_change c = record { frame = refl; mode = same refl; page_size = refl; limit = refl; waiting = refl; change = none refl refl refl }
 
 type_step : (c : StreamProgress) (b : ℕ) → Step c (after_type c b)
 type_step c b =
-    cond_both (eqb b 7) _ _ (Step c) (λ _. record { frame = refl; mode = refl; page_size = refl; limit = refl; waiting = refl; change = none refl refl refl }) (λ _.
-    cond_both (eqb b 1) _ _ (Step c) (λ _. record { frame = refl; mode = refl; page_size = refl; limit = refl; waiting = refl; change = none refl refl refl }) (λ _.
-    cond_both (eqb b 2) _ _ (Step c) (λ _. record { frame = refl; mode = refl; page_size = refl; limit = refl; waiting = refl; change = none refl refl refl }) (λ _.
-    cond_both (eqb b 3) _ _ (Step c) (λ _. record { frame = refl; mode = refl; page_size = refl; limit = refl; waiting = refl; change = none refl refl refl }) (λ _.
-    record { frame = refl; mode = refl; page_size = refl; limit = refl; waiting = refl; change = none refl refl refl }))))
+    cond_both (eqb b 7) _ _ (Step c) (λ _. record { frame = refl; mode = same refl; page_size = refl; limit = refl; waiting = refl; change = none refl refl refl }) (λ _.
+    cond_both (eqb b 1) _ _ (Step c) (λ _. record { frame = refl; mode = same refl; page_size = refl; limit = refl; waiting = refl; change = none refl refl refl }) (λ _.
+    cond_both (eqb b 2) _ _ (Step c) (λ _. record { frame = refl; mode = same refl; page_size = refl; limit = refl; waiting = refl; change = none refl refl refl }) (λ _.
+    cond_both (eqb b 3) _ _ (Step c) (λ _. record { frame = refl; mode = same refl; page_size = refl; limit = refl; waiting = refl; change = none refl refl refl }) (λ _.
+    record { frame = refl; mode = same refl; page_size = refl; limit = refl; waiting = refl; change = none refl refl refl }))))
 
 type_byte_step : (c : StreamProgress) (before : Before) (b : ℕ) → Step c (after_type_byte c before b)
-type_byte_step c before b = cond_both (is_passed c.frame before b) _ _ (Step c) (λ _. record { frame = refl; mode = refl; page_size = refl; limit = refl; waiting = refl; change = none refl refl refl }) (λ _. type_step c b)
+type_byte_step c before b = cond_both (is_passed c.frame before b) _ _ (Step c) (λ _. record { frame = refl; mode = same refl; page_size = refl; limit = refl; waiting = refl; change = none refl refl refl }) (λ _. type_step c b)
+
+eos_change : (c new : StreamProgress) (m : Mode) → new.blocks ≡ c.blocks → new.records ≡ eos_records m c.records → new.rounds ≡ eos_rounds m c.rounds c.records → Change c new
+eos_change c new Single b r s = none b s r
+eos_change c new Main b r s = none b s r
+eos_change c new MainBySection b r s = whole b s
+eos_change c new MainAsShown b r s = whole b s
+
+-- a FLUSH that ends no round has no record before it
+flush_ended : (m : Mode) (in_start : Bool) (records : List PageRecord) → flush_ends m in_start (has_none records) ≡ false → [] ≡ records
+flush_ended Single in_start records e = absurd cc
+flush_ended Main in_start records e = absurd cc
+flush_ended MainBySection in_start records e = absurd cc
+flush_ended MainAsShown true records e = absurd cc
+flush_ended MainAsShown false [] e = refl
+flush_ended MainAsShown false (r ∷ records) e = absurd cc
+
+flush_change : (c new : StreamProgress) (ends : Bool) → (ends ≡ false → [] ≡ c.records) → new.blocks ≡ c.blocks → new.records ≡ [] → new.rounds ≡ flush_rounds ends c.rounds c.records → Change c new
+flush_change c new true empty b r s = whole b s
+flush_change c new false empty b r s = none b s (r ∙ empty refl)
 
 kind_step : (c : StreamProgress) (k : RecordKind) (page : ℕ) → Step c (after_kind c k page)
-kind_step c SizeList page = record { frame = refl; mode = refl; page_size = refl; limit = refl; waiting = refl; change = none refl refl refl }
-kind_step c (Named f) page = record { frame = refl; mode = refl; page_size = refl; limit = refl; waiting = refl; change = none refl refl refl }
-kind_step c (Continued f) page = record { frame = refl; mode = refl; page_size = refl; limit = refl; waiting = refl; change = none refl refl refl }
-kind_step c EndOfSection page = record { frame = refl; mode = refl; page_size = refl; limit = refl; waiting = refl; change = none refl refl refl }
-kind_step c Flush page = record { frame = refl; mode = refl; page_size = refl; limit = refl; waiting = refl; change = whole refl refl }
+kind_step c SizeList page = record { frame = refl; mode = same refl; page_size = refl; limit = refl; waiting = refl; change = none refl refl refl }
+kind_step c (Named f) page = record { frame = refl; mode = same refl; page_size = refl; limit = refl; waiting = refl; change = none refl refl refl }
+kind_step c (Continued f) page = record { frame = refl; mode = same refl; page_size = refl; limit = refl; waiting = refl; change = none refl refl refl }
+kind_step c EndOfSection page = record { frame = refl; mode = eos_keeps c.mode (is_start c.section); page_size = refl; limit = refl; waiting = refl; change = eos_change c (end_records c) c.mode refl refl refl }
+kind_step c Flush page = record {
+  frame = refl;
+  mode = flush_keeps c.mode (is_start c.section) (has_none c.records);
+  page_size = refl;
+  limit = refl;
+  waiting = refl;
+  change = flush_change c (flush_records c) (flush_ends c.mode (is_start c.section) (has_none c.records)) (flush_ended c.mode (is_start c.section) c.records) refl refl refl;
+}
 
 head_step : (c : StreamProgress) (k : Option RecordKind) (page : ℕ) → Step c (after_head c k page)
 head_step c None page = no_change c
@@ -82,21 +131,23 @@ head_step c (Some k) page = kind_step c k page
 footer_change : (c new : StreamProgress) (m : Mode) → new.blocks ≡ c.blocks → new.records ≡ open_records m c.records → new.rounds ≡ whole_rounds m c.rounds c.records → Change c new
 footer_change c new Single b r s = whole b s
 footer_change c new Main b r s = none b s r
+footer_change c new MainBySection b r s = none b s r
+footer_change c new MainAsShown b r s = none b s r
 
 item_step : (c : StreamProgress) (d : Due) (item : List ℕ) → Step c (after_item c d item)
-item_step c FileHeader item = record { frame = refl; mode = refl; page_size = refl; limit = refl; waiting = refl; change = none refl refl refl }
+item_step c FileHeader item = record { frame = refl; mode = same refl; page_size = refl; limit = refl; waiting = refl; change = none refl refl refl }
 item_step c (TypeByte b) item = type_byte_step c b (slice_index item 0)
-item_step c ConfigLength item = record { frame = refl; mode = refl; page_size = refl; limit = refl; waiting = refl; change = none refl refl refl }
-item_step c (ConfigName n) item = record { frame = refl; mode = refl; page_size = refl; limit = refl; waiting = refl; change = none refl refl refl }
-item_step c StartHead item = record { frame = refl; mode = refl; page_size = refl; limit = refl; waiting = refl; change = none refl refl refl }
-item_step c SectionHead item = record { frame = refl; mode = refl; page_size = refl; limit = refl; waiting = refl; change = none refl refl refl }
+item_step c ConfigLength item = record { frame = refl; mode = same refl; page_size = refl; limit = refl; waiting = refl; change = none refl refl refl }
+item_step c (ConfigName n) item = record { frame = refl; mode = same refl; page_size = refl; limit = refl; waiting = refl; change = none refl refl refl }
+item_step c StartHead item = record { frame = refl; mode = same refl; page_size = refl; limit = refl; waiting = refl; change = none refl refl refl }
+item_step c SectionHead item = record { frame = refl; mode = same refl; page_size = refl; limit = refl; waiting = refl; change = none refl refl refl }
 item_step c RecordHead item = head_step c _ _
-item_step c ListEntry item = record { frame = refl; mode = refl; page_size = refl; limit = refl; waiting = refl; change = block _ refl refl refl }
-item_step c (BlockName f page) item = record { frame = refl; mode = refl; page_size = refl; limit = refl; waiting = refl; change = none refl refl refl }
-item_step c (Content Zero place) item = record { frame = refl; mode = refl; page_size = refl; limit = refl; waiting = refl; change = one _ refl refl refl }
-item_step c (Content Normal place) item = record { frame = refl; mode = refl; page_size = refl; limit = refl; waiting = refl; change = one _ refl refl refl }
-item_step c Footer item = record { frame = refl; mode = refl; page_size = refl; limit = refl; waiting = refl; change = footer_change c (end_section c) c.mode refl refl refl }
-item_step c (Passed passed) item = record { frame = refl; mode = refl; page_size = refl; limit = refl; waiting = refl; change = none refl refl refl }
+item_step c ListEntry item = record { frame = refl; mode = same refl; page_size = refl; limit = refl; waiting = refl; change = block _ refl refl refl }
+item_step c (BlockName f page) item = record { frame = refl; mode = same refl; page_size = refl; limit = refl; waiting = refl; change = none refl refl refl }
+item_step c (Content Zero place) item = record { frame = refl; mode = same refl; page_size = refl; limit = refl; waiting = refl; change = one _ refl refl refl }
+item_step c (Content Normal place) item = record { frame = refl; mode = same refl; page_size = refl; limit = refl; waiting = refl; change = one _ refl refl refl }
+item_step c Footer item = record { frame = refl; mode = same refl; page_size = refl; limit = refl; waiting = refl; change = footer_change c (end_section c) c.mode refl refl refl }
+item_step c (Passed passed) item = record { frame = refl; mode = same refl; page_size = refl; limit = refl; waiting = refl; change = none refl refl refl }
 item_step c Nothing item = no_change c
 
 grown_by : (old mid new : StreamProgress) → Change mid new → HasGrown old mid → HasGrown old new
@@ -195,7 +246,8 @@ later_step old mid item l free =
     let b = blocks_by mid new s.change in
     record {
       same_frame = s.frame ∙ l.same_frame;
-      same_mode = s.mode ∙ l.same_mode;
+      same_single = s.mode.single ∙ l.same_single;
+      same_mode = λ shown. s.mode.settled (ap is_open (l.same_mode shown) ∙ shown) ∙ l.same_mode shown;
       same_page_size = s.page_size ∙ l.same_page_size;
       same_limit = s.limit ∙ l.same_limit;
       same_waiting = s.waiting ∙ l.same_waiting;
@@ -213,7 +265,7 @@ later_all old mid [] l free = l
 later_all old mid (item ∷ items) l free = later_all old (after mid item) items (later_step old mid item l free.1) free.2
 
 later_self : (c : StreamProgress) → IsLater c c
-later_self c = record { same_frame = refl; same_mode = refl; same_page_size = refl; same_limit = refl; same_waiting = refl; more_blocks = []; has_blocks = sym (append-nil c.blocks); has_grown = same_log c c refl refl; same_table = λ _. (refl, refl) }
+later_self c = record { same_frame = refl; same_single = refl; same_mode = λ shown. refl; same_page_size = refl; same_limit = refl; same_waiting = refl; more_blocks = []; has_blocks = sym (append-nil c.blocks); has_grown = same_log c c refl refl; same_table = λ _. (refl, refl) }
 
 -- A front leads to what is later.
 pub IsLater-front : (c d : StreamProgress) (bytes : List ℕ) → Front c bytes d → IsLater c d

@@ -51,13 +51,13 @@ were_listed checkpoint now e w same_size same_limit same_left same_blocks =
     }
 
 -- what was read to there, field by field
-pub is_back : (c now new : StreamProgress) (checkpoint : Checkpoint) → checkpoint ≡ checkpoint_of c → IsLater c now → new.frame ≡ now.frame → new.mode ≡ now.mode → new.page_size ≡ now.page_size → new.limit ≡ now.limit → new.waiting ≡ now.waiting
+pub is_back : (c now new : StreamProgress) (checkpoint : Checkpoint) → checkpoint ≡ checkpoint_of c → IsLater c now → new.frame ≡ now.frame → new.mode ≡ checkpoint.mode → new.page_size ≡ now.page_size → new.limit ≡ now.limit → new.waiting ≡ now.waiting
     → new.due ≡ checkpoint.due → new.section ≡ checkpoint.section → new.section_id ≡ checkpoint.section_id → new.left ≡ checkpoint.left → new.named ≡ checkpoint.named → new.room ≡ checkpoint.room
     → new.blocks ≡ take checkpoint.blocks now.blocks → new.records ≡ c.records → new.rounds ≡ c.rounds → new ≡ c
 is_back c now new checkpoint is l frame mode page_size limit waiting due section section_id left named room blocks records rounds =
     let back : take checkpoint.blocks now.blocks ≡ c.blocks = ap (λ (m : Checkpoint). take m.blocks now.blocks) is ∙ same_entries c now l in
     ap (λ (x : Frame). record new { frame = x }) (frame ∙ l.same_frame)
-    ∙ ap (λ (x : Mode). record new { frame = c.frame; mode = x }) (mode ∙ l.same_mode)
+    ∙ ap (λ (x : Mode). record new { frame = c.frame; mode = x }) (mode ∙ ap (λ (m : Checkpoint). m.mode) is)
     ∙ ap (λ (x : ℕ). record new { frame = c.frame; mode = c.mode; page_size = x }) (page_size ∙ l.same_page_size)
     ∙ ap (λ (x : ℕ). record new { frame = c.frame; mode = c.mode; page_size = c.page_size; limit = x }) (limit ∙ l.same_limit)
     ∙ ap (λ (x : Option ℕ). record new { frame = c.frame; mode = c.mode; page_size = c.page_size; limit = c.limit; waiting = x }) (waiting ∙ l.same_waiting)

@@ -1,11 +1,11 @@
 -- What is read and waits to be given: no more than there were bytes.
-use Rattle.std.proofs.Common.{◌≡◌, eqb, ℕ, ◌+◌, ◌*◌, ◌<◌, ◌≤◌, List, [], ◌∷◌, length, Option, Some, None, sym, ap, subst, ◌∙◌, arith}
+use Rattle.std.proofs.Common.{◌≡◌, eqb, ℕ, ◌+◌, ◌*◌, ◌<◌, ◌≤◌, List, [], ◌∷◌, length, Option, Some, None, sym, ap, subst, ◌∙◌, arith, Bool, true, false}
 use Rattle.std.specs.Prelude.{slice_index, IfNone}
 use Rattle.std.specs.List.{concat}
 use Rattle.std.proofs.lemmas.List.{length-append}
 use Rattle.std.proofs.lemmas.Bool.{cond_both}
 use Rattle.mig_stream.specs.declared.item.Mode.{Mode}
-use Rattle.mig_stream.specs.declared.item.Mode.TheVariants.{Single, Main}
+use Rattle.mig_stream.specs.declared.item.Mode.TheVariants.{Single, Main, MainBySection, MainAsShown}
 use Rattle.mig_stream.specs.declared.item.Filling.TheVariants.{Zero, Normal}
 use Rattle.mig_stream.specs.declared.item.Before.{Before}
 use Rattle.mig_stream.specs.declared.item.Due.{Due}
@@ -17,7 +17,7 @@ use Rattle.mig_stream.specs.declared.giving.Given.{Given}
 use Rattle.mig_stream.specs.declared.giving.Given.TheVariants.{Records, Section, End}
 use Rattle.mig_stream.specs.PageRecord.{PageRecord}
 use Rattle.mig_stream.specs.Progress.{StreamProgress}
-use Rattle.mig_stream.specs.Items.{is_passed, after_type_byte, size, after_type, after_head, open_records, whole_rounds, after_item, after}
+use Rattle.mig_stream.specs.Items.{is_passed, after_type_byte, size, after_type, after_head, open_records, whole_rounds, after_item, after, eos_records, eos_rounds, is_start, has_none, flush_ends, flush_rounds}
 use Rattle.mig_stream.specs.Reading.{AreFaultless, after_all, Front}
 use Rattle.mig_stream.specs.Taking.{HasTakenTo}
 use Rattle.mig_stream.specs.Giving.{Giver, waiting_in, to_go, left, LeavesLess}
@@ -38,17 +38,29 @@ few_type c byte n =
 few_type_byte : (c : StreamProgress) (before : Before) (byte n : ℕ) → HasFew (waiting_in c) n (after_type_byte c before byte)
 few_type_byte c before byte n = cond_both (is_passed c.frame before byte) _ _ (HasFew (waiting_in c) n) (λ _. omega arith) (λ _. few_type c byte n)
 
+few_eos : (mode : Mode) (rounds : List (List PageRecord)) (records : List PageRecord) → length (eos_rounds mode rounds records) + length (eos_records mode records) ≤ length rounds + length records + 1
+few_eos Single rounds records = omega arith
+few_eos Main rounds records = omega arith
+few_eos MainBySection rounds records = omega (arith, length-append rounds (records ∷ []))
+few_eos MainAsShown rounds records = omega (arith, length-append rounds (records ∷ []))
+
+few_flush : (ends : Bool) (rounds : List (List PageRecord)) (records : List PageRecord) → length (flush_rounds ends rounds records) ≤ length rounds + length records + 1
+few_flush true rounds records = omega (arith, length-append rounds (records ∷ []))
+few_flush false rounds records = omega arith
+
 few_head : (c : StreamProgress) (kind : Option RecordKind) (page n : ℕ) → 1 ≤ n → HasFew (waiting_in c) n (after_head c kind page)
 few_head c None page n some = omega arith
 few_head c (Some SizeList) page n some = omega arith
 few_head c (Some (Named filling)) page n some = omega arith
 few_head c (Some (Continued filling)) page n some = omega arith
-few_head c (Some EndOfSection) page n some = omega arith
-few_head c (Some Flush) page n some = omega (arith, length-append c.rounds (c.records ∷ []))
+few_head c (Some EndOfSection) page n some = omega (arith, some, few_eos c.mode c.rounds c.records)
+few_head c (Some Flush) page n some = omega (arith, some, few_flush (flush_ends c.mode (is_start c.section) (has_none c.records)) c.rounds c.records)
 
 few_footer : (mode : Mode) (rounds : List (List PageRecord)) (records : List PageRecord) → length (whole_rounds mode rounds records) + length (open_records mode records) ≤ length rounds + length records + 1
 few_footer Single rounds records = omega (arith, length-append rounds (records ∷ []))
 few_footer Main rounds records = omega arith
+few_footer MainBySection rounds records = omega arith
+few_footer MainAsShown rounds records = omega arith
 
 -- an item adds one at most, and none if it is empty
 few_item : (c : StreamProgress) (d : Due) (item : List ℕ) → 0 < c.page_size → length item ≡ size c.page_size d item → HasFew (waiting_in c) (length item) (after_item c d item)

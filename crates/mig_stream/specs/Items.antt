@@ -13,7 +13,7 @@ use Rattle.mig_stream.specs.declared.fault.StreamFault.TheVariants as fault
 use Rattle.mig_stream.specs.declared.item.Frame.{Frame}
 use Rattle.mig_stream.specs.declared.item.Frame.TheVariants.{Ram, Machine}
 use Rattle.mig_stream.specs.declared.item.Mode.{Mode}
-use Rattle.mig_stream.specs.declared.item.Mode.TheVariants.{Single, Main}
+use Rattle.mig_stream.specs.declared.item.Mode.TheVariants.{Single, Main, MainBySection, MainAsShown}
 use Rattle.mig_stream.specs.declared.item.Section.{Section}
 use Rattle.mig_stream.specs.declared.item.Section.TheVariants as section
 use Rattle.mig_stream.specs.declared.item.Before.{Before}
@@ -87,6 +87,8 @@ subsection_of name = find (λ subsection. bytes_eq name (subsection_name subsect
 abbrev pub is_single : Mode → Bool
 is_single Single = true
 is_single Main = false
+is_single MainBySection = false
+is_single MainAsShown = false
 
 abbrev pub is_allowed : Before → ℕ → Bool
 is_allowed before.FileHeader byte = byte == configuration_type || byte == section_type section.Start
@@ -258,12 +260,89 @@ behind_passed (Capability others) item = capabilities_due others
 abbrev pub end_round : StreamProgress → StreamProgress
 end_round c = record c { room = c.waiting; records = []; rounds = c.rounds ++ c.records ∷ [] }
 
+abbrev pub is_start : Section → Bool
+is_start section.Start = true
+is_start section.Part = false
+is_start section.End = false
+
+abbrev pub has_none : List PageRecord → Bool
+has_none [] = true
+has_none (r ∷ records) = false
+
+-- What a FLUSH shows, given whether it is in START, and whether the open round has no page record:
+-- FLUSHes end the rounds if one is in START, or is the first record behind START.
+abbrev pub flush_mode : Mode → Bool → Bool → Mode
+flush_mode Single in_start none = Single
+flush_mode Main in_start none = Main
+flush_mode MainBySection in_start none = MainBySection
+flush_mode MainAsShown true none = Main
+flush_mode MainAsShown false true = Main
+flush_mode MainAsShown false false = MainBySection
+
+-- FLUSH ends a round. Only if it is the first record behind START, and shows what ends a round, it
+-- ends none: START's EOS did.
+abbrev pub flush_ends : Mode → Bool → Bool → Bool
+flush_ends Single in_start none = true
+flush_ends Main in_start none = true
+flush_ends MainBySection in_start none = true
+flush_ends MainAsShown true none = true
+flush_ends MainAsShown false true = false
+flush_ends MainAsShown false false = true
+
+abbrev pub flush_rounds : Bool → List (List PageRecord) → List PageRecord → List (List PageRecord)
+flush_rounds true rounds records = rounds ++ records ∷ []
+flush_rounds false rounds records = rounds
+
+abbrev pub flush_records : StreamProgress → StreamProgress
+flush_records c = record c {
+  mode = flush_mode c.mode (is_start c.section) (has_none c.records);
+  room = c.waiting;
+  records = [];
+  rounds = flush_rounds (flush_ends c.mode (is_start c.section) (has_none c.records)) c.rounds c.records;
+}
+
+-- what an EOS shows: behind START, that each EOS ends a round
+abbrev pub eos_mode : Mode → Bool → Mode
+eos_mode Single in_start = Single
+eos_mode Main in_start = Main
+eos_mode MainBySection in_start = MainBySection
+eos_mode MainAsShown true = MainAsShown
+eos_mode MainAsShown false = MainBySection
+
+-- EOS ends the records of a section. In a main stream without FLUSHes it ends a round too.
+abbrev pub eos_room : Mode → Option ℕ → Option ℕ → Option ℕ
+eos_room Single waiting room = room
+eos_room Main waiting room = room
+eos_room MainBySection waiting room = waiting
+eos_room MainAsShown waiting room = waiting
+
+abbrev pub eos_records : Mode → List PageRecord → List PageRecord
+eos_records Single records = records
+eos_records Main records = records
+eos_records MainBySection records = []
+eos_records MainAsShown records = []
+
+abbrev pub eos_rounds : Mode → List (List PageRecord) → List PageRecord → List (List PageRecord)
+eos_rounds Single rounds records = rounds
+eos_rounds Main rounds records = rounds
+eos_rounds MainBySection rounds records = rounds ++ records ∷ []
+eos_rounds MainAsShown rounds records = rounds ++ records ∷ []
+
+abbrev pub end_records : StreamProgress → StreamProgress
+end_records c = record c {
+  mode = eos_mode c.mode (is_start c.section);
+  due = Footer;
+  room = eos_room c.mode c.waiting c.room;
+  records = eos_records c.mode c.records;
+  rounds = eos_rounds c.mode c.rounds c.records;
+}
+
 abbrev pub after_kind : StreamProgress → RecordKind → ℕ → StreamProgress
 after_kind c SizeList page = record c { due = ListEntry; left = Some (page * c.page_size) }
 after_kind c (Named filling) page = record c { due = BlockName filling page }
 after_kind c (Continued filling) page = record c { due = Content filling (place_at (unwrap_or c.named 0) page) }
-after_kind c EndOfSection page = record c { due = Footer }
-after_kind c Flush page = end_round c
+after_kind c EndOfSection page = end_records c
+after_kind c Flush page = flush_records c
 
 abbrev pub after_head : StreamProgress → Option RecordKind → ℕ → StreamProgress
 after_head c None page = c
@@ -290,14 +369,20 @@ abbrev pub open_room : Mode → Option ℕ → Option ℕ → Option ℕ
 open_room mode None room = None
 open_room Single (Some waiting) room = Some waiting
 open_room Main (Some waiting) room = room
+open_room MainBySection (Some waiting) room = room
+open_room MainAsShown (Some waiting) room = room
 
 abbrev pub open_records : Mode → List PageRecord → List PageRecord
 open_records Single records = []
 open_records Main records = records
+open_records MainBySection records = records
+open_records MainAsShown records = records
 
 abbrev pub whole_rounds : Mode → List (List PageRecord) → List PageRecord → List (List PageRecord)
 whole_rounds Single rounds records = rounds ++ records ∷ []
 whole_rounds Main rounds records = rounds
+whole_rounds MainBySection rounds records = rounds
+whole_rounds MainAsShown rounds records = rounds
 
 abbrev pub end_section : StreamProgress → StreamProgress
 end_section c = record c {

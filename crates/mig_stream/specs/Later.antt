@@ -1,15 +1,19 @@
 -- The values that items don't change, so that a reader can go back.
-use Rattle.std.specs.Prelude.{◌≡◌, ◌⊎◌, List, ◌∷◌, ◌++◌, length, true}
+use Rattle.std.specs.Prelude.{◌≡◌, ◌⊎◌, Bool, List, ◌∷◌, ◌++◌, length, true, false}
 use Rattle.mig_mem.specs.RamTable.{Block}
 use Rattle.mig_stream.specs.declared.progress.Checkpoint.{Checkpoint}
+use Rattle.mig_stream.specs.declared.item.Mode.{Mode}
+use Rattle.mig_stream.specs.declared.item.Mode.TheVariants.{Single, Main, MainBySection, MainAsShown}
 use Rattle.mig_stream.specs.PageRecord.{PageRecord}
 use Rattle.mig_stream.specs.Progress.{StreamProgress, is_used_up}
+use Rattle.mig_stream.specs.Items.{is_single}
 use Rattle.mig_stream.specs.Entries.{AreListed}
 use Rattle.mig_stream.specs.Kept.{HasShortPlace}
 
 -- the checkpoint of this progress
 abbrev pub checkpoint_of : StreamProgress → Checkpoint
 checkpoint_of c = record {
+  mode = c.mode;
   due = c.due;
   section = c.section;
   section_id = c.section_id;
@@ -27,10 +31,18 @@ HasGrown old new =
     ((new.rounds ≡ old.rounds) × (more : List PageRecord) × (new.records ≡ old.records ++ more))
     ⊎ ((more : List PageRecord) × (others : List (List PageRecord)) × (new.rounds ≡ old.rounds ++ (old.records ++ more) ∷ others))
 
+-- the stream hasn't shown yet what ends a round
+abbrev pub is_open : Mode → Bool
+is_open Single = false
+is_open Main = false
+is_open MainBySection = false
+is_open MainAsShown = true
+
 -- Items only add to what was read before them, and a complete table stays.
 pub record IsLater (old new : StreamProgress) : Type 0 where
   pub same_frame : new.frame ≡ old.frame
-  pub same_mode : new.mode ≡ old.mode
+  pub same_single : is_single new.mode ≡ is_single old.mode
+  pub same_mode : is_open old.mode ≡ false → new.mode ≡ old.mode
   pub same_page_size : new.page_size ≡ old.page_size
   pub same_limit : new.limit ≡ old.limit
   pub same_waiting : new.waiting ≡ old.waiting

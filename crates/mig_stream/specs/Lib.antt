@@ -15,6 +15,8 @@ pub mod Reader
 pub mod Giving
 pub mod Wanted
 pub mod Law
+pub mod Flushed
+pub mod Shown
 pub mod FaultNumber
 -- The values that reading keeps, and how it goes back. Only private contracts cite these.
 pub mod Taking

@@ -12,7 +12,8 @@ use Rattle.mig_stream.specs.PageRecord.{PageRecord}
 
 pub record StreamProgress : Type 0 where
   -- what isn't in the stream: its frame, its mode, the page size, the limit on the table's total,
-  -- and the most page records of an open round, or None for any number
+  -- and the most page records of an open round, or None for any number; only a mode that the stream
+  -- shows changes, once
   pub frame : Frame
   pub mode : Mode
   pub page_size : ℕ

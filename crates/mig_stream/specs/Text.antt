@@ -1,10 +1,10 @@
 -- The streams, by their format.
-use Rattle.std.specs.Prelude.{◌≡◌, ℕ, ◌+◌, ◌*◌, ◌<◌, ◌≤◌, ◌^◌, Bool, true, false, IsTrue, List, [], ◌∷◌, ◌++◌, length, map, Option, Some, None, IfSome, All, ⊤}
+use Rattle.std.specs.Prelude.{◌≡◌, ℕ, ◌+◌, ◌*◌, ◌<◌, ◌≤◌, ◌^◌, Bool, true, false, ◌||◌, if◌then◌else◌, IsTrue, List, [], ◌∷◌, ◌++◌, length, map, Option, Some, None, IfSome, All, ⊤}
 use Rattle.std.specs.List.{flat_map}
 use Rattle.mig_mem.specs.RamTable.{Block, RamTable, block, total_pages, IsTable}
 use Rattle.mig_mem.specs.Place.{IsPlace}
 use Rattle.mig_stream.specs.declared.item.Mode.{Mode}
-use Rattle.mig_stream.specs.declared.item.Mode.TheVariants.{Single, Main}
+use Rattle.mig_stream.specs.declared.item.Mode.TheVariants.{Single, Main, MainBySection, MainAsShown}
 use Rattle.mig_stream.specs.declared.item.Section.{Section}
 use Rattle.mig_stream.specs.declared.item.Section.TheVariants.{Start, Part, End}
 use Rattle.mig_stream.specs.declared.item.RecordKind.TheVariants.{SizeList, EndOfSection, Flush}
@@ -85,13 +85,43 @@ HasNoFlush [] = ⊤
 HasNoFlush (PageOf continued r ∷ records) = HasNoFlush records
 HasNoFlush (FlushMark ∷ records) = ⊥
 
--- In a single stream each section is a round, without a FLUSH. In a main stream a round ends with
--- each FLUSH, and a FLUSH follows each page record, whatever sections they are in.
-abbrev pub AreRounds : Mode → List (List Record) → List (List PageRecord) → Type 0
-AreRounds Single sections rounds = All HasNoFlush sections × (rounds ≡ map page_records sections)
-AreRounds Main sections rounds =
+-- the records of a section, with a FLUSH after them
+abbrev pub with_flush : List Record → List Record
+with_flush records = records ++ FlushMark ∷ []
+
+-- A round ends with each FLUSH, and a FLUSH follows each page record, whatever sections they are
+-- in.
+abbrev pub AreFlushed : List (List Record) → List (List PageRecord) → Type 0
+AreFlushed sections rounds =
     (groups : List (List Record)) × All HasNoFlush groups
     × (all_records sections ≡ flat_map (λ group. group ++ FlushMark ∷ []) groups) × (rounds ≡ map page_records groups)
+
+-- a FLUSH is one of these records
+abbrev pub has_flush : List Record → Bool
+has_flush [] = false
+has_flush (PageOf continued r ∷ records) = has_flush records
+has_flush (FlushMark ∷ records) = true
+
+-- the first of these sections begins with a FLUSH
+abbrev pub begin_with_flush : List (List Record) → Bool
+begin_with_flush ((FlushMark ∷ records) ∷ others) = true
+begin_with_flush ((PageOf continued r ∷ records) ∷ others) = false
+begin_with_flush ([] ∷ others) = false
+begin_with_flush [] = false
+
+-- START, the first section, has a FLUSH, or the first record behind it is one
+abbrev pub show_flush : List (List Record) → Bool
+show_flush [] = false
+show_flush (start ∷ others) = has_flush start || begin_with_flush others
+
+-- In a single stream each section is a round, without a FLUSH. In a main stream each FLUSH ends a
+-- round. If each EOS ends one too, the rounds are those of the same sections with a FLUSH before
+-- each EOS. The stream may show which of both it is.
+abbrev pub AreRounds : Mode → List (List Record) → List (List PageRecord) → Type 0
+AreRounds Single sections rounds = All HasNoFlush sections × (rounds ≡ map page_records sections)
+AreRounds Main sections rounds = AreFlushed sections rounds
+AreRounds MainBySection sections rounds = AreFlushed (map with_flush sections) rounds
+AreRounds MainAsShown sections rounds = AreFlushed (if show_flush sections then sections else map with_flush sections) rounds
 
 -- ---- the size list
 

@@ -12,6 +12,16 @@ pub enum Mode {
     /// The main stream of multifd: a round ends with each FLUSH, and its other pages are on the
     /// channels.
     Main,
+    /// The main stream of multifd as QEMU writes it with `multifd-flush-after-each-section`, which
+    /// machine types of 8.0 and older have: a round ends with each EOS too, before the footer of its
+    /// section.
+    MainBySection,
+    /// The main stream of multifd, which shows by its first FLUSH or EOS what ends a round. With a
+    /// FLUSH in START it is as `Main`. Otherwise START's EOS ends the first round. If a FLUSH is the
+    /// first record behind START, as the senders of this project write it, it only shows that FLUSHes
+    /// end the rounds from there on. If the first one is a page record or an EOS, the stream is as
+    /// `MainBySection`.
+    MainAsShown,
 }
 
 /// The sections that a stream has in addition to RAM's.

@@ -8,7 +8,7 @@ ghost use Rattle.mig_mem.specs.PageSize.{IsPageSize};
 ghost use Rattle.mig_stream.specs.declared.item.Due.TheVariants as due;
 ghost use Rattle.mig_stream.specs.declared.item.RecordKind.TheVariants as kind;
 ghost use Rattle.mig_stream.specs.declared.item.Filling.TheVariants as filling;
-ghost use Rattle.mig_stream.specs.Items.{is_allowed, is_passed, closes, passed_size, passed_by, is_passed_command, behind_command, subsection_of, body_of, capabilities_due, behind_footer, record_kind, end_round, is_full, less_room, open_room};
+ghost use Rattle.mig_stream.specs.Items.{is_allowed, is_passed, closes, passed_size, passed_by, is_passed_command, behind_command, subsection_of, body_of, capabilities_due, behind_footer, record_kind, end_round, is_start, flush_mode, flush_ends, flush_records, eos_mode, is_full, less_room, open_room};
 ghost use Rattle.std.specs.List.{list_any};
 ghost use Rattle.std.specs.Str.{bytes_eq};
 ghost use Rattle.mig_stream.specs.Format.{layout_capabilities};
@@ -63,7 +63,7 @@ impl<'a, A: Allocator> Progress<'a, A> {
             self.due = Due::Passed(passed_by(before, byte));
             return Ok(());
         }
-        if byte == QEMU_VM_EOF && self.mode == Mode::Main && self.records.len() != 0 {
+        if byte == QEMU_VM_EOF && self.mode != Mode::Single && self.records.len() != 0 {
             return Err(Stop::Fault(StreamFault::Tail));
         }
         match byte {
@@ -155,19 +155,6 @@ impl<'a, A: Allocator> Progress<'a, A> {
         Ok(())
     }
 
-    fn end_of_section(&mut self, page: u64) -> Result<(), Stop>
-        ensures { TakesHead self.old kind.EndOfSection page self.new result }
-    {
-        if self.entries.left().is_none() {
-            return Err(Stop::Fault(StreamFault::SizePlace));
-        }
-        if page != 0 {
-            return Err(Stop::Fault(StreamFault::OffsetOut));
-        }
-        self.due = Due::Footer;
-        Ok(())
-    }
-
     fn named(&mut self, filling: Filling, page: u64) -> Result<(), Stop>
         ensures { TakesHead self.old (kind.Named filling) page self.new result }
     {
@@ -250,7 +237,43 @@ impl<'a, A: Allocator + Copy> Progress<'a, A> {
         if page != 0 {
             return Err(Stop::Fault(StreamFault::OffsetOut));
         }
-        self.end_round()?;
+        self.flush_records()?;
+        Ok(())
+    }
+
+    // Ends the open round by a FLUSH, or takes the FLUSH as a mark that shows what ends a round. An
+    // `Err` changes nothing.
+    fn flush_records(&mut self) -> Result<(), NoMemory>
+        ensures ok { OnOk result (self.new ≡ flush_records self.old) }
+        ensures err { OnErr result (self.new ≡ self.old) }
+    {
+        let in_start = is_start(self.section);
+        let none = self.records.is_empty();
+        let mode = flush_mode(self.mode, in_start, none);
+        if flush_ends(self.mode, in_start, none) {
+            self.end_round()?;
+        } else {
+            self.room = self.waiting;
+        }
+        self.mode = mode;
+        Ok(())
+    }
+
+    fn end_of_section(&mut self, page: u64) -> Result<(), Stop>
+        ensures { TakesHead self.old kind.EndOfSection page self.new result }
+    {
+        if self.entries.left().is_none() {
+            return Err(Stop::Fault(StreamFault::SizePlace));
+        }
+        if page != 0 {
+            return Err(Stop::Fault(StreamFault::OffsetOut));
+        }
+        match self.mode {
+            Mode::MainBySection | Mode::MainAsShown => self.end_round()?,
+            Mode::Single | Mode::Main => {}
+        }
+        self.mode = eos_mode(self.mode, is_start(self.section));
+        self.due = Due::Footer;
         Ok(())
     }
 
@@ -335,7 +358,7 @@ impl<'a, A: Allocator + Copy> Progress<'a, A> {
             return Err(Stop::Fault(StreamFault::Footer));
         }
         let closes = closes(self.frame, self.section);
-        if closes && self.mode == Mode::Main && self.records.len() != 0 {
+        if closes && self.mode != Mode::Single && self.records.len() != 0 {
             return Err(Stop::Fault(StreamFault::Tail));
         }
         if self.mode == Mode::Single {
@@ -556,6 +579,47 @@ pub(crate) fn is_full(room: Option<u64>) -> bool
     }
 }
 
+fn is_start(section: Section) -> bool
+    ensures { result ≡ is_start section }
+{
+    match section {
+        Section::Start => true,
+        Section::Part | Section::End => false,
+    }
+}
+
+// Returns the mode that a FLUSH shows, in START or behind it, given whether the open round has no
+// page record.
+fn flush_mode(mode: Mode, in_start: bool, none: bool) -> Mode
+    ensures { result ≡ flush_mode mode in_start none }
+{
+    match mode {
+        Mode::MainAsShown if in_start || none => Mode::Main,
+        Mode::MainAsShown => Mode::MainBySection,
+        Mode::Single | Mode::Main | Mode::MainBySection => mode,
+    }
+}
+
+// Returns whether that FLUSH ends a round.
+fn flush_ends(mode: Mode, in_start: bool, none: bool) -> bool
+    ensures { result ≡ flush_ends mode in_start none }
+{
+    match mode {
+        Mode::MainAsShown => in_start || !none,
+        Mode::Single | Mode::Main | Mode::MainBySection => true,
+    }
+}
+
+// Returns the mode that an EOS shows, in START or behind it.
+fn eos_mode(mode: Mode, in_start: bool) -> Mode
+    ensures { result ≡ eos_mode mode in_start }
+{
+    match mode {
+        Mode::MainAsShown if !in_start => Mode::MainBySection,
+        _ => mode,
+    }
+}
+
 // Returns the room for page records after a footer: that of a main stream's round stays.
 fn open_room(mode: Mode, waiting: Option<u64>, room: Option<u64>) -> Option<u64>
     ensures { result ≡ open_room mode waiting room }
@@ -563,7 +627,7 @@ fn open_room(mode: Mode, waiting: Option<u64>, room: Option<u64>) -> Option<u64>
     match (waiting, mode) {
         (None, _) => None,
         (Some(waiting), Mode::Single) => Some(waiting),
-        (Some(_), Mode::Main) => room,
+        (Some(_), Mode::Main | Mode::MainBySection | Mode::MainAsShown) => room,
     }
 }
 

@@ -6,6 +6,8 @@
 
 ghost use Rattle.mig_stream.specs.MachineWritten.{MachineSinglesAreTexts, MachineMainsAreTexts, WrittenIsClosed, ConfiguredIsWritten, ConfiguredIsClosed};
 ghost use Rattle.mig_stream.specs.Law.{HasOneReading, SpelledIsRead, ReadIsSpelled, ClosedIsText, MachineClosedIsText, HasOneText, SinglesAreTexts, MainsAreTexts, RecordsStandForPages, ReadingsKeepLimits, LongerTextsStay};
+ghost use Rattle.mig_stream.specs.Flushed.{SectionsAreFlushed, SectionsHaveNoTail, SectionsAreMore};
+ghost use Rattle.mig_stream.specs.Shown.{ShownIsOneOfBoth, MachineShownIsOneOfBoth, FlushIsShown, MachineFlushIsShown, EosIsShown, MachineEosIsShown};
 ghost use Rattle.mig_stream.specs.Law.{IsValidUpToOnePlace, LongerTextsStayValid, ClosedIsValid, BadIsValidBefore};
 
 /// Bytes have exactly one reading. So every reader of them, in any pieces, finds the same table,
@@ -89,4 +91,27 @@ pub fn configured_is_written()
     ensures open_end { ConfiguredIsWritten }
     ensures closed_end { ConfiguredIsClosed }
     ensures no_name { WrittenIsClosed }
+{}
+
+/// A main stream of `Mode::MainBySection` is read as the same stream with a FLUSH before each EOS is
+/// read with `Mode::Main`: its table, its rounds and its state are the same. It is valid up to the
+/// same item. No page record in it is without the end of its round, so `Tail` isn't its fault. A
+/// stream that is closed in both modes has at least two rounds more in `Mode::MainBySection`, so no
+/// channels belong to it in both.
+pub fn sections_are_flushed()
+    ensures flushed { SectionsAreFlushed }
+    ensures tail { SectionsHaveNoTail }
+    ensures more { SectionsAreMore }
+{}
+
+/// A main stream of `Mode::MainAsShown` is one of `Mode::Main` or of `Mode::MainBySection`, with the
+/// same table and rounds. One of `Mode::Main` is one of `Mode::MainAsShown`, if START has a FLUSH or
+/// the first record behind START is one. One of `Mode::MainBySection` is, if neither is so.
+pub fn shown_is_one_of_both()
+    ensures one { ShownIsOneOfBoth }
+    ensures machine_one { MachineShownIsOneOfBoth }
+    ensures flush { FlushIsShown }
+    ensures machine_flush { MachineFlushIsShown }
+    ensures eos { EosIsShown }
+    ensures machine_eos { MachineEosIsShown }
 {}

@@ -80,6 +80,7 @@ impl<'a, A: Allocator> Model for Progress<'a, A> {
 /// How far a stream had been read, to go back to. The lists of the progress only grow.
 #[derive(Clone, Copy)]
 pub(crate) struct Checkpoint {
+    mode: Mode,
     due: Due,
     section: Section,
     section_id: u32,
@@ -339,6 +340,7 @@ impl<'a, A: Allocator> Progress<'a, A> {
         ensures short { HasShortPlace self.now.due }
     {
         Checkpoint {
+            mode: self.mode,
             due: self.due,
             section: self.section,
             section_id: self.section_id,
@@ -356,6 +358,7 @@ impl<'a, A: Allocator> Progress<'a, A> {
         requires { WasSaved checkpoint self.old }
         ensures { (c : StreamProgress) → checkpoint ≡ checkpoint_of c → IsLater c self.old → self.new ≡ c }
     {
+        self.mode = checkpoint.mode;
         self.due = checkpoint.due;
         self.section = checkpoint.section;
         self.section_id = checkpoint.section_id;

@@ -4,6 +4,7 @@
 ghost use Rattle.std.specs.Prelude.{◌≡◌, ◌<◌, ◌^◌, ◌++◌, [], ◌∷◌, length, take, None, Some, IfSome, IfOk, OnOk, OnErr, vec_len, vec_capacity};
 ghost use Rattle.std.specs.Option.{option_copied};
 ghost use Rattle.mig_stream.specs.Kept.{bytes_of, buffers_of_records, record_in, IsHeld, IsShort, records_after, AreHeldAfter};
+ghost use Rattle.mig_stream.specs.Items.{has_none};
 ghost use Rattle.mig_stream.specs.Round.{record_at, AreWhole};
 
 use crate::piece::Piece;
@@ -77,6 +78,13 @@ impl<'a, A: Allocator> Records<'a, A> {
         ensures { result ≡ length self.now }
     {
         self.items.len()
+    }
+
+    /// Returns whether there are no records.
+    pub(crate) fn is_empty(&self) -> bool
+        ensures { result ≡ has_none self.now }
+    {
+        self.len() == 0
     }
 
     /// Keeps the first `n` records alone.

@@ -1,8 +1,9 @@
-use Rattle.std.proofs.Common.{ℕ, ◌≡◌, ◌∙◌, Option, length, replicate, arith, ap}
+use Rattle.std.proofs.Common.{ℕ, ◌≡◌, ◌∙◌, Option, length, replicate, arith, ap, subst}
 use Rattle.std.proofs.lemmas.Result.{IfOk-weaker, IfErr-weaker}
-use Rattle.mig_stream.specs.declared.item.Mode.TheVariants.{Main}
+use Rattle.mig_single_load.specs.Settings.{mode_of}
 use Rattle.mig_stream.specs.Reading.{Settings, settings, in_frame, with_waiting}
-use Rattle.mig_stream.specs.Reader.{nothing_yet, with_piece}
+use Rattle.mig_stream.specs.declared.item.Mode.{Mode}
+use Rattle.mig_stream.specs.Reader.{nothing_yet, with_piece, over, Stands}
 use Rattle.mig_relay.specs.Relayed.{Load, IsLoadOf, Begins}
 use Rattle.mig_relay.proofs.RelayAnswers.{none_received, answers_without, load_of_relay, begins_load}
 use Rattle.mig_relay.proofs.relayed.begin.Goals as goal
@@ -22,8 +23,9 @@ returns-in_default-starts-clause-received g c = rw c.without_memory-in_default-s
 pub with_table-requires : goal.with_table-requires
 with_table-requires g c =
     let l = load_of_relay c.args.settings c.args.main.now c.args.collector.now c.page_size-page_size.ensures.relay in
-    let read : ℕ → Option ℕ → Settings = λ m w. with_waiting w (in_frame c.args.settings.frame (settings Main m c.args.settings.limit)) in
-    let stands = c.end.ensures.stands (read c.page_size-page_size.result c.waiting-waiting.result) (with_piece c.args.main.now nothing_yet) c.in-Ok.ensures.stands in
+    let read : Mode → Settings = λ e. with_waiting c.waiting-waiting.result (in_frame c.args.settings.frame (settings e c.page_size-page_size.result c.args.settings.limit)) in
+    let read_so = c.end.ensures.stands (read c.main_mode.result) (with_piece c.args.main.now nothing_yet) c.in-Ok.ensures.stands in
+    let stands : Stands (read (mode_of c.args.settings.round_end)) (over (with_piece c.args.main.now nothing_yet)) c.end.new.self = subst (λ (e : Mode). Stands (read e) (over (with_piece c.args.main.now nothing_yet)) c.end.new.self) c.main_mode.ensures read_so in
     let places : c.in-Ok-starts.places.items ≡ replicate (length c.args.collector.now) 0 = c.in-Ok-starts.ensures ∙ ap (λ (m : ℕ). replicate m 0) c.len.ensures in (
       l.0,
       rw places (begins_load c.args.settings c.args.main.now c.args.collector.now c.end.new.self l.0 c.page_size-page_size.result c.waiting-waiting.result l.1
@@ -43,8 +45,9 @@ returns-in_default-starts-clause-some g c = load_of_relay c.args.settings c.args
 begun : (g : _) (c : goal.After-with_table g) (l : Load) → IsLoadOf c.args.settings c.args.main.now c.args.collector.now l
     → Begins l c.end.new.self c.in-Ok-starts.places.items c.args.collector.now
 begun g c l is =
-    let read : ℕ → Option ℕ → Settings = λ m w. with_waiting w (in_frame c.args.settings.frame (settings Main m c.args.settings.limit)) in
-    let stands = c.end.ensures.stands (read c.page_size-page_size.result c.waiting-waiting.result) (with_piece c.args.main.now nothing_yet) c.in-Ok.ensures.stands in
+    let read : Mode → Settings = λ e. with_waiting c.waiting-waiting.result (in_frame c.args.settings.frame (settings e c.page_size-page_size.result c.args.settings.limit)) in
+    let read_so = c.end.ensures.stands (read c.main_mode.result) (with_piece c.args.main.now nothing_yet) c.in-Ok.ensures.stands in
+    let stands : Stands (read (mode_of c.args.settings.round_end)) (over (with_piece c.args.main.now nothing_yet)) c.end.new.self = subst (λ (e : Mode). Stands (read e) (over (with_piece c.args.main.now nothing_yet)) c.end.new.self) c.main_mode.ensures read_so in
     let places : c.in-Ok-starts.places.items ≡ replicate (length c.args.collector.now) 0 = c.in-Ok-starts.ensures ∙ ap (λ (m : ℕ). replicate m 0) c.len.ensures in
     rw places (begins_load c.args.settings c.args.main.now c.args.collector.now c.end.new.self l c.page_size-page_size.result c.waiting-waiting.result is
     c.page_size-page_size.ensures.value c.waiting-waiting.ensures stands (omega arith))

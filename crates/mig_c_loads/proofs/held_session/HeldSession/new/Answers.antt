@@ -7,7 +7,7 @@ use Rattle.mig_answer.specs.Texts.{no_texts}
 use Rattle.mig_session.specs.Sources.{Counts}
 use Rattle.mig_session.specs.Session.{no_count}
 use Rattle.mig_in_place.specs.Session.{StandsFor}
-use Rattle.mig_c_loads.specs.Frames.{load_settings}
+use Rattle.mig_c_loads.specs.Frames.{load_settings, with_round_end}
 use Rattle.mig_c_loads.proofs.held_session.HeldSession.new.Goals as goal
 
 pub returns : goal.returns
@@ -18,6 +18,6 @@ returns c =
       as_many = ap (λ (n : Counts). length n.channels) c.in_ok-session.ensures.counts ∙ length-replicate c.args.channels no_count;
       stands = λ blocks fit.
           let first : Image = lent_image c.args.table.now blocks in
-          subst (λ (n : ℕ). StandsFor (load_settings n (2 ^ 40) c.args.waiting c.args.frame) c.args.uuid.now first (no_texts c.args.channels) first session) c.page_size.ensures
+          subst (λ (n : ℕ). StandsFor (with_round_end (load_settings n (2 ^ 40) c.args.waiting c.args.frame) c.args.round_end) c.args.uuid.now first (no_texts c.args.channels) first session) c.page_size.ensures
           (c.in_ok-session.ensures.stands first (lent_is_image c.args.table.now blocks fit) refl);
     }
