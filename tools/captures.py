@@ -60,9 +60,6 @@ def expected_fault(known):
     # a device's section, or another START, before RAM's END
     if any(item.split()[0] in ("FULL", "START") for item in known.get("before", []) + known.get("between", [])):
         return 13
-    # QEMU 7.2 writes no FLUSH: no round of the main stream ends after its page records
-    if known.get("multifd") and known["qemu"].startswith("7."):
-        return 33
     return None
 
 

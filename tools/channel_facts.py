@@ -15,16 +15,18 @@ PER_PACKET = 512 * 1024 // PAGE
 HEAD = 64 + 256 + 8 * PER_PACKET
 
 
-def page_records(reader, found, rounds):
-    """Reads the records of a section up to EOS; a FLUSH ends a round."""
+def page_records(reader, found, records):
+    """Reads the records of a section up to EOS: its page records, and as marks FLUSH and EOS."""
     while True:
         head = reader.number(8)
         flags, offset = head & (PAGE - 1), head & ~(PAGE - 1)
+        if flags in (FLUSH, EOS):
+            records.append(flags)
         if flags == EOS:
             return
         if flags == FLUSH:
-            rounds.append([])
-        elif flags == SIZES:
+            continue
+        if flags == SIZES:
             while offset:
                 name = reader.text()
                 found["memory"][name] = bytearray(reader.number(8))
@@ -36,14 +38,14 @@ def page_records(reader, found, rounds):
             zero = flags & ~CONTINUE == ZERO
             assert zero or flags & ~CONTINUE == NORMAL
             content = bytes(reader.number(1)) if zero else reader.take(PAGE)
-            rounds[-1].append((found["last"], offset, None if zero else content))
+            records.append((found["last"], offset, None if zero else content))
 
 
-def stream_rounds(data, found):
-    """The records of a stream up to each FLUSH, and those after the last one; and what stands between the sections."""
+def stream_records(data, found):
+    """The page records and marks of a stream, and what stands between the sections."""
     reader = stream_facts.Reader(data, 0)
     assert reader.take(8) == b"QEVM\0\0\0\3"
-    rounds, kind, sections = [[]], 0, 0
+    records, kind, sections = [], 0, 0
     while kind != 3:
         at, kind = reader.at, reader.number(1)
         if kind == 7:
@@ -56,19 +58,24 @@ def stream_rounds(data, found):
             assert kind in (1, 2, 3) and number == found.setdefault("number", number)
             if kind == 1:
                 assert reader.text() == "ram" and reader.take(8) == b"\0\0\0\0\0\0\0\4" and not sections
-            page_records(reader, found, rounds)
+            page_records(reader, found, records)
             assert reader.take(5) == b"\x7e" + number
             sections += 1
     found["end"] = reader.at
+    return records
+
+
+def stream_rounds(data, found):
+    """The records of a main stream up to each mark, and those after the last one. Where QEMU wrote
+    no FLUSH, as for machine types of 8.0 and older, each EOS is one."""
+    records, rounds = stream_records(data, found), [[]]
+    mark = FLUSH if FLUSH in records else EOS
+    for it in records:
+        if it == mark:
+            rounds.append([])
+        elif it not in (FLUSH, EOS):
+            rounds[-1].append(it)
     return rounds
-
-
-def pages_of(data):
-    """The offsets of the pages that a single stream has of each block."""
-    found, pages = {"memory": {}, "counts": {}, "notes": []}, {}
-    for name, offset, _ in stream_rounds(data, found)[0]:
-        pages.setdefault(name, []).append(offset)
-    return pages
 
 
 def channel_rounds(data):

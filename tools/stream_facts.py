@@ -54,6 +54,7 @@ def records(reader, found):
                 length = reader.number(8)
                 found["memory"][name] = bytearray(length)
                 found["counts"][name] = [0, 0]
+                found["pages"][name] = set()
                 total -= length
             continue
         if not flags & CONTINUE:
@@ -68,6 +69,7 @@ def records(reader, found):
         else:
             raise ValueError(f"flags {flags:#x}")
         found["memory"][block][offset:offset + PAGE] = page
+        found["pages"][block].add(offset)
 
 
 def section(reader, kind, found):
@@ -83,11 +85,12 @@ def section(reader, kind, found):
 
 
 def facts(data):
-    """Returns the memory of each block, the records of each, the sections, the notes, and where RAM ends."""
+    """Returns the memory of each block, the records of each and the offsets of their pages, the sections,
+    the notes, and where RAM ends."""
     before = libvirt_len(data)
     reader = Reader(data, before)
     assert reader.take(8) == b"QEVM\0\0\0\3"
-    found = {"before": before, "memory": {}, "counts": {}, "sections": 0, "notes": []}
+    found = {"before": before, "memory": {}, "counts": {}, "pages": {}, "sections": 0, "notes": []}
     kind = 0
     while kind != 3:
         at = reader.at - before

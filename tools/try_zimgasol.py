@@ -29,7 +29,7 @@ BUILT = TOP / "crates" / "zimgasol_cli" / "out" / "zimgasol_cli"
 DATA = TOP / "runs" / "zimgasol" / "data"
 SECONDS = 60
 WHOLE = ("guest.sav: complete: sections 3, blocks 1, memory 131072 bytes, RAM ends at byte 86395, "
-         "1011 bytes follow\n")
+         "devices: whole, 1011 bytes\n")
 PIPED = WHOLE.replace("guest.sav", "-")
 CUT = ("byte 40000 (section 2, PART, block \"ram\"): fault 34: the stream ends early; "
        "the file was cut, or the save didn't come to its end\n")
@@ -41,6 +41,8 @@ NOTHING = "No such file or directory (os error 2)\n"
 EXISTS = "is there already; `--replace` replaces it\n"
 UNPLAIN = "is no plain file, and isn't replaced\n"
 OUTPUT = "zimgasol: the output: "
+PACKED = ("zstd.save: libvirt compressed the stream with zstd; `tail -c +93 FILE | zstd -dc | zimgasol verify -` "
+          "reads it, or save it with save_image_format = \"raw\"\n")
 SAVE = "zimgasol save --block ram=memory/ram.bin"
 LINKED = "ln -s $PWD/beside"
 # ids that would lead out of a folder, hide a file or an option, or be too long for a name
@@ -153,10 +155,9 @@ PLACES = (
      " rmdir .zimgasol-compare.partial", ".zimgasol-compare.partial: is there already: another `compare` runs, or was "
      "killed; then remove it\n3\n", 0),
     ("libvirt's files", "zimgasol verify never.save", "never.save: libvirt never completed this save\n", 1),
-    ("", "zimgasol extract zstd.save zstd; echo $?; ls zstd", "zstd.save: libvirt compressed the stream with zstd; save it "
-     "with save_image_format = \"raw\"\n1\nls: cannot access 'zstd': No such file or directory\n", 2),
-    ("", "zimgasol compare memory zstd.save; ls -A | grep -c compare", "zstd.save: libvirt compressed the stream with zstd; "
-     "save it with save_image_format = \"raw\"\n0\n", 1),
+    ("", "zimgasol extract zstd.save zstd; echo $?; ls zstd",
+     f"{PACKED}1\nls: cannot access 'zstd': No such file or directory\n", 2),
+    ("", "zimgasol compare memory zstd.save; ls -A | grep -c compare", f"{PACKED}0\n", 1),
     ("a program that is killed", "bash -c '(head -c 300000 noise.sav; sleep 1.5) |"
      " timeout -s KILL 0.7 zimgasol extract - killed' 2> /dev/null; ls killed;"
      " zimgasol extract guest.sav killed; ls killed", f"ram.bin.partial\n{WHOLE}blocks.json\nram.bin\n", 0),

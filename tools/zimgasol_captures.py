@@ -14,6 +14,7 @@ from pathlib import Path
 
 import channel_facts
 import stream_facts
+import tail_facts
 
 SECONDS = 300
 COMMANDS = {1: "OPEN_RETURN_PATH", 2: "PING", 3: "POSTCOPY_ADVISE", 11: "SWITCHOVER_START"}
@@ -43,7 +44,7 @@ def facts_of(capture):
         found = channel_facts.facts(data, [it.read_bytes() for it in capture.channels])
     else:
         found = stream_facts.facts(data)
-    found["bytes"] = len(data)
+    found["bytes"], found["tail"] = len(data), data[found["end"]:]
     sizes = [[name, len(it)] for name, it in found["memory"].items()]
     if capture.blocks:
         expect("NAME.blocks, blocks", capture.blocks, sizes)
@@ -87,20 +88,19 @@ def whole_line(name, found, capture):
         ident = f", UUID {uuid.UUID(bytes=found['uuid'])}"
     else:
         counts, ident = f"sections {found['sections']}", ""
-    after = found["bytes"] - found["end"]
     return (f"{name}: complete: {counts}, blocks {len(found['memory'])}, memory {memory} bytes{ident}, "
-            f"RAM ends at byte {found['end']}, {after} bytes follow\n")
+            f"RAM ends at byte {found['end']}, {tail_facts.line(found['tail'])}\n")
 
 
 def listing(name, found, capture):
     """The JSON of `inspect`, but for the channels and libvirt's header."""
     blocks = [{"id": it, "bytes": len(memory), "pages": found["counts"][it][0],
                "zero_pages": found["counts"][it][1],
-               "pages_without_record": max(0, len(memory) // 4096 - sum(found["counts"][it]))}
+               "pages_without_record": len(memory) // 4096 - len(set(found["pages"].get(it, ())))}
               for it, memory in found["memory"].items()]
     listed = {"file": name, "bytes": found["bytes"], "page_size": 4096, "blocks": blocks,
               "notes": [note_value(it) for it in found["notes"]], "end": found["end"],
-              "complete": True, "fault": None}
+              "complete": True, "fault": None, **tail_facts.value(found["tail"])}
     if capture.channels:
         listed.update(rounds=found["rounds"], uuid=str(uuid.UUID(bytes=found["uuid"])))
     else:

@@ -17,6 +17,7 @@ from pathlib import Path
 
 import channel_facts
 import stream_facts
+import tail_facts
 
 TOP = Path(__file__).resolve().parent.parent
 # In the order in which their examples run.
@@ -27,6 +28,34 @@ SIX = " ".join(f"--block {it}=half.bin" for it in "abcdef")
 EXISTS = "is there already; `--replace` replaces it"
 CUT = "fault 34: the stream ends early; the file was cut, or the save didn't come to its end"
 UUID = "00112233-4455-6677-8899-aabbccddeeff"
+# What may be the cause that pages have no record.
+CHANGES = ("it may be the changes since another stream, which `extract --since` applies; "
+           "`--partial` takes it as it is")
+NOT_SENT = ("RAM isn't in the stream: a `cpr-transfer` migration and shared memory (`x-ignore-shared`) "
+            "keep it outside")
+NOT_RECORDED = ("RAM isn't in the stream: its pages may have gone over multifd's channels "
+                "(`--channel` names each), or it is shared memory")
+NO_CONTENTS = ("all records are of pages of zeros: the other pages may have gone over multifd's channels "
+               "(`--channel` names each)")
+NOT_SHARED = ("a block without any record may be shared memory (`x-ignore-shared`), or virtio-mem with nothing "
+              "plugged; `--partial` takes the stream as it is")
+NOT_PLUGGED = ("they may be unplugged memory of virtio-mem, free pages of virtio-balloon, or the stream the changes "
+               "since another one; `--partial` takes it as it is")
+NOT_READ = "a device that saves its state before RAM's END, which isn't read"
+LIBVIRT_HEAD = "LibvirtQemudSave" + r"\x02\0\0\0\x05\0\0\0\x01\0\0\0\x01\0\0\0"
+ADVISE = r"\x08\0\x03\0\x10\0\0\0\0\0\x20\0\0\0\0\0\0\0\0\x10\0"
+HUGE = ("the size list has a block of huge pages after POSTCOPY_ADVISE: save with `postcopy-ram` off")
+WHOLE = "complete: sections 3, blocks 1, memory 131072 bytes, RAM ends at byte 86395, devices: whole, 1011 bytes"
+TAIL_CUT = "the stream ends early; the file was cut, or the save didn't come to its end"
+UNKNOWN = "no valid description follows, so it isn't known whether their state is complete"
+DESCRIPTION = "description of the devices"
+RAM_ONLY = "`--ram-only` verifies RAM alone"
+WHOLE_RAM = "complete: sections 3, blocks 1, memory 131072 bytes, RAM ends at byte 86395"
+NO_MAGIC = "this is no migration stream of QEMU's; if it is compressed, pipe it through its unpacker into `-`"
+NO_STREAM = f"byte 0 (before section 1): fault 11: the stream doesn't begin with QEVM; {NO_MAGIC}"
+NOTHING_READ = ["page size 4096", "sections 0", "read up to byte 0"]
+TOTAL = "byte 34 (section 1, START): fault 20: RAM total is 0 or above the limit"
+PAIR = " --channel pair.sav.0 --channel pair.sav.1"
 THREE = "".join(f" --channel three.sav.{i}" for i in (2, 0, 1))
 SHORT = "short/ram.bin: has 65536 bytes, and `blocks.json` lists 131072"
 TWICE = "twice/blocks.json: lists an id twice"
@@ -56,9 +85,11 @@ CASES = [
     ("zimgasol compare guest.sav machine.sav", None),
     ("zimgasol compare guest.sav machine.sav --quiet", ([], 0)),
     ("zimgasol compare six main.sav", (
+        ['main.sav: INCOMPLETE: 20 of 32 pages of block "pc.ram" have no record',
+         f"main.sav: INCOMPLETE: {NO_CONTENTS}"], 1)),
+    ("zimgasol compare six main.sav --partial", (
         [f'block "{it}": only in six' for it in "abcdef"] + ['block "pc.ram": only in main.sav'] +
-        ['main.sav: note: block "pc.ram" has records of at most 12 of its 32 pages; '
-         "the others may have gone over multifd's channels"], 1)),
+        ['main.sav: note: 20 of 32 pages of block "pc.ram" have no record'], 1)),
     ("zimgasol compare memory cut.sav --frame ram", None),
     ("zimgasol compare memory nowhere", (["nowhere: No such file or directory (os error 2)"], 3)),
     ("zimgasol compare - -", (["zimgasol: compare - -: only one of the two can be the standard input"], 2)),
@@ -104,6 +135,136 @@ CASES = [
     ("zimgasol verify one.sav --frame ram --channel one.sav.0", None),
     ("zimgasol extract one.sav both --frame ram --channel one.sav.0 --since day --replace", None),
     ("zimgasol compare both over", None),
+    # ---- pages without a record
+    ("zimgasol verify one.sav --frame ram --channel one.sav.0 --partial", None),
+    ("zimgasol verify one.sav --frame ram --channel one.sav.0 --quiet", (
+        ['one.sav: INCOMPLETE: 16 of 32 pages of block "rom" have no record', f"one.sav: INCOMPLETE: {CHANGES}"], 1)),
+    ("zimgasol inspect one.sav --frame ram --channel one.sav.0", None),
+    ("zimgasol inspect one.sav --frame ram --channel one.sav.0 --json", None),
+    ("zimgasol inspect one.sav --frame ram --channel one.sav.0 --json --partial", None),
+    ("zimgasol extract one.sav gone --frame ram --channel one.sav.0", None),
+    ("zimgasol verify gone/rom.bin", (["gone/rom.bin: No such file or directory (os error 2)"], 3)),
+    ("zimgasol extract one.sav parts --frame ram --channel one.sav.0 --partial", None),
+    ("cat parts/blocks.json", None),
+    ("zimgasol verify main.sav --quiet", (
+        ['main.sav: INCOMPLETE: 20 of 32 pages of block "pc.ram" have no record',
+         f"main.sav: INCOMPLETE: {NO_CONTENTS}"], 1)),
+    ("zimgasol verify main.sav --quiet --partial", (
+        ['main.sav: note: 20 of 32 pages of block "pc.ram" have no record'], 0)),
+    ("zimgasol verify rounds.sav", None),
+    ("zimgasol inspect rounds.sav", None),
+    ("zimgasol inspect rounds.sav --partial", None),
+    ("zimgasol inspect rounds.sav --json", None),
+    ("zimgasol inspect rounds.sav --json --partial", None),
+    ("zimgasol extract rounds.sav gone", None),
+    ("zimgasol verify gone/pc.ram.bin", (["gone/pc.ram.bin: No such file or directory (os error 2)"], 3)),
+    ("zimgasol extract rounds.sav rounds --partial", None),
+    ("cat rounds/blocks.json", None),
+    ("zimgasol verify cpr.sav", (
+        ["cpr.sav: partial: sections 2, blocks 1, memory 4194304 bytes, RAM ends at byte 89, devices: whole, 1011 bytes",
+         """cpr.sav: INCOMPLETE: 1024 of 1024 pages of block "m0" have no record: it isn't in the stream""",
+         f"cpr.sav: INCOMPLETE: {NOT_SENT}"], 1)),
+    ("zimgasol verify persection.sav", (
+        ["persection.sav: partial: sections 3, blocks 1, memory 2097152 bytes, RAM ends at byte 108, devices: whole, 1011 bytes",
+         """persection.sav: INCOMPLETE: 512 of 512 pages of block "ram" have no record: it isn't in the stream""",
+         f"persection.sav: INCOMPLETE: {NOT_RECORDED}"], 1)),
+    ("zimgasol save --block ram=half.bin --block rom=memory/ram.bin --since day --frame machine some.sav", None),
+    ("zimgasol verify some.sav", None),
+    ("zimgasol save --block rom=memory/ram.bin --since day --frame machine some.sav --replace", None),
+    ("zimgasol verify some.sav", None),
+    # (2^40 bytes in a size list, and no page)
+    (r"(head -c 34 guest.sav; printf '\0\0\1\0\0\0\0\4\1a\0\0\1\0\0\0\0\0'; tail -c +55 guest.sav | head -c 13; "
+     r"printf '\3\0\0\0\1'; tail -c +55 guest.sav | head -c 13) > large.sav", ([], 0)),
+    ("zimgasol verify large.sav", (
+        ["""large.sav: INCOMPLETE: 268435456 of 268435456 pages of block "a" have no record: it isn't in the stream""",
+         f"large.sav: INCOMPLETE: {NOT_SENT}"], 1)),
+    # ---- a cut between the size list and the first record
+    ("head -c 56 guest.sav > listed.sav", None),
+    ("zimgasol inspect listed.sav", (
+        ["file listed.sav, 56 bytes", 'machine "none"', "page size 4096",
+         'block "ram" 131072 bytes, 0 pages, 0 zero pages', "sections 0", "read up to byte 54",
+         f"listed.sav: byte 56 (section 1, START): {CUT}"], 1)),
+    ("zimgasol extract listed.sav memory", ([f"listed.sav: byte 56 (section 1, START): {CUT}"], 1)),
+    # ---- what a file is that begins otherwise
+    ("gzip -c guest.sav > guest.gz", ([], 0)),
+    ("zimgasol verify guest.gz", (
+        ["guest.gz: byte 0 (before section 1): fault 11: the stream doesn't begin with QEVM; "
+         "gzip compressed it: `gzip -dc FILE | zimgasol verify -`"], 1)),
+    ("gzip -dc guest.gz | zimgasol verify -", ([f"-: {WHOLE}"], 0)),
+    *((command, wanted) for front, what in (
+        (r"\xfd7zXZ\0\0\4", "xz compressed it: `xz -dc FILE | zimgasol verify -`"),
+        (r"\x28\xb5\x2f\xfd\x24\0\0\0", "zstd compressed it: `zstd -dc FILE | zimgasol verify -`"),
+        (r"\x89LZO\0\x0d\x0a\x1a", "lzop compressed it: `lzop -dc FILE | zimgasol verify -`"),
+        ("BZh91AY&", "bzip2 compressed it: `bzip2 -dc FILE | zimgasol verify -`"),
+        (r"\x16\3\1\2\0\1\0\1", "these are bytes of TLS, which hide the stream: migrate without `tls-creds`"),
+        (r"\x7fELF\2\1\1\0", "this is an ELF file, as `dump-guest-memory` writes it: save by `migrate`"),
+        (r"QFI\xfb\0\0\0\3", "this is a qcow2 image, and a snapshot in it isn't read: save by `migrate`"),
+        ("no stream", "this is no migration stream of QEMU's; if it is compressed, pipe it through its unpacker into `-`"))
+      for command, wanted in (
+        (f"printf '{front}' > other", ([], 0)),
+        ("zimgasol verify other", ([f"other: byte 0 (before section 1): fault 11: the stream doesn't begin with QEVM; {what}"], 1)))),
+    (f"(printf '{LIBVIRT_HEAD}'; head -c 60 /dev/zero; printf '<x/>' ; head -c 1 /dev/zero; gzip -c guest.sav) > packed.save", ([], 0)),
+    ("zimgasol verify packed.save", (
+        ["packed.save: libvirt compressed the stream with gzip; `tail -c +98 FILE | gzip -dc | zimgasol verify -` reads it, "
+         'or save it with save_image_format = "raw"'], 1)),
+    ("tail -c +98 packed.save | gzip -dc | zimgasol verify -", ([f"-: {WHOLE}"], 0)),
+    ("zimgasol compare packed.save memory", (
+        ["packed.save: libvirt compressed the stream with gzip; `tail -c +98 FILE | gzip -dc | zimgasol verify -` reads it, "
+         'or save it with save_image_format = "raw"'], 1)),
+    # ---- sections that aren't RAM's
+    (r"(head -c 17 guest.sav; printf '\4\0\0\0\7\5timer\0\0\0\0\0\0\0\2'; tail -c +18 guest.sav) > device.sav", ([], 0)),
+    ("zimgasol verify device.sav", (
+        ["device.sav: byte 17 (before section 1): fault 13: unexpected section type; "
+         f'the section of "timer": {NOT_READ}'], 1)),
+    (r"(head -c 67 guest.sav; printf '\4\0\0\0\x25\x240000:00:01.0/virtio-mem-device-early\0\0\0\0\0\0\0\1') > device.sav", ([], 0)),
+    ("zimgasol verify device.sav", (
+        ["device.sav: byte 67 (after section 1): fault 13: unexpected section type; "
+         'the section of "0000:00:01.0/virtio-mem-device-early": virtio-mem\'s state before RAM\'s pages, which isn\'t read'], 1)),
+    (r"(head -c 67 guest.sav; printf '\1\0\0\0\2\x0cdirty-bitmap\0\0\0\0\0\0\0\1') > device.sav", ([], 0)),
+    ("zimgasol verify device.sav", (
+        ["device.sav: byte 67 (after section 1): fault 13: unexpected section type; "
+         'the section of "dirty-bitmap": bitmaps of disks, which aren\'t read: save without `dirty-bitmaps`'], 1)),
+    (r"(head -c 86372 guest.sav; printf '\4\0\0\0\3\5timer\0\0\0\0\0\0\0\2') > device.sav", ([], 0)),
+    ("zimgasol verify device.sav", (
+        ["device.sav: byte 86372 (after section 2): fault 13: unexpected section type; "
+         'the section of "timer": RAM has no END before it, as with `background-snapshot`: save without that'], 1)),
+    (r"(head -c 67 guest.sav; printf '\4\0\0\0\3\5ti') > device.sav", ([], 0)),
+    ("zimgasol verify device.sav", (
+        [f"device.sav: byte 67 (after section 1): fault 13: unexpected section type; {NOT_READ}"], 1)),
+    (r"(head -c 67 guest.sav; printf '\4\0\0\0\3\4\x1b[\x22m\0\0\0\0\0\0\0\2') > device.sav", ([], 0)),
+    ("zimgasol verify device.sav", (
+        [f'device.sav: byte 67 (after section 1): fault 13: unexpected section type; the section of "%1B[%22m": {NOT_READ}'], 1)),
+    (r"(head -c 17 guest.sav; printf '\3\0\0\0\5') > device.sav", ([], 0)),
+    ("zimgasol verify device.sav", (
+        [f"device.sav: byte 17 (before section 1): fault 13: unexpected section type; the section with the id 5: {NOT_READ}"], 1)),
+    (r"(head -c 67 guest.sav; printf '\0') > device.sav", ([], 0)),
+    ("zimgasol verify device.sav", (
+        ["device.sav: byte 67 (after section 1): fault 13: unexpected section type; the stream ends before RAM's END"], 1)),
+    ("zimgasol verify guest.sav --frame ram", (
+        ["guest.sav: byte 86372 (after section 2): fault 13: unexpected section type; "
+         "this is a machine's stream, which is read without `--frame ram`"], 1)),
+    (r"(head -c 17 guest.sav; printf '\1\0\0\0\7\x0aspapr/htab\0\0\0\0\0\0\0\1') > device.sav", ([], 0)),
+    ("zimgasol verify device.sav", (
+        [f'device.sav: byte 18 (section 1, START): fault 14: the section isn\'t ram; the section of "spapr/htab": {NOT_READ}'], 1)),
+    (r"(head -c 67 guest.sav; printf '\2\0\0\0\2'; tail -c +68 guest.sav) > device.sav", ([], 0)),
+    ("zimgasol verify device.sav", (
+        [f"device.sav: byte 68 (section 2, PART): fault 17: wrong section id; the section with the id 2: {NOT_READ}"], 1)),
+    # ---- records that aren't read
+    *((command, wanted) for flags, shown, what in (
+        (r"\0\x60", "0x60", "the save used xbzrle, which isn't read: save without it"),
+        (r"\1\0", "0x100", "the save used the capability compress, which isn't read: save without it"),
+        (r"\0\0", "0x0", "the page size may be the other one (`--page`), or the save used mapped-ram"))
+      for command, wanted in (
+        (f"(head -c 72 guest.sav; printf '" + r"\0\0\0\0\0\0" + f"{flags}') > record.sav", ([], 0)),
+        ("zimgasol verify record.sav", (
+            [f"record.sav: byte 72 (section 2, PART): fault 27: unexpected record flags: {shown}; {what}"], 1)))),
+    (f"(head -c 17 guest.sav; printf '{ADVISE}'; tail -c +18 guest.sav | head -c 37; " +
+     r"printf '\0\0\0\0\0\x20\0\0') > huge.sav", ([], 0)),
+    ("zimgasol verify huge.sav", ([f"huge.sav: byte 75 (section 1, START): fault 27: unexpected record flags: 0x0; {HUGE}"], 1)),
+    (f"(head -c 17 guest.sav; printf '{ADVISE}'; tail -c +18 guest.sav | head -c 17; " +
+     r"printf '\0\0\0\0\0\0\x20\4\1a\0\0\0\0\0\0\x10\0\0\0\0\0\0\x20\0\0\1') > huge.sav", ([], 0)),
+    ("zimgasol verify huge.sav", ([f"huge.sav: byte 73 (section 1, START): fault 21: bad block id; {HUGE}"], 1)),
+    # ---- channels
     ("zimgasol verify multi.sav", (
         ["multi.sav: byte 72 (section 2, PART): fault 32: FLUSH in a single stream; "
          "the pages of this stream went over multifd's channels; name each by `--channel`"], 1)),
@@ -119,6 +280,31 @@ CASES = [
     ("zimgasol verify multi.sav --channel multi.sav.0 --channel multi.sav.1 --uuid " + UUID, (
         ["multi.sav.0: byte 0 (hello): fault 37: hello of another UUID; "
          "the channel is of another migration; `--uuid` names the one that is meant"], 1)),
+    # END begins at byte 119; its head has 5 bytes, the record that is put behind it 13, and EOS 8
+    (r"(head -c 124 multi.sav; printf '\0\0\0\0\0\0\0\2\3ram\0'; tail -c +125 multi.sav) > tail.sav", ([], 0)),
+    ("zimgasol verify tail.sav --channel multi.sav.0 --channel multi.sav.1", (
+        ["tail.sav: byte 145 (round 3, section 4, END): fault 33: page record after the last FLUSH; "
+         "QEMU ends each round by a FLUSH or an EOS; this stream has both, and no FLUSH at its end"], 1)),
+    (r"(head -c 72 multi.sav; printf '\0\0\0\0\0\0\0\x60') > record.sav", ([], 0)),
+    ("zimgasol verify record.sav --channel multi.sav.0 --channel multi.sav.1", (
+        ["record.sav: byte 72 (round 2, section 2, PART): fault 27: unexpected record flags: 0x60; "
+         "the save used xbzrle, which isn't read: save without it"], 1)),
+    (r"(head -c 67 multi.sav; printf '\4\0\0\0\7\5timer\0\0\0\0\0\0\0\2') > device.sav", ([], 0)),
+    ("zimgasol verify device.sav --channel multi.sav.0 --channel multi.sav.1", (
+        ["device.sav: byte 67 (round 2, after section 1): fault 13: unexpected section type; "
+         f'the section of "timer": {NOT_READ}'], 1)),
+    *((command, wanted) for flags, shown, what in (
+        ("x02", "0x2", "zlib compressed the pages; migrate with multifd-compression none"),
+        ("x05", "0x5", "zstd compressed the pages; migrate with multifd-compression none"),
+        ("x08", "0x8", "qpl compressed the pages; migrate with multifd-compression none"),
+        ("x10", "0x10", "uadk compressed the pages; migrate with multifd-compression none"),
+        ("x20", "0x20", "qatzip compressed the pages; migrate with multifd-compression none"),
+        ("x40", "0x40", "the packet has the state of a VFIO device, which isn't read"),
+        ("x80", "0x80", "the pages may be compressed; migrate with multifd-compression none"))
+      for command, wanted in (
+        ("(head -c 72 multi.sav.0; printf '" + r"\0\0\0" + f"\\{flags}'; tail -c +77 multi.sav.0) > flags.0", ([], 0)),
+        ("zimgasol verify multi.sav --channel flags.0 --channel multi.sav.1", (
+            [f"flags.0: byte 64 (round 1, complete packets 0): fault 41: unexpected packet flags: {shown}; {what}"], 1)))),
     ("zimgasol inspect command.sav --channel multi.sav.0 --channel multi.sav.1", None),
     ("zimgasol inspect command.sav --json --channel multi.sav.0 --channel multi.sav.1", None),
     ("head -c 100 command.sav > cut.main", None),
@@ -188,6 +374,94 @@ CASES = [
          "For more information, try '--help'."], 2)),
     ("zimgasol verify out.sav", (["out.sav: No such file or directory (os error 2)"], 3)),
     ("zimgasol verify out.sav.partial", (["out.sav.partial: No such file or directory (os error 2)"], 3)),
+    # ---- what follows RAM: the devices' sections up to byte 86577, the end byte, and 828 bytes of a description
+    ("head -c 86395 guest.sav > short.sav", None),
+    ("zimgasol verify short.sav", ([f"short.sav: byte 86395 (devices): {TAIL_CUT}; {RAM_ONLY}"], 1)),
+    ("zimgasol verify - < short.sav", ([f"-: byte 86395 (devices): {TAIL_CUT}; {RAM_ONLY}"], 1)),
+    ("zimgasol verify short.sav --ram-only", ([f"short.sav: {WHOLE_RAM}, 0 bytes follow"], 0)),
+    ("zimgasol inspect short.sav", None),
+    ("zimgasol inspect short.sav --json", None),
+    ("zimgasol inspect short.sav --ram-only", None),
+    ("zimgasol extract short.sav ramalone", ([f"short.sav: {WHOLE_RAM}, devices: cut, 0 bytes"], 0)),
+    ("zimgasol compare short.sav ramalone", (["short.sav and ramalone: the same: blocks 1, memory 131072 bytes"], 0)),
+    ("head -c 86404 guest.sav > short.sav", None),
+    ("zimgasol verify short.sav", ([f"short.sav: byte 86404 (devices): {TAIL_CUT}; {RAM_ONLY}"], 1)),
+    ("head -c 86441 guest.sav > short.sav", None),
+    ("zimgasol verify short.sav", ([f"short.sav: byte 86441 (devices): {UNKNOWN}; {RAM_ONLY}"], 1)),
+    ("head -c 86578 guest.sav > short.sav", None),
+    ("zimgasol verify short.sav", ([f"short.sav: byte 86578 (devices): {UNKNOWN}; {RAM_ONLY}"], 1)),
+    ("zimgasol inspect short.sav", None),
+    ("zimgasol verify short.sav --ram-only --quiet", ([], 0)),
+    ("zimgasol extract short.sav ramalone --replace", ([f"short.sav: {WHOLE_RAM}, devices: not known, 183 bytes"], 0)),
+    ("head -c 86579 guest.sav > short.sav", None),
+    ("zimgasol verify short.sav", ([f"short.sav: byte 86579 (devices): {TAIL_CUT}; {RAM_ONLY}"], 1)),
+    ("head -c 86585 guest.sav > short.sav", None),
+    ("zimgasol verify short.sav", ([f"short.sav: byte 86585 ({DESCRIPTION}): {TAIL_CUT}; {RAM_ONLY}"], 1)),
+    ("head -c 87405 guest.sav > short.sav", None),
+    ("zimgasol verify short.sav", ([f"short.sav: byte 87405 ({DESCRIPTION}): {TAIL_CUT}; {RAM_ONLY}"], 1)),
+    ("zimgasol inspect short.sav --json", None),
+    ("head -c 1 guest.sav > one.bin", None),
+    ("cat guest.sav one.bin > long.sav", None),
+    ("zimgasol verify long.sav", ([f"long.sav: byte 87406 (after the end): 1 unknown bytes follow; {RAM_ONLY}"], 1)),
+    ("zimgasol inspect long.sav", None),
+    ("zimgasol inspect long.sav --json", None),
+    ("zimgasol extract long.sav long", ([f"long.sav: {WHOLE_RAM}, devices: whole, 1012 bytes, 1 of them unknown"], 0)),
+    # (its last byte isn't the brace, so it isn't JSON)
+    ("cat short.sav one.bin > broken.sav", None),
+    ("zimgasol verify broken.sav", ([f"broken.sav: byte 87406 (devices): {UNKNOWN}; {RAM_ONLY}"], 1)),
+    # (a page of zeros, with which a device was filled up)
+    ("head -c 8192 later.bin > pages.bin", None),
+    ("tail -c 4096 pages.bin > page.bin", None),
+    ("cat guest.sav page.bin > long.sav", None),
+    ("zimgasol verify long.sav", None),
+    ("head -c 86390 machine.sav > short.sav", None),
+    ("zimgasol verify short.sav", ([f"short.sav: byte 86390 (devices): {TAIL_CUT}; {RAM_ONLY}"], 1)),
+    ("cat machine.sav one.bin > long.sav", None),
+    ("zimgasol verify long.sav", ([f"long.sav: byte 86391 (after the end): 1 unknown bytes follow; {RAM_ONLY}"], 1)),
+    ("tail -c 828 guest.sav > described.bin", None),
+    ("cat machine.sav described.bin > described.sav", None),
+    ("zimgasol verify described.sav", ([f"described.sav: {WHOLE_RAM.replace('86395', '86390')}, devices: none, 829 bytes"], 0)),
+    ("head -c 87218 described.sav > short.sav", None),
+    ("zimgasol verify short.sav", ([f"short.sav: byte 87218 ({DESCRIPTION}): {TAIL_CUT}; {RAM_ONLY}"], 1)),
+    ("head -c 86394 described.sav > short.sav", None),
+    ("zimgasol verify short.sav", ([f"short.sav: byte 86394 ({DESCRIPTION}): {TAIL_CUT}; {RAM_ONLY}"], 1)),
+    ("zimgasol save --block ram=later.bin --channels 2 --frame machine --machine none pair.sav", None),
+    ("head -c 137 pair.sav > short.sav", None),
+    ("zimgasol verify short.sav" + PAIR, ([f"short.sav: byte 137 (devices): {TAIL_CUT}; {RAM_ONLY}"], 1)),
+    ("zimgasol verify short.sav --ram-only --quiet" + PAIR, ([], 0)),
+    ("zimgasol inspect short.sav --json" + PAIR, None),
+    ("zimgasol extract short.sav pair" + PAIR, None),
+    ("cat short.sav page.bin > long.sav", None),
+    ("zimgasol verify long.sav" + PAIR, None),
+    # ---- inputs without an end, and what is known of a file's length after a fault
+    ("zimgasol verify /dev/zero", ([f"/dev/zero: {NO_STREAM}"], 1)),
+    ("zimgasol inspect /dev/full", (["file /dev/full", *NOTHING_READ, f"/dev/full: {NO_STREAM}"], 1)),
+    ("zimgasol extract /dev/zero nothing", ([f"/dev/zero: {NO_STREAM}"], 1)),
+    ("zimgasol inspect /dev/zero --channel pair.sav.0", (
+        ["file /dev/zero", "page size 4096", "UUID 00000000-0000-0000-0000-000000000000",
+         "channel pair.sav.0, 94208 bytes, id 0, packets 1, numbers 0-0, 0 pages, 0 zero pages", "rounds 0",
+         "read up to byte 0", "/dev/zero: byte 0 (round 1, before section 1): fault 11: the stream doesn't begin with QEVM; "
+         f"{NO_MAGIC}"], 1)),
+    ("cat later.bin later.bin > large.bin", None),
+    ("zimgasol inspect large.bin", (["file large.bin, 262144 bytes", *NOTHING_READ, f"large.bin: {NO_STREAM}"], 1)),
+    ("zimgasol inspect - < large.bin", (["file -", *NOTHING_READ, f"-: {NO_STREAM}"], 1)),
+    ("head -c 9000000 /dev/zero | zimgasol verify -", ([f"-: {NO_STREAM}"], 1)),
+    ("echo $?", (["1"], 1)),
+    # ---- the most memory of a guest
+    ("zimgasol verify guest.sav --limit 131071", ([f"guest.sav: {TOTAL}"], 1)),
+    ("zimgasol verify guest.sav --limit 131072 --quiet", ([], 0)),
+    ("zimgasol inspect guest.sav --limit 1", (
+        ["file guest.sav, 87406 bytes", 'machine "none"', "page size 4096", "sections 0", "read up to byte 34",
+         f"guest.sav: {TOTAL}"], 1)),
+    ("zimgasol extract guest.sav limited --limit 131071", ([f"guest.sav: {TOTAL}"], 1)),
+    ("cat limited/blocks.json", (["cat: limited/blocks.json: No such file or directory"], 1)),
+    ("zimgasol verify pair.sav --limit 131071" + PAIR, ([f"pair.sav: {TOTAL.replace('(', '(round 1, ')}"], 1)),
+    ("zimgasol verify guest.sav --limit 0", (
+        ["error: invalid value '0' for '--limit <BYTES>': 0 is not in 1..=1099511627776", "",
+         "For more information, try '--help'."], 2)),
+    ("zimgasol verify guest.sav --limit 1G", (
+        ["error: invalid value '1G' for '--limit <BYTES>': invalid digit found in string", "",
+         "For more information, try '--help'."], 2)),
 ]
 
 def block_at_cut(data):
@@ -246,6 +520,13 @@ def main_stream():
     return opening({"pc.ram": 32 * 4096}, "none") + part(records) + b"\x03" + be("I", 1) + END_OF_RECORDS + b"\0"
 
 
+def rounds_stream():
+    """A main stream without channels, of 32 pages, that has as many records: four rounds of the same 8 pages of zeros."""
+    rounds = b"".join(part(b"".join(record("pc.ram", page, bytes(4096), "pc.ram" if page else None) for page in range(8)))
+                      for _ in range(4))
+    return opening({"pc.ram": 32 * 4096}, "none") + rounds + b"\x03" + be("I", 1) + END_OF_RECORDS + b"\0"
+
+
 def main_saved(blocks, machine, between=b""):
     """The main stream that `save --channels` makes: a FLUSH for each of the two rounds, in a section of its own. With what stands
     between these two."""
@@ -279,6 +560,21 @@ def saved(memory, before, machine, frame):
     return out + b"\x03" + be("I", 1) + END_OF_RECORDS + b"\0", count
 
 
+def lacking(found):
+    """How many pages of each block have neither a record nor a packet's page."""
+    return {it: len(memory) // 4096 - len(set(found["pages"].get(it, ()))) for it, memory in found["memory"].items()}
+
+
+def cause(found, is_ram):
+    """What may be the cause that a stream without a fault has pages without a record."""
+    pages, zeros = (sum(it[i] for it in found["counts"].values()) for i in (0, 1))
+    if is_ram:
+        return CHANGES
+    if not pages and "channels" not in found:
+        return NO_CONTENTS if zeros else NOT_SENT if found["sections"] == 2 else NOT_RECORDED
+    return NOT_SHARED if any(not found["pages"].get(it) for it in found["memory"]) else NOT_PLUGGED
+
+
 def ranges(pages):
     """Numbers in ascending order as ranges, at most 16 of them."""
     found = []
@@ -298,6 +594,7 @@ class Shell:
         self.files = {it.name: it.read_bytes() for it in (RUNS / "data").iterdir()}
         self.files["main.sav"] = main_stream()
         self.files["command.sav"] = COMMANDED
+        self.files["rounds.sav"] = rounds_stream()
         self.status = 0
 
     def run(self, command):
@@ -310,6 +607,9 @@ class Shell:
         if words[:2] == ["cp", "-r"]:
             inside = [name for name in self.files if name.startswith(f"{words[2]}/")]
             self.files.update({words[3] + name[len(words[2]):]: self.files[name] for name in inside})
+            return []
+        if words[0] == "tail":
+            self.files[words[5]] = self.files[words[3]][-int(words[2]):]
             return []
         if words[0] == "cat" and ">" in words:
             self.files[words[4]] = self.files[words[1]] + self.files[words[2]]
@@ -336,9 +636,34 @@ class Shell:
         found["end"] += "ram" in words
         return found
 
+    @staticmethod
+    def tail(data, found, words):
+        """The bytes after RAM; None where they aren't checked."""
+        return None if "ram" in words or "--ram-only" in words else data[found["end"]:]
+
+    def after(self, data, found, words):
+        """Where RAM or the stream ends, and what is known of the bytes that follow."""
+        tail, what = self.tail(data, found, words), "the stream" if "ram" in words else "RAM"
+        said = f"{len(data) - found['end']} bytes follow" if tail is None else tail_facts.line(tail)
+        return f"{what} ends at byte {found['end']}, {said}"
+
+    def tail_wrongs(self, name, data, found, words):
+        """The line on what is wrong with the bytes after RAM, if something is. Then the status is 1."""
+        tail = self.tail(data, found, words)
+        wrong = tail is not None and tail_facts.fault_line(name, len(data), tail)
+        self.status = 1 if wrong else self.status
+        return [wrong] if wrong else []
+
+    def device_lines(self, data, found, words):
+        tail = self.tail(data, found, words)
+        return [] if tail is None else tail_facts.device_lines(tail)
+
+    def tail_value(self, data, found, words):
+        tail = self.tail(data, found, words)
+        return {"devices": None, "tail": None} if tail is None else tail_facts.value(tail)
+
     def ends(self, name, found, words):
-        what = "the stream" if "ram" in words else "RAM"
-        return f"{what} ends at byte {found['end']}, {len(self.files[name]) - found['end']} bytes follow"
+        return self.after(self.files[name], found, words)
 
     def cut_channel(self, words):
         """The line of a channel that was cut inside a packet; None where none was."""
@@ -358,14 +683,21 @@ class Shell:
             return [cut]
         found = self.several(name, words)
         memory = sum(map(len, found["memory"].values()))
-        line = (f"{name}: complete: rounds {found['rounds']}, channels {len(found['channels'])}, packets {found['packets']}, "
+        word, lacks = self.judged(name, found, words)
+        line = (f"{name}: {word}: rounds {found['rounds']}, channels {len(found['channels'])}, packets {found['packets']}, "
                 f"blocks {len(found['memory'])}, memory {memory} bytes, UUID {found['uuid']}, {self.ends(name, found, words)}")
-        return [line] + ([] if "--since" in words else self.notes(name, found, True))
+        is_lacking = self.status
+        wrongs = self.tail_wrongs(name, self.files[name], found, words) if words[1] == "verify" else []
+        return [line] * (not wrongs) + lacks + wrongs * (not is_lacking)
 
     def inspect_several(self, name, words):
         found = self.several(name, words)
+        word, lacks = self.judged(name, found, words)
+        is_lacking = self.status
+        wrongs = self.tail_wrongs(name, self.files[name], found, words)
+        said = lacks + wrongs * (not is_lacking)
         if "--json" in words:
-            return self.several_json(name, found)
+            return self.several_json(name, found, words) + said
         lines = [f"file {name}, {len(self.files[name])} bytes", *map(self.note_line, found["notes"]),
                  "page size 4096", f"UUID {found['uuid']}"]
         for it in found["channels"]:
@@ -375,20 +707,25 @@ class Shell:
         for block, memory in found["memory"].items():
             pages, zeros = found["counts"][block]
             lines.append(f'block "{block}" {len(memory)} bytes, {pages} pages, {zeros} zero pages')
-        return lines + [f"rounds {found['rounds']}", self.ends(name, found, words), "complete"]
+        devices = self.device_lines(self.files[name], found, words)
+        return lines + [f"rounds {found['rounds']}", self.ends(name, found, words), *devices, *[word][len(wrongs):], *said]
 
-    def several_json(self, name, found):
+    def several_json(self, name, found, words):
         channels = [{"file": it["name"], "bytes": it["bytes"], "id": it["id"], "packets": len(it["numbers"]),
                      "first_number": min(it["numbers"]), "last_number": max(it["numbers"]), "pages": it["pages"],
                      "zero_pages": it["zeros"], "end": it["bytes"]} for it in found["channels"]]
         said = {"file": name, "bytes": len(self.files[name]), "page_size": 4096, "uuid": found["uuid"], "channels": channels,
                 "notes": [self.note_value(it) for it in found["notes"]], "blocks": self.block_values(found),
-                "rounds": found["rounds"], "end": found["end"], "complete": True, "fault": None}
+                "rounds": found["rounds"], "end": found["end"], "complete": not self.status, "fault": None,
+                **self.tail_value(self.files[name], found, words)}
         return json.dumps(said, indent=2, sort_keys=True).splitlines()
 
     def extract_several(self, name, words):
         said = self.verify_several(name, words)
-        self.lay_out(self.several(name, words), words)
+        status = self.status
+        if not status:
+            self.lay_out(self.several(name, words), words)
+        self.status = status
         return said
 
     def fault(self, name, data):
@@ -417,22 +754,29 @@ class Shell:
         found = self.facts(data)
         if found is None:
             return [self.fault(name, data)]
-        self.status = 0
+        word, lacks = self.judged(name, found, words)
         memory = sum(map(len, found["memory"].values()))
-        what, end = ("the stream", found["end"] + 1) if "ram" in words[3:] else ("RAM", found["end"])
-        return [f"{name}: complete: sections {found['sections']}, blocks {len(found['memory'])}, memory {memory} bytes, "
-                f"{what} ends at byte {end}, {len(data) - end} bytes follow", *([] if "--since" in words else self.notes(name, found, "ram" in words[3:]))]
+        is_lacking = self.status
+        found["end"] += "ram" in words[3:]
+        wrongs = self.tail_wrongs(name, data, found, words[3:]) if words[1] == "verify" else []
+        line = (f"{name}: {word}: sections {found['sections']}, blocks {len(found['memory'])}, memory {memory} bytes, "
+                f"{self.after(data, found, words[3:])}")
+        return [line] * (not wrongs) + lacks + wrongs * (not is_lacking)
 
-    def notes(self, name, found, is_ram):
-        """The lines of blocks without records of all their pages."""
-        others = ("it may be the changes since another stream" if is_ram
-                  else "the others may have gone over multifd's channels")
-        few = [(it, sum(found["counts"][it]), len(memory) // 4096) for it, memory in found["memory"].items()
-               if sum(found["counts"][it]) < len(memory) // 4096]
-        lines = [f'{name}: note: block "{it}" has records of at most {records} of its {pages} pages; {others}'
-                 for it, records, pages in few[:4]]
-        more = [f"{name}: note: {len(few) - 4} more blocks have fewer records than pages"] * (len(few) > 4)
-        return lines + more
+    def judged(self, name, found, words):
+        """The word for what a stream without a fault is, and the lines of the blocks that lack pages. Sets the status."""
+        few = [(it, lack, len(found["memory"][it]) // 4096) for it, lack in lacking(found).items() if lack]
+        self.status = 0
+        if not few or "--since" in words:
+            return "complete", []
+        is_meant = "--partial" in words
+        mark = "note" if is_meant else "INCOMPLETE"
+        lines = [f'{name}: {mark}: {lack} of {pages} pages of block "{it}" have no record' +
+                 (": it isn't in the stream" if lack == pages else "") for it, lack, pages in few]
+        if is_meant:
+            return "partial", lines
+        self.status = 1
+        return "partial", [*lines, f"{name}: INCOMPLETE: {cause(found, 'ram' in words[3:])}"]
 
     def save(self, words):
         option, blocks, at = {}, {}, 2
@@ -471,8 +815,10 @@ class Shell:
 
     def compare(self, words):
         for name in words[2:4]:
-            if name in self.files and self.facts(self.files[name]) is None:
+            found = self.facts(self.files[name]) if name in self.files else {}
+            if found is None:
                 return [self.fault(name, self.files[name])]
+            assert not found or not any(lacking(found).values())
         a, b = self.memory_of(words[2]), self.memory_of(words[3])
         assert list(a) == list(b) and all(len(a[it]) == len(b[it]) for it in a)
         lines = []
@@ -487,9 +833,12 @@ class Shell:
 
     def inspect(self, name, data, words):
         found = self.facts(data)
-        self.status = 0
+        word, lacks = self.judged(name, found, words)
+        is_lacking = self.status
+        wrongs = self.tail_wrongs(name, data, found, words)
+        said = lacks + wrongs * (not is_lacking)
         if "--json" in words:
-            return self.inspect_json(name, data, found)
+            return self.inspect_json(name, data, found, words) + said
         lines = [f"file {name}, {len(data)} bytes"]
         if found["before"]:
             lines.append(f"libvirt header {found['before']} bytes, the guest was running")
@@ -497,8 +846,8 @@ class Shell:
         for block, memory in found["memory"].items():
             pages, zeros = found["counts"][block]
             lines.append(f'block "{block}" {len(memory)} bytes, {pages} pages, {zeros} zero pages')
-        return lines + [f"sections {found['sections']}",
-                        f"RAM ends at byte {found['end']}, {len(data) - found['end']} bytes follow", "complete"]
+        return lines + [f"sections {found['sections']}", self.after(data, found, words),
+                        *self.device_lines(data, found, words), *[word][len(wrongs):], *said]
 
     @staticmethod
     def note_line(note):
@@ -515,14 +864,15 @@ class Shell:
     @staticmethod
     def block_values(found):
         return [{"id": it, "bytes": len(memory), "pages": found["counts"][it][0], "zero_pages": found["counts"][it][1],
-                 "pages_without_record": max(0, len(memory) // 4096 - sum(found["counts"][it]))}
+                 "pages_without_record": lacking(found)[it]}
                 for it, memory in found["memory"].items()]
 
-    def inspect_json(self, name, data, found):
+    def inspect_json(self, name, data, found, words):
         blocks = self.block_values(found)
         notes = [self.note_value(note) for note in found["notes"]]
         said = {"file": name, "bytes": len(data), "libvirt": None, "notes": notes, "page_size": 4096, "blocks": blocks,
-                "sections": found["sections"], "end": found["end"], "complete": True, "fault": None}
+                "sections": found["sections"], "end": found["end"], "complete": not self.status, "fault": None,
+                **self.tail_value(data, found, words)}
         return json.dumps(said, indent=2, sort_keys=True).splitlines()
 
     def extract(self, name, data, words):
@@ -530,11 +880,12 @@ class Shell:
         if listed in self.files and "--replace" not in words:
             self.status = 3
             return [f"{listed}: is there already; `--replace` replaces it"]
+        if "--limit" in words:
+            self.status = 1
+            return [f"{name}: {TOTAL}"]
         said = self.verify(name, data, words)
-        found = self.facts(data)
-        if found is not None:
-            found["pages"] = channel_facts.pages_of(data) if "--since" in words else {}
-            self.lay_out(found, words)
+        if not self.status:
+            self.lay_out(self.facts(data), words)
         return said
 
     def lay_out(self, found, words):
@@ -596,7 +947,8 @@ def of_case(shell, command, wanted):
 
 
 def made():
-    shell, answers, files = Shell(), [], {RUNS / "data" / "main.sav": main_stream(), RUNS / "data" / "command.sav": COMMANDED}
+    shell, answers, files = Shell(), [], {RUNS / "data" / "main.sav": main_stream(), RUNS / "data" / "command.sav": COMMANDED,
+                                                         RUNS / "data" / "rounds.sav": rounds_stream()}
     for page in filter(Path.is_file, PAGES):
         said = printed(shell, page.read_text())
         files[page] = made_page(page.read_text(), said).encode()

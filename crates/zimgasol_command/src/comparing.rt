@@ -13,8 +13,8 @@ use std::fs::Files;
 use std::io::{self, ErrorKind, Read, Write};
 use std::rt::Clock;
 use zimgasol_files::{
-    CompareWords, ExtractWords, Folder, FolderBlock, PIECE_PAGES, Pages, Reading, StreamWords,
-    Trouble, Unfit, open, read_folder, unfit, unwritten,
+    CompareWords, ExtractWords, Folder, FolderBlock, PIECE_PAGES, Packed, Pages, Reading,
+    StreamWords, Trouble, Unfit, open, read_folder, unfit, unwritten,
 };
 use zimgasol_names::{path_in, shown, shown_name};
 use zimgasol_output::put_wrongs;
@@ -108,8 +108,19 @@ impl Temporary {
     }
 }
 
+// Returns the error of a file that a program packed, with the file's name.
+fn packed_of(alloc: Global, name: &str, packed: Packed) -> Trouble {
+    match shown_name(alloc, name) {
+        Ok(name) => Trouble::Packed(Some(name), packed),
+        Err(_) => Trouble::NoMemory,
+    }
+}
+
 // Adds the name of a stream to an error of reading it.
 fn of_stream(alloc: Global, name: &str, trouble: Trouble) -> Trouble {
+    if let Trouble::Packed(_, packed) = &trouble {
+        return packed_of(alloc, name, *packed);
+    }
     match trouble {
         Trouble::Unread(error) => unwritten(alloc, name, error),
         Trouble::Libvirt(why) => match shown_name(alloc, name) {

@@ -19,7 +19,7 @@ use zimgasol_files::{
 };
 use zimgasol_names::{path_in, shown, shown_name};
 use zimgasol_output::{put_judgement, put_several_judgement};
-use zimgasol_reading::{PageSink, Several, Survey, fault_of, read_several, read_stream};
+use zimgasol_reading::{PageSink, Several, Survey, is_complete, read_several, read_stream};
 
 /// The most bytes of consecutive pages that are written at once.
 const RUN_LEN: usize = 262_144;
@@ -451,12 +451,12 @@ fn fill_single<H: AllocGlobal + Files + Clock, R: Read, E: Write>(
 ) -> Result<Survey, Trouble> {
     let mut survey = read_single(rt, &words.stream, extraction, input, errors)?;
     survey.is_laid_over = words.since.is_some();
-    extraction.finish(rt, fault_of(&survey).is_none())?;
+    extraction.finish(rt, is_complete(&survey))?;
     Ok(survey)
 }
 
-/// Extracts the memory of a single stream. Returns the survey of the stream. If the stream has a
-/// fault, all files are removed.
+/// Extracts the memory of a single stream. Returns the survey of the stream. If the stream isn't
+/// complete, all files are removed.
 ///
 /// # Errors
 ///
@@ -513,7 +513,7 @@ fn fill_several<H: AllocGlobal + Files + Clock, R: Read, E: Write>(
 ) -> Result<Several<H::File>, Trouble> {
     let mut several = read_channels(rt, &words.stream, channels, extraction, input, errors)?;
     several.is_laid_over = words.since.is_some();
-    extraction.finish(rt, several.fault().is_none())?;
+    extraction.finish(rt, several.is_complete())?;
     Ok(several)
 }
 

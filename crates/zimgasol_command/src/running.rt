@@ -10,11 +10,11 @@ use std::alloc::{AllocGlobal, Global};
 use std::fs::{Files, OpenFile};
 use std::io::{self, Read, Write};
 use std::rt::Clock;
-use zimgasol_files::{ChannelWords, Request, StreamWords, Trouble, Unfit, asked};
+use zimgasol_files::{ChannelWords, Packed, Request, StreamWords, Trouble, Unfit, asked};
 use zimgasol_names::shown_name;
 use zimgasol_output::{
-    put_json, put_judgement, put_lines, put_several_json, put_several_judgement, put_several_lines,
-    put_several_wrongs, put_wrongs,
+    put_all_wrongs, put_json, put_lines, put_several_all_wrongs, put_several_json,
+    put_several_lines, put_several_verdict, put_verdict,
 };
 use zimgasol_reading::{NoSink, Several, Survey, read_several, read_stream};
 use zimgasol_saving::save;
@@ -115,7 +115,7 @@ fn trouble_status(trouble: &Trouble) -> u8
 {
     match trouble {
         Trouble::Libvirt(_) | Trouble::Refused(_, _) | Trouble::NoBlock(_) => REFUSED,
-        Trouble::TooLarge => REFUSED,
+        Trouble::TooLarge | Trouble::Packed(_, _) => REFUSED,
         Trouble::Unfit(_, why) => unfit_status(*why),
         Trouble::Words(_, _) => WORDS,
         _ => FAILED,
@@ -164,7 +164,24 @@ fn put_trouble<E: Write>(errors: &mut E, name: &str, trouble: &Trouble) -> io::R
         Trouble::Refused(name, why) => writeln!(errors, "{name}: {why}"),
         Trouble::NoBlock(id) => writeln!(errors, "{name}: has no block \"{id}\""),
         Trouble::Libvirt(why) => writeln!(errors, "{name}: {why}"),
+        Trouble::Packed(Some(name), packed) => put_packed(errors, name, *packed),
+        Trouble::Packed(None, packed) => put_packed(errors, name, *packed),
     }
+}
+
+// Writes the error line for a stream that libvirt compressed, with the command that reads it.
+fn put_packed<E: Write>(errors: &mut E, name: &str, packed: Packed) -> io::Result<()> {
+    let packer = packed.packer;
+    let first = packed.first;
+    write!(
+        errors,
+        "{name}: libvirt compressed the stream with {packer}; "
+    )?;
+    write!(
+        errors,
+        "`tail -c +{first} FILE | {packer} -dc | zimgasol verify -` reads it, "
+    )?;
+    writeln!(errors, "or save it with save_image_format = \"raw\"")
 }
 
 // Writes the error line for an unsuitable file or folder.
@@ -233,7 +250,7 @@ fn verify_single<H: AllocGlobal + Files + Clock, R: Read, W: Write, E: Write>(
     errors: &mut E,
 ) -> Result<bool, Trouble> {
     let survey = read_stream(rt, words, input, &mut NoSink, errors)?;
-    put_judgement(rt.alloc(), output, errors, name, &survey, words.talk)
+    put_verdict(rt.alloc(), output, errors, name, &survey, words.talk)
 }
 
 // Reads a main stream and its channels, and prints whether they are complete. Returns whether they
@@ -248,7 +265,7 @@ fn verify_several<H: AllocGlobal + Files + Clock, R: Read, W: Write, E: Write>(
     errors: &mut E,
 ) -> Result<bool, Trouble> {
     let several = read_several(rt, words, channels, input, &mut NoSink, errors)?;
-    put_several_judgement(rt.alloc(), output, errors, name, &several, words.talk)
+    put_several_verdict(rt.alloc(), output, errors, name, &several, words.talk)
 }
 
 // How the contents of a stream are listed.
@@ -304,7 +321,7 @@ fn list_single<W: Write, E: Write>(
     } else {
         put_lines(alloc, output, listing.name, survey)?;
     }
-    put_wrongs(alloc, errors, listing.name, survey)
+    put_all_wrongs(alloc, errors, listing.name, survey)
 }
 
 // Reads a main stream and its channels, and lists what they have. Returns whether they are
@@ -335,5 +352,5 @@ fn list_several<F: Read + OpenFile + Drop, W: Write, E: Write>(
     } else {
         put_several_lines(alloc, output, listing.name, several)?;
     }
-    put_several_wrongs(alloc, errors, listing.name, several)
+    put_several_all_wrongs(alloc, errors, listing.name, several)
 }

@@ -37,7 +37,7 @@ pub use opened::{Opened, open, unfit};
 pub use pages::{PIECE_PAGES, Pages, Reading};
 pub use pieces::Pieces;
 pub use target::{Outlet, PARTIAL, create, is_free, remove_old, rename, sync, unwritten};
-pub use trouble::{Trouble, Unfit, wrong};
+pub use trouble::{Packed, Trouble, Unfit, wrong};
 pub use watch::Watch;
 pub use words::{
     ChannelWords, CompareWords, ExtractWords, PageSize, Request, SaveWords, StreamWords, Talk,

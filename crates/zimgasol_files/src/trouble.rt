@@ -30,6 +30,17 @@ pub enum Trouble {
     NoBlock(String),
     /// The stream after libvirt's header can't be read, with the reason.
     Libvirt(&'static str),
+    /// libvirt compressed the stream. The name is None of the file that the command reads.
+    Packed(Option<String>, Packed),
+}
+
+/// A stream that libvirt compressed.
+#[derive(Clone, Copy)]
+pub struct Packed {
+    /// The program that compressed it, and decompresses it with `-dc`.
+    pub packer: &'static str,
+    /// The byte of the file at which it begins, counted from 1.
+    pub first: u64,
 }
 
 /// Why a file isn't the memory of a block, or a folder isn't what `extract` makes.

@@ -1,11 +1,12 @@
 //! The command line, declared for `clap`, and its parsed arguments.
 
+ghost use Rattle.std.specs.Prelude.{◌≤◌, ◌^◌};
 ghost use Rattle.mig_mem.specs.PageSize.{IsPageSize};
 
 use clap::builder::ValueParser;
 use clap::error::ErrorKind;
 use clap::{Arg, ArgAction, ArgMatches, Command, Error};
-use mig_mem::{PAGE_SIZE_4K, PAGE_SIZE_8K};
+use mig_mem::{MAX_TOTAL, PAGE_SIZE_4K, PAGE_SIZE_8K};
 use mig_stream::Frame;
 use std::alloc::{AllocError, Global};
 use zimgasol_names::shown;
@@ -48,7 +49,31 @@ pub struct StreamWords<'a> {
     pub file: &'a str,
     pub page_size: PageSize,
     pub frame: Frame,
+    /// The most bytes of guest memory that its size list may have; at most 2^40 count.
+    pub most_memory: u64,
+    /// Whether RAM alone is verified, and not what follows it.
+    pub ram_only: bool,
     pub talk: Talk,
+    /// Whether pages without a record are meant.
+    pub partial: bool,
+}
+
+impl StreamWords<'_> {
+    /// Returns the most bytes of guest memory that the size list may have.
+    pub fn limit(&self) -> u64
+        ensures { result ≤ 2 ^ 40 }
+    {
+        if self.most_memory < MAX_TOTAL {
+            self.most_memory
+        } else {
+            MAX_TOTAL
+        }
+    }
+
+    /// Returns whether the bytes after RAM are checked: those of a machine's stream are.
+    pub fn checks_tail(&self) -> bool {
+        matches!(self.frame, Frame::Machine) && !self.ram_only
+    }
 }
 
 /// The channels of a main stream; a single stream has none.
@@ -143,6 +168,14 @@ fn replace_flag<'a>(alloc: Global) -> Arg<'a> {
     flag(alloc, "replace", "Replaces existing files")
 }
 
+fn partial_flag<'a>(alloc: Global) -> Arg<'a> {
+    flag(
+        alloc,
+        "partial",
+        "Takes a stream that hasn't each page: of the changes since another one, or with unplugged memory",
+    )
+}
+
 fn page_option<'a>(alloc: Global) -> Arg<'a> {
     Arg::new(alloc, "page")
         .long("page")
@@ -159,6 +192,22 @@ fn frame_option<'a>(alloc: Global) -> Arg<'a> {
         .help(
             "What the stream is: a machine's, read up to the end of RAM, or RAM's sections alone [default: machine]",
         )
+}
+
+fn limit_option<'a>(alloc: Global) -> Arg<'a> {
+    Arg::new(alloc, "limit")
+        .long("limit")
+        .value_name("BYTES")
+        .value_parser(ValueParser::Unsigned(1, MAX_TOTAL))
+        .help("The most bytes of memory that the guest may have [default: 2^40]")
+}
+
+fn ram_only_flag<'a>(alloc: Global) -> Arg<'a> {
+    flag(
+        alloc,
+        "ram-only",
+        "Verifies RAM alone, and not the devices' state that follows it",
+    )
 }
 
 fn flag<'a>(alloc: Global, name: &'a str, help: &'a str) -> Arg<'a> {
@@ -199,6 +248,8 @@ fn stream_command<'a>(
         ))?
         .arg(page_option(alloc))?
         .arg(frame_option(alloc))?
+        .arg(partial_flag(alloc))?
+        .arg(limit_option(alloc))?
         .arg(progress_flag(alloc))
 }
 
@@ -208,15 +259,14 @@ fn verify_command<'a>(alloc: Global) -> Result<Command<'a>, AllocError> {
         "verify",
         "Reports whether a saved guest is complete, or where it has a fault",
     )?
+    .arg(ram_only_flag(alloc))?
     .arg(quiet_flag(alloc))
 }
 
 fn inspect_command<'a>(alloc: Global) -> Result<Command<'a>, AllocError> {
-    stream_command(alloc, "inspect", "Lists what a saved guest has")?.arg(flag(
-        alloc,
-        "json",
-        "Prints JSON in place of lines",
-    ))
+    stream_command(alloc, "inspect", "Lists what a saved guest has")?
+        .arg(ram_only_flag(alloc))?
+        .arg(flag(alloc, "json", "Prints JSON in place of lines"))
 }
 
 fn folder_arg<'a>(alloc: Global) -> Arg<'a> {
@@ -349,6 +399,7 @@ fn compare_command<'a>(alloc: Global) -> Result<Command<'a>, AllocError> {
         .arg(compared_arg(alloc, "B"))?
         .arg(page_option(alloc))?
         .arg(frame_option(alloc))?
+        .arg(partial_flag(alloc))?
         .arg(quiet_flag(alloc))?
         .arg(progress_flag(alloc))
 }
@@ -405,6 +456,10 @@ fn frame_in<'a>(matches: &ArgMatches<'a>) -> Frame {
     }
 }
 
+fn most_memory_in(matches: &ArgMatches<'_>) -> u64 {
+    matches.get_one::<u64>("limit").unwrap_or(MAX_TOTAL)
+}
+
 fn talk_in(matches: &ArgMatches<'_>) -> Talk {
     Talk {
         progress: matches.get_flag("progress"),
@@ -418,7 +473,10 @@ fn stream_in<'a>(matches: &ArgMatches<'a>, argument: &str) -> StreamWords<'a> {
         file: matches.get_str(argument).unwrap_or("-"),
         page_size: page_size_in(matches),
         frame: frame_in(matches),
+        most_memory: most_memory_in(matches),
+        ram_only: matches.get_flag("ram-only"),
         talk: talk_in(matches),
+        partial: matches.get_flag("partial"),
     }
 }
 

@@ -1,24 +1,208 @@
-//! Gives advice on a fault of a stream.
+//! Gives advice on a fault of a stream, by what was met there.
 
-use mig_stream::StreamFault;
+use mig_stream::{Frame, StreamFault};
+use std::alloc::{AllocError, Global};
+use zimgasol_names::shown;
+use zimgasol_reading::{Note, Noted, section_id, section_name};
 
-/// Returns advice for the user on `fault`; None if there is none.
-pub(crate) fn advice(fault: StreamFault) -> Option<&'static str> {
-    match fault {
-        StreamFault::Magic => Some(
-            "this is no migration stream of QEMU's; if it is compressed, pipe it through its unpacker into `-`",
-        ),
-        StreamFault::SectionType => Some(
-            "a device that saves its state before RAM, or an end without RAM; with `--frame ram`, a machine's stream",
-        ),
-        StreamFault::Flags(_) => Some(
-            "the page size may be the other one (`--page`), or the save used xbzrle or mapped-ram",
-        ),
-        StreamFault::PageBits | StreamFault::Length => Some(
-            "the page size may be the other one (`--page`)",
-        ),
+/// Type bytes of sections and other items (`migration/savevm.h` of QEMU).
+const VM_EOF: u8 = 0x00;
+
+const SECTION_START: u8 = 0x01;
+
+const SECTION_PART: u8 = 0x02;
+
+const SECTION_END: u8 = 0x03;
+
+const SECTION_FULL: u8 = 0x04;
+
+const SUBSECTION: u8 = 0x05;
+
+const COMMAND: u8 = 0x08;
+
+/// Flags of a page record (`migration/ram.c` of QEMU).
+const FLAG_CONTINUE: u16 = 0x20;
+
+const FLAG_XBZRLE: u16 = 0x40;
+
+const FLAG_COMPRESS_PAGE: u16 = 0x100;
+
+/// The complete sections from which RAM has a PART.
+const SECTIONS_WITH_PART: u64 = 2;
+
+/// The number of the COMMAND with which postcopy may follow (`MIG_CMD_POSTCOPY_ADVISE`).
+const POSTCOPY_ADVISE: u16 = 3;
+
+/// The end of a section's name: the state of virtio-mem that comes before RAM's pages.
+const VIRTIO_MEM_EARLY: &[u8] = b"virtio-mem-device-early";
+
+/// The names of sections that a setting of the migration adds.
+const DIRTY_BITMAP: &[u8] = b"dirty-bitmap";
+
+const BLOCK_MIGRATION: &[u8] = b"block";
+
+/// The first bytes of files that aren't a stream, and what they are.
+const KNOWN_FILES: [(&[u8], &str); 8] = [
+    (
+        b"\x1f\x8b",
+        "gzip compressed it: `gzip -dc FILE | zimgasol verify -`",
+    ),
+    (
+        b"\xfd7zXZ\0",
+        "xz compressed it: `xz -dc FILE | zimgasol verify -`",
+    ),
+    (
+        b"\x28\xb5\x2f\xfd",
+        "zstd compressed it: `zstd -dc FILE | zimgasol verify -`",
+    ),
+    (
+        b"\x89LZO",
+        "lzop compressed it: `lzop -dc FILE | zimgasol verify -`",
+    ),
+    (
+        b"BZh",
+        "bzip2 compressed it: `bzip2 -dc FILE | zimgasol verify -`",
+    ),
+    (
+        b"\x16\x03",
+        "these are bytes of TLS, which hide the stream: migrate without `tls-creds`",
+    ),
+    (
+        b"\x7fELF",
+        "this is an ELF file, as `dump-guest-memory` writes it: save by `migrate`",
+    ),
+    (
+        b"QFI\xfb",
+        "this is a qcow2 image, and a snapshot in it isn't read: save by `migrate`",
+    ),
+];
+
+const NO_STREAM: &str =
+    "this is no migration stream of QEMU's; if it is compressed, pipe it through its unpacker into `-`";
+
+const OTHER_PAGE_SIZE: &str = "the page size may be the other one (`--page`)";
+
+const HUGE_PAGES: &str =
+    "the size list has a block of huge pages after POSTCOPY_ADVISE: save with `postcopy-ram` off";
+
+const OTHER_FRAME: &str = "this is a machine's stream, which is read without `--frame ram`";
+
+/// A fault of a stream, and what was met up to it.
+#[derive(Clone, Copy)]
+pub(crate) struct Met<'a> {
+    pub fault: StreamFault,
+    pub frame: Frame,
+    /// The first bytes of the item with the fault.
+    pub item: &'a [u8],
+    /// The items between the sections.
+    pub notes: &'a [Note],
+    /// The complete sections.
+    pub sections: u64,
+}
+
+/// Returns advice for the user on a fault; None if there is none.
+///
+/// # Errors
+///
+/// `AllocError`: an allocation was refused.
+pub(crate) fn advice(alloc: Global, met: &Met<'_>) -> Result<Option<String>, AllocError> {
+    match met.fault {
+        StreamFault::SectionType => type_advice(alloc, met),
+        StreamFault::SectionName => name_advice(alloc, met, 0, false),
+        StreamFault::SectionId => id_advice(alloc, met, 0),
+        _ => owned(alloc, plain_advice(met)),
+    }
+}
+
+/// Returns a copy of `text`, if there is one.
+///
+/// # Errors
+///
+/// `AllocError`: an allocation was refused.
+pub(crate) fn owned(alloc: Global, text: Option<&str>) -> Result<Option<String>, AllocError> {
+    match text {
+        Some(text) => Ok(Some(String::from_str(alloc, text)?)),
+        None => Ok(None),
+    }
+}
+
+// Returns advice on an unexpected section type.
+fn type_advice(alloc: Global, met: &Met<'_>) -> Result<Option<String>, AllocError> {
+    let Some(byte) = met.item.first() else {
+        return Ok(None);
+    };
+    match *byte {
+        SECTION_START | SECTION_FULL | SUBSECTION | COMMAND if matches!(met.frame, Frame::Ram) => {
+            owned(alloc, Some(OTHER_FRAME))
+        }
+        SECTION_FULL => name_advice(alloc, met, 1, true),
+        SECTION_START => name_advice(alloc, met, 1, false),
+        SECTION_PART | SECTION_END => id_advice(alloc, met, 1),
+        VM_EOF => owned(alloc, Some("the stream ends before RAM's END")),
+        _ => Ok(None),
+    }
+}
+
+// Returns advice on a section that isn't RAM's, whose head begins at the byte `at` of the item.
+// `is_full` if the section is complete in itself.
+fn name_advice(
+    alloc: Global,
+    met: &Met<'_>,
+    at: usize,
+    is_full: bool,
+) -> Result<Option<String>, AllocError> {
+    let Some(name) = section_name(met.item, at) else {
+        return owned(alloc, Some(other_device(met, is_full)));
+    };
+    let why = device_advice(met, name, is_full);
+    let name = shown(alloc, name)?;
+    Ok(Some(format!(in alloc; "the section of \"{name}\": {why}")?))
+}
+
+// Returns what the section `name` is.
+fn device_advice(met: &Met<'_>, name: &[u8], is_full: bool) -> &'static str {
+    if name.ends_with(VIRTIO_MEM_EARLY) {
+        return "virtio-mem's state before RAM's pages, which isn't read";
+    }
+    if name == DIRTY_BITMAP {
+        return "bitmaps of disks, which aren't read: save without `dirty-bitmaps`";
+    }
+    if name == BLOCK_MIGRATION {
+        return "the contents of disks, which aren't read: save without block migration";
+    }
+    other_device(met, is_full)
+}
+
+// Returns what another device's section is.
+fn other_device(met: &Met<'_>, is_full: bool) -> &'static str {
+    if is_full && met.sections >= SECTIONS_WITH_PART {
+        return "RAM has no END before it, as with `background-snapshot`: save without that";
+    }
+    "a device that saves its state before RAM's END, which isn't read"
+}
+
+// Returns advice on a section that goes on or ends, and isn't RAM's. Its head begins at the byte
+// `at` of the item.
+fn id_advice(alloc: Global, met: &Met<'_>, at: usize) -> Result<Option<String>, AllocError> {
+    let Some(id) = section_id(met.item, at) else {
+        return Ok(None);
+    };
+    let why = other_device(met, false);
+    Ok(Some(format!(in alloc; "the section with the id {id}: {why}")?))
+}
+
+// Returns advice on any other fault.
+fn plain_advice(met: &Met<'_>) -> Option<&'static str> {
+    match met.fault {
+        StreamFault::Magic => Some(file_advice(met.item)),
+        StreamFault::Flags(flags) => Some(flags_advice(met, flags)),
+        StreamFault::Id if has_advise(met.notes) => Some(HUGE_PAGES),
+        StreamFault::PageBits | StreamFault::Length => Some(OTHER_PAGE_SIZE),
         StreamFault::Flush => Some(
             "the pages of this stream went over multifd's channels; name each by `--channel`",
+        ),
+        StreamFault::Tail => Some(
+            "QEMU ends each round by a FLUSH or an EOS; this stream has both, and no FLUSH at its end",
         ),
         StreamFault::Truncated => Some("the file was cut, or the save didn't come to its end"),
         StreamFault::Capability => Some("save without x-ignore-shared and mapped-ram"),
@@ -27,4 +211,38 @@ pub(crate) fn advice(fault: StreamFault) -> Option<&'static str> {
         ),
         _ => None,
     }
+}
+
+// Returns what a file is that begins with `item`.
+fn file_advice(item: &[u8]) -> &'static str {
+    for (front, what) in KNOWN_FILES {
+        if item.starts_with(front) {
+            return what;
+        }
+    }
+    NO_STREAM
+}
+
+// Returns advice on a record's flags.
+fn flags_advice(met: &Met<'_>, flags: u16) -> &'static str {
+    match flags & !FLAG_CONTINUE {
+        FLAG_XBZRLE => "the save used xbzrle, which isn't read: save without it",
+        FLAG_COMPRESS_PAGE => {
+            "the save used the capability compress, which isn't read: save without it"
+        }
+        0 if has_advise(met.notes) => HUGE_PAGES,
+        _ => "the page size may be the other one (`--page`), or the save used mapped-ram",
+    }
+}
+
+// Returns whether the stream has POSTCOPY_ADVISE.
+fn has_advise(notes: &[Note]) -> bool {
+    for note in notes {
+        if let Noted::Command(number, _) = &note.noted
+            && *number == POSTCOPY_ADVISE
+        {
+            return true;
+        }
+    }
+    false
 }

@@ -1,6 +1,7 @@
 //! `inspect`: lists what a single stream has, in lines or as JSON.
 
-use crate::verifying::end_name;
+use crate::missing::coverage_word;
+use crate::verifying::{end_name, put_after};
 use mig_stream::StreamFault;
 use serde_json::{Map, Value, json, put};
 use std::alloc::{AllocError, Global};
@@ -8,7 +9,8 @@ use std::io::{self, Write};
 use zimgasol_files::Trouble;
 use zimgasol_names::{id_text, shown};
 use zimgasol_reading::{
-    Blocks, FaultPlace, Note, Noted, SectionKind, Survey, block_at, fault_of, kind_name,
+    Blocks, Device, Ending, FaultPlace, Note, Noted, SectionKind, Survey, TailFault, block_at,
+    fault_of, is_complete, kind_name,
 };
 
 // ---- lines
@@ -98,6 +100,44 @@ fn is_read(survey: &Survey, note: &Note) -> bool {
     note.at <= survey.valid
 }
 
+/// Writes the line on a file, with its length if that is known.
+pub(crate) fn put_file_line<W: Write>(
+    output: &mut W,
+    name: &str,
+    len: Option<u64>,
+) -> io::Result<()> {
+    match len {
+        Some(len) => writeln!(output, "file {name}, {len} bytes"),
+        None => writeln!(output, "file {name}"),
+    }
+}
+
+/// Writes a line for each device that the description names.
+pub(crate) fn put_devices<W: Write>(
+    alloc: Global,
+    output: &mut W,
+    devices: &Option<Vec<Device>>,
+) -> Result<(), Trouble> {
+    let Some(devices) = devices else {
+        return Ok(());
+    };
+    for device in devices {
+        let name = shown(alloc, device.name.as_bytes())?;
+        put_device(output, &name, device).map_err(output_failed)?;
+    }
+    Ok(())
+}
+
+// Writes the line on a device; `name` is its name, as it is printed.
+fn put_device<W: Write>(output: &mut W, name: &str, device: &Device) -> io::Result<()> {
+    let instance = device.instance;
+    write!(output, "device \"{name}\" instance {instance}")?;
+    match device.bytes {
+        Some(bytes) => writeln!(output, ", {bytes} bytes"),
+        None => writeln!(output),
+    }
+}
+
 // Writes the lines before those of the blocks.
 fn put_head<W: Write>(
     alloc: Global,
@@ -105,8 +145,7 @@ fn put_head<W: Write>(
     name: &str,
     survey: &Survey,
 ) -> Result<(), Trouble> {
-    let len = survey.len;
-    writeln!(output, "file {name}, {len} bytes").map_err(output_failed)?;
+    put_file_line(output, name, survey.input_len()).map_err(output_failed)?;
     if let Some(header) = survey.libvirt {
         let len = header.len;
         let was = if header.was_running {
@@ -138,8 +177,13 @@ fn put_end<W: Write>(output: &mut W, survey: &Survey) -> io::Result<()> {
         return writeln!(output, "read up to byte {end}");
     }
     let what = end_name(survey.frame);
-    writeln!(output, "{what} ends at byte {end}, {after} bytes follow")?;
-    writeln!(output, "complete")
+    write!(output, "{what} ends at byte {end}, ")?;
+    put_after(output, &survey.ending, after)
+}
+
+// Returns whether a stream and what follows its RAM are complete.
+fn is_whole(survey: &Survey) -> bool {
+    is_complete(survey) && survey.ending.fault.is_none()
 }
 
 /// Writes what a stream has, in lines. `name` is the file's, as it is printed.
@@ -159,7 +203,13 @@ pub fn put_lines<W: Write>(
     if let Some(blocks) = &survey.blocks {
         put_blocks(alloc, output, blocks)?;
     }
-    put_end(output, survey).map_err(output_failed)
+    put_end(output, survey).map_err(output_failed)?;
+    put_devices(alloc, output, &survey.ending.devices)?;
+    if fault_of(survey).is_none() && survey.ending.fault.is_none() {
+        let word = coverage_word(survey.coverage());
+        writeln!(output, "{word}").map_err(output_failed)?;
+    }
+    Ok(())
 }
 
 // ---- JSON
@@ -167,15 +217,85 @@ pub fn put_lines<W: Write>(
 /// The members of a JSON object.
 pub(crate) type Object = Map<String, Value>;
 
-/// Puts the name of a file, as it is printed, and its length.
+/// Returns the JSON of a number, or null.
+pub(crate) fn number_value(number: Option<u64>) -> Value {
+    match number {
+        Some(number) => Value::from(number),
+        None => Value::Null,
+    }
+}
+
+/// Puts the name of a file, as it is printed, and its length, if that is known.
 pub(crate) fn put_file(
     alloc: Global,
     object: &mut Object,
     name: &str,
-    len: u64,
+    len: Option<u64>,
 ) -> Result<(), AllocError> {
     put(object, alloc, "file", Value::try_from_str(alloc, name)?)?;
-    put(object, alloc, "bytes", Value::from(len))
+    put(object, alloc, "bytes", number_value(len))
+}
+
+// Returns the JSON of a device; its size is null if it isn't known.
+fn device_value(alloc: Global, device: &Device) -> Result<Value, AllocError> {
+    let name = shown(alloc, device.name.as_bytes())?;
+    let mut object = Map::new(alloc);
+    put(&mut object, alloc, "name", Value::String(name))?;
+    put(
+        &mut object,
+        alloc,
+        "instance_id",
+        Value::from(device.instance),
+    )?;
+    put(&mut object, alloc, "bytes", number_value(device.bytes))?;
+    Ok(Value::Object(object))
+}
+
+// Returns the JSON of the devices; null if there is no description.
+fn devices_value(alloc: Global, devices: &Option<Vec<Device>>) -> Result<Value, AllocError> {
+    let Some(devices) = devices else {
+        return Ok(Value::Null);
+    };
+    let mut list = array(alloc);
+    for device in devices {
+        list.push(device_value(alloc, device)?)?;
+    }
+    Ok(Value::Array(list))
+}
+
+// Returns what is known of the bytes after RAM.
+fn tail_state(ending: &Ending) -> &'static str {
+    match ending.fault {
+        None => "whole",
+        Some(TailFault::Cut | TailFault::CutDescription) => "cut",
+        Some(TailFault::Unknown) => "unknown",
+        Some(TailFault::Extra(_)) => "extra",
+    }
+}
+
+// Returns the JSON of the `after` bytes that follow RAM; null if they weren't checked.
+fn tail_value(alloc: Global, ending: &Ending, after: u64) -> Result<Value, AllocError> {
+    if !ending.is_checked {
+        return Ok(Value::Null);
+    }
+    let state = tail_state(ending);
+    json!(in alloc; {"state": state, "bytes": after})
+}
+
+/// Puts the devices, and what is known of the `after` bytes that follow RAM.
+pub(crate) fn put_tail(
+    alloc: Global,
+    object: &mut Object,
+    ending: &Ending,
+    after: u64,
+) -> Result<(), AllocError> {
+    put(
+        object,
+        alloc,
+        "devices",
+        devices_value(alloc, &ending.devices)?,
+    )?;
+    put(object, alloc, "tail", tail_value(alloc, ending, after)?)
 }
 
 fn array(alloc: Global) -> Vec<Value> {
@@ -308,8 +428,13 @@ fn put_numbers(alloc: Global, object: &mut Object, survey: &Survey) -> Result<()
     put(object, alloc, "page_size", Value::from(survey.page_size))?;
     put(object, alloc, "sections", Value::from(survey.sections))?;
     put(object, alloc, "end", Value::from(end))?;
-    let is_complete = fault_of(survey).is_none();
-    put(object, alloc, "complete", Value::Bool(is_complete))
+    put_tail(
+        alloc,
+        object,
+        &survey.ending,
+        survey.len.saturating_sub(end),
+    )?;
+    put(object, alloc, "complete", Value::Bool(is_whole(survey)))
 }
 
 // Puts libvirt's header, the items between the sections, the blocks, and the fault.
@@ -322,7 +447,7 @@ fn put_parts(alloc: Global, object: &mut Object, survey: &Survey) -> Result<(), 
 
 fn survey_value(alloc: Global, name: &str, survey: &Survey) -> Result<Value, AllocError> {
     let mut object = Map::new(alloc);
-    put_file(alloc, &mut object, name, survey.len)?;
+    put_file(alloc, &mut object, name, survey.input_len())?;
     put_numbers(alloc, &mut object, survey)?;
     put_parts(alloc, &mut object, survey)?;
     Ok(Value::Object(object))

@@ -18,5 +18,8 @@ mod verifying;
 
 pub use inspecting::{put_json, put_lines};
 pub use several_json::put_several_json;
-pub use several_lines::{put_several_judgement, put_several_lines, put_several_wrongs};
-pub use verifying::{put_judgement, put_wrongs};
+pub use several_lines::{
+    put_several_all_wrongs, put_several_judgement, put_several_lines, put_several_verdict,
+    put_several_wrongs,
+};
+pub use verifying::{put_all_wrongs, put_judgement, put_verdict, put_wrongs};

@@ -1,70 +1,156 @@
-//! Notes which blocks of a complete stream have fewer page records than pages.
+//! Writes which blocks of a complete stream have pages without a record, and what may be the cause.
 //!
-//! A main stream of QEMU 7.2 whose pages were sent on multifd's channels reads as complete, and has
-//! no records of those pages. A stream of the changes since another stream also has few records.
+//! A main stream of an older QEMU whose pages were sent on multifd's channels has no fault, and no
+//! records of those pages. So is a stream of the changes since another stream, and that of a
+//! migration that leaves memory where it is.
 
 use mig_stream::Frame;
 use std::alloc::Global;
-use std::io::Write;
+use std::fs::OpenFile;
+use std::io::{Read, Write};
 use zimgasol_files::Trouble;
 use zimgasol_names::shown;
-use zimgasol_reading::{Blocks, Survey, fault_of};
+use zimgasol_reading::{Blocks, Coverage, Several, Survey};
 
-/// The most blocks that have a line of their own.
-const MOST_LINES: u64 = 4;
+/// The sections of a stream without a PART: START and END.
+const FEWEST_SECTIONS: u64 = 2;
 
-// Says where the other pages may be.
-fn whereabouts(frame: Frame) -> &'static str {
-    match frame {
-        Frame::Machine => "the others may have gone over multifd's channels",
-        Frame::Ram => "it may be the changes since another stream",
+/// The cause in RAM's sections alone.
+const CHANGES: &str =
+    "it may be the changes since another stream, which `extract --since` applies; `--partial` takes it as it is";
+
+/// The cause if there is neither a record nor a PART: RAM wasn't sent.
+const NOT_SENT: &str =
+    "RAM isn't in the stream: a `cpr-transfer` migration and shared memory (`x-ignore-shared`) keep it outside";
+
+/// The cause if there are PARTs, and none has a record.
+const NOT_RECORDED: &str =
+    "RAM isn't in the stream: its pages may have gone over multifd's channels (`--channel` names each), or it is shared memory";
+
+/// The cause if all records are of pages of zeros.
+const NO_CONTENTS: &str =
+    "all records are of pages of zeros: the other pages may have gone over multifd's channels (`--channel` names each)";
+
+/// The cause if other blocks have records.
+const NOT_SHARED: &str =
+    "a block without any record may be shared memory (`x-ignore-shared`), or virtio-mem with nothing plugged; `--partial` takes the stream as it is";
+
+/// The cause if each block has records.
+const NOT_PLUGGED: &str =
+    "they may be unplugged memory of virtio-mem, free pages of virtio-balloon, or the stream the changes since another one; `--partial` takes it as it is";
+
+/// Returns what a stream is that has this much of the memory: the word for the first line of a
+/// report, and for the last one of a listing.
+pub(crate) fn coverage_word(coverage: Coverage) -> &'static str {
+    match coverage {
+        Coverage::Whole => "complete",
+        Coverage::Partial | Coverage::Incomplete => "partial",
     }
 }
 
-// Writes the line on a block; `others` says where its other pages may be.
+// Returns whether a block has no record.
+fn has_absent(blocks: &Blocks) -> bool {
+    for block in 0..blocks.table.len() {
+        if blocks.is_absent(block) {
+            return true;
+        }
+    }
+    false
+}
+
+// Returns what may be the cause if pages of a stream in `frame` have no record, and others have.
+fn cause_in(frame: Frame, blocks: &Blocks) -> &'static str {
+    if let Frame::Ram = frame {
+        return CHANGES;
+    }
+    if has_absent(blocks) {
+        NOT_SHARED
+    } else {
+        NOT_PLUGGED
+    }
+}
+
+// Returns what may be the cause that a single stream has pages without a record.
+fn cause_of(survey: &Survey, blocks: &Blocks) -> &'static str {
+    let all = blocks.counts_of_all();
+    if all.pages != 0 || matches!(survey.frame, Frame::Ram) {
+        return cause_in(survey.frame, blocks);
+    }
+    if all.zeros != 0 {
+        return NO_CONTENTS;
+    }
+    if survey.sections <= FEWEST_SECTIONS {
+        NOT_SENT
+    } else {
+        NOT_RECORDED
+    }
+}
+
+// Writes the line on a block; `mark` begins it.
 fn put_block<E: Write>(
     alloc: Global,
     errors: &mut E,
     name: &str,
     blocks: &Blocks,
     block: usize,
-    others: &str,
+    mark: &str,
 ) -> Result<(), Trouble> {
     if block >= blocks.table.len() {
         return Ok(());
     }
     let id = shown(alloc, blocks.table.id(block))?;
     let pages = blocks.pages(block);
-    let records = blocks.records(block);
+    let missing = blocks.missing(block);
+    let end = if missing == pages {
+        ": it isn't in the stream"
+    } else {
+        ""
+    };
     let _ = writeln!(
         errors,
-        "{name}: note: block \"{id}\" has records of at most {records} of its {pages} pages; {others}"
+        "{name}: {mark}: {missing} of {pages} pages of block \"{id}\" have no record{end}"
     );
     Ok(())
 }
 
-// Writes the lines of the first blocks that lack records. Returns how many blocks lack them.
+// Writes a line for each block that has pages without a record; `mark` begins it.
 fn put_blocks<E: Write>(
     alloc: Global,
     errors: &mut E,
     name: &str,
     blocks: &Blocks,
-    others: &str,
-) -> Result<u64, Trouble> {
-    let mut count = 0u64;
+    mark: &str,
+) -> Result<(), Trouble> {
     for block in 0..blocks.table.len() {
         if blocks.missing(block) != 0 {
-            if count < MOST_LINES {
-                put_block(alloc, errors, name, blocks, block, others)?;
-            }
-            count = count.saturating_add(1);
+            put_block(alloc, errors, name, blocks, block, mark)?;
         }
     }
-    Ok(count)
+    Ok(())
 }
 
-/// Writes which blocks of a complete stream have fewer records than pages. Writes nothing for a
-/// stream with a fault, or for a stream that is applied to existing memory.
+// Writes a line for each block that has pages without a record: a note if that is meant, or else
+// that the stream is incomplete, and then what may be the cause.
+fn put_lacks<E: Write>(
+    alloc: Global,
+    errors: &mut E,
+    name: &str,
+    blocks: &Blocks,
+    coverage: Coverage,
+    cause: &str,
+) -> Result<(), Trouble> {
+    match coverage {
+        Coverage::Whole => Ok(()),
+        Coverage::Partial => put_blocks(alloc, errors, name, blocks, "note"),
+        Coverage::Incomplete => {
+            put_blocks(alloc, errors, name, blocks, "INCOMPLETE")?;
+            let _ = writeln!(errors, "{name}: INCOMPLETE: {cause}");
+            Ok(())
+        }
+    }
+}
+
+/// Writes which blocks of a single stream have pages without a record.
 ///
 /// # Errors
 ///
@@ -75,36 +161,34 @@ pub(crate) fn put_missing<E: Write>(
     name: &str,
     survey: &Survey,
 ) -> Result<(), Trouble> {
-    if fault_of(survey).is_some() || survey.is_laid_over {
+    let Some(blocks) = &survey.blocks else {
         return Ok(());
-    }
-    match &survey.blocks {
-        Some(blocks) => put_few(alloc, errors, name, blocks, whereabouts(survey.frame)),
-        None => Ok(()),
-    }
+    };
+    let cause = cause_of(survey, blocks);
+    put_lacks(alloc, errors, name, blocks, survey.coverage(), cause)
 }
 
-/// Writes a line for each block that has fewer records than pages, and after four lines the number
-/// of the other blocks. `others` says where their other pages may be.
+/// Writes which blocks of a main stream and its channels have pages without a record.
 ///
 /// # Errors
 ///
 /// `Trouble::NoMemory`.
-pub(crate) fn put_few<E: Write>(
+pub(crate) fn put_several_missing<F: Read + OpenFile + Drop, E: Write>(
     alloc: Global,
     errors: &mut E,
     name: &str,
-    blocks: &Blocks,
-    others: &str,
+    several: &Several<F>,
 ) -> Result<(), Trouble> {
-    let count = put_blocks(alloc, errors, name, blocks, others)?;
-    if count <= MOST_LINES {
+    let Some(guest) = &several.guest else {
         return Ok(());
-    }
-    let more = count - MOST_LINES;
-    let _ = writeln!(
+    };
+    let cause = cause_in(several.frame, &guest.blocks);
+    put_lacks(
+        alloc,
         errors,
-        "{name}: note: {more} more blocks have fewer records than pages"
-    );
-    Ok(())
+        name,
+        &guest.blocks,
+        several.coverage(),
+        cause,
+    )
 }

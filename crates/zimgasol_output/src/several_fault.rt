@@ -3,14 +3,31 @@
 
 ghost use Rattle.std.specs.Prelude.{◌≤◌};
 
-use crate::advice::advice;
+use crate::advice::{Met, advice, owned};
 use crate::verifying::{put_block, put_section};
 use mig_assemble::RoundFault;
 use mig_packet::ChannelFault;
 use mig_single_load::{Fault, LoadFault};
-use mig_stream::StreamFault;
-use std::io::{self, Write};
-use zimgasol_reading::{Spot, Within};
+use std::alloc::{AllocError, Global};
+use std::fs::OpenFile;
+use std::io::{self, Read, Write};
+use zimgasol_reading::{Several, Spot, Within};
+
+/// The flag of a packet that ends a round (`MULTIFD_FLAG_SYNC` in QEMU's `migration/multifd.h`).
+const FLAG_SYNC: u32 = 0x01;
+
+// Returns advice on a packet's flags, which aren't read.
+fn flags_advice(flags: u32) -> &'static str {
+    match flags & !FLAG_SYNC {
+        0x02 => "zlib compressed the pages; migrate with multifd-compression none",
+        0x04 => "zstd compressed the pages; migrate with multifd-compression none",
+        0x08 => "qpl compressed the pages; migrate with multifd-compression none",
+        0x10 => "uadk compressed the pages; migrate with multifd-compression none",
+        0x20 => "qatzip compressed the pages; migrate with multifd-compression none",
+        0x40 => "the packet has the state of a VFIO device, which isn't read",
+        _ => "the pages may be compressed; migrate with multifd-compression none",
+    }
+}
 
 // Returns advice on a fault of a channel.
 fn channel_advice(fault: ChannelFault) -> Option<&'static str> {
@@ -20,9 +37,7 @@ fn channel_advice(fault: ChannelFault) -> Option<&'static str> {
             "the channel is of another migration; `--uuid` names the one that is meant",
         ),
         ChannelFault::HelloId => Some("each channel is named by `--channel`, and one may lack"),
-        ChannelFault::PacketFlags(_) => Some(
-            "the pages may be compressed; migrate with multifd-compression none",
-        ),
+        ChannelFault::PacketFlags(flags) => Some(flags_advice(flags)),
         ChannelFault::PacketMagic | ChannelFault::PageCount | ChannelFault::PacketSize => {
             Some("the page size may be the other one (`--page`)")
         }
@@ -33,13 +48,9 @@ fn channel_advice(fault: ChannelFault) -> Option<&'static str> {
     }
 }
 
-// Returns advice on a fault.
+// Returns advice on a fault, unless it is the main stream's.
 fn advice_of(fault: Fault) -> Option<&'static str> {
     match fault {
-        Fault::Stream(StreamFault::Tail) => Some(
-            "QEMU before 8.1 marks no rounds in the main stream, and one with channels can't be read",
-        ),
-        Fault::Stream(fault) => advice(fault),
         Fault::Channel(fault) => channel_advice(fault),
         Fault::HelloTwice => Some("two of the files are one channel's"),
         Fault::Round(RoundFault::Missing(_)) => Some(
@@ -48,6 +59,30 @@ fn advice_of(fault: Fault) -> Option<&'static str> {
         Fault::Extra | Fault::Short => Some("the files may be of different migrations"),
         _ => None,
     }
+}
+
+/// Returns advice for the user on `fault`; None if there is none.
+///
+/// # Errors
+///
+/// `AllocError`: an allocation was refused.
+pub(crate) fn several_advice<F: Read + OpenFile + Drop>(
+    alloc: Global,
+    several: &Several<F>,
+    fault: Fault,
+) -> Result<Option<String>, AllocError> {
+    let Fault::Stream(fault) = fault else {
+        return owned(alloc, advice_of(fault));
+    };
+    let (sections, _) = several.main.section();
+    let met = Met {
+        fault,
+        frame: several.frame,
+        item: several.main.item(),
+        notes: several.main.read_notes(),
+        sections,
+    };
+    advice(alloc, &met)
 }
 
 // Writes a fault's place in its source.
@@ -79,10 +114,11 @@ pub(crate) fn put_spotted<W: Write>(
     spot: Spot,
     fault: LoadFault,
     block: &Option<String>,
+    advice: &Option<String>,
 ) -> io::Result<()> {
     write!(output, "{name}: ")?;
     put_spot(output, fault.round, spot, block)?;
-    put_found(output, fault.fault)
+    put_found(output, fault.fault, advice)
 }
 
 // Writes a fault's place: the byte, if it has one, and where that is.
@@ -101,9 +137,9 @@ fn put_spot<W: Write>(
 }
 
 // Writes the fault, and advice on it.
-fn put_found<W: Write>(output: &mut W, fault: Fault) -> io::Result<()> {
+fn put_found<W: Write>(output: &mut W, fault: Fault, advice: &Option<String>) -> io::Result<()> {
     write!(output, ": fault {fault}")?;
-    match advice_of(fault) {
+    match advice {
         Some(advice) => writeln!(output, "; {advice}"),
         None => writeln!(output),
     }

@@ -2,7 +2,7 @@
 
 ghost use Rattle.std.specs.Prelude.{◌≤◌};
 
-use crate::inspecting::{Object, blocks_value, note_value, put_file};
+use crate::inspecting::{Object, blocks_value, note_value, number_value, put_file, put_tail};
 use mig_single_load::{Fault, LoadFault, Origin};
 use serde_json::{Map, Value, json, put};
 use std::alloc::{AllocError, Global};
@@ -11,21 +11,18 @@ use std::io::{Read, Write};
 use zimgasol_files::Trouble;
 use zimgasol_reading::{Channel, ChannelCounts, Guest, Several, Spot, Within};
 
-// Returns the JSON of a number, or null.
-fn number_value(number: Option<u64>) -> Value {
-    match number {
-        Some(number) => Value::from(number),
-        None => Value::Null,
-    }
-}
-
 // Puts the file of a channel, and its id.
 fn put_inlet<F: Read + OpenFile + Drop>(
     alloc: Global,
     object: &mut Object,
     channel: &Channel<F>,
 ) -> Result<(), AllocError> {
-    put_file(alloc, object, &channel.inlet.name, channel.inlet.len())?;
+    put_file(
+        alloc,
+        object,
+        &channel.inlet.name,
+        channel.inlet.input_len(),
+    )?;
     let id = channel.lane.hello().map(u64::from);
     put(object, alloc, "id", number_value(id))
 }
@@ -161,8 +158,16 @@ fn put_numbers<F: Read + OpenFile + Drop>(
 ) -> Result<(), AllocError> {
     put(object, alloc, "page_size", Value::from(several.page_size))?;
     put(object, alloc, "rounds", Value::from(several.rounds))?;
-    put(object, alloc, "end", Value::from(several.main.valid()))?;
-    let is_complete = several.fault().is_none();
+    let end = several.main.valid();
+    put(object, alloc, "end", Value::from(end))?;
+    let ending = &several.main.ending;
+    put_tail(
+        alloc,
+        object,
+        ending,
+        several.main.len().saturating_sub(end),
+    )?;
+    let is_complete = several.is_complete() && ending.fault.is_none();
     put(object, alloc, "complete", Value::Bool(is_complete))
 }
 
@@ -185,7 +190,7 @@ fn several_value<F: Read + OpenFile + Drop>(
     several: &Several<F>,
 ) -> Result<Value, AllocError> {
     let mut object = Map::new(alloc);
-    put_file(alloc, &mut object, name, several.main.len())?;
+    put_file(alloc, &mut object, name, several.main.input_len())?;
     put_uuid(alloc, &mut object, several)?;
     put_numbers(alloc, &mut object, several)?;
     put_parts(alloc, &mut object, several)?;

@@ -1,21 +1,18 @@
 //! Prints the verdict on a main stream and its channels, and lists their contents in lines.
 
-ghost use Rattle.std.specs.Prelude.{◌≡◌, ◌↔◌, ◌≤◌, IfOk, IsTrue};
-ghost use Rattle.mig_answer.specs.declared.verdict.Verdict.TheVariants as verdict;
+ghost use Rattle.std.specs.Prelude.{◌↔◌, ◌≤◌, IfOk, IsNone, IsTrue};
+ghost use Rattle.zimgasol_reading.specs.Coverage.{AreComplete};
 
-use crate::inspecting::{put_blocks, put_note};
-use crate::missing::put_few;
-use crate::several_fault::put_spotted;
-use crate::verifying::end_name;
+use crate::inspecting::{put_blocks, put_devices, put_file_line, put_note};
+use crate::missing::{coverage_word, put_several_missing};
+use crate::several_fault::{put_spotted, several_advice};
+use crate::verifying::{end_name, put_after, put_tail_wrong};
 use mig_single_load::{LoadFault, Origin};
 use std::alloc::Global;
 use std::fs::OpenFile;
 use std::io::{self, Read, Write};
 use zimgasol_files::{Talk, Trouble};
 use zimgasol_reading::{Channel, ChannelCounts, Guest, Note, Several};
-
-/// An explanation of a complete guest without records of all its pages.
-const OTHERS: &str = "it may be the changes since another stream";
 
 fn output_failed(error: io::Error) -> Trouble {
     Trouble::Output(error)
@@ -32,7 +29,7 @@ fn source_name<'a, F: Drop>(several: &'a Several<F>, name: &'a str, fault: LoadF
     }
 }
 
-// Writes how many rounds, channels and packets complete sources have.
+// Writes what sources without a fault are, and how many rounds, channels and packets they have.
 fn put_totals<F: Read + OpenFile + Drop, W: Write>(
     output: &mut W,
     name: &str,
@@ -41,9 +38,10 @@ fn put_totals<F: Read + OpenFile + Drop, W: Write>(
     let rounds = several.rounds;
     let channels = several.channels.len();
     let packets = several.packets();
+    let word = coverage_word(several.coverage());
     write!(
         output,
-        "{name}: complete: rounds {rounds}, channels {channels}, packets {packets}, "
+        "{name}: {word}: rounds {rounds}, channels {channels}, packets {packets}, "
     )
 }
 
@@ -80,11 +78,12 @@ fn put_end<F: Drop, W: Write>(output: &mut W, several: &Several<F>) -> io::Resul
     let end = several.main.valid();
     let after = several.main.len().saturating_sub(end);
     let what = end_name(several.frame);
-    writeln!(output, "{what} ends at byte {end}, {after} bytes follow")
+    write!(output, "{what} ends at byte {end}, ")?;
+    put_after(output, &several.main.ending, after)
 }
 
-/// Writes what is wrong to `errors`: the fault, or which blocks lack pages. Returns whether all
-/// sources are complete.
+/// Writes what is wrong to `errors`: the fault, or which blocks have pages without a record.
+/// Returns whether all sources are complete.
 ///
 /// # Errors
 ///
@@ -95,29 +94,69 @@ pub fn put_several_wrongs<F: Read + OpenFile + Drop, E: Write>(
     name: &str,
     several: &Several<F>,
 ) -> Result<bool, Trouble>
-    ensures verdict { IfOk result (λ is_complete. IsTrue is_complete ↔ (several.now.verdict ≡ verdict.Done)) }
+    ensures verdict { IfOk result (λ is_complete. IsTrue is_complete ↔ AreComplete several.now) }
 {
     match several.fault() {
         Some(fault) => {
             let block = several.fault_block(alloc, fault)?;
             let source = source_name(several, name, fault);
             let spot = several.spot(fault);
-            let _ = put_spotted(errors, source, spot, fault, &block);
+            let advice = several_advice(alloc, several, fault.fault)?;
+            let _ = put_spotted(errors, source, spot, fault, &block, &advice);
             Ok(false)
         }
         None => {
-            if let Some(guest) = &several.guest
-                && !several.is_laid_over
-            {
-                put_few(alloc, errors, name, &guest.blocks, OTHERS)?;
-            }
-            Ok(true)
+            put_several_missing(alloc, errors, name, several)?;
+            Ok(several.is_complete())
         }
     }
 }
 
-/// Writes the verdict: to `output` that all sources are complete, unless `--quiet` is set, and
-/// to `errors` what is wrong. Returns whether they are complete.
+/// Writes what is wrong with all sources and with what follows RAM to `errors`. Returns whether all
+/// are complete.
+///
+/// # Errors
+///
+/// `Trouble::NoMemory`.
+pub fn put_several_all_wrongs<F: Read + OpenFile + Drop, E: Write>(
+    alloc: Global,
+    errors: &mut E,
+    name: &str,
+    several: &Several<F>,
+) -> Result<bool, Trouble>
+    ensures verdict { IfOk result (λ is_complete. IsTrue is_complete ↔ (AreComplete several.now × IsNone several.now.main.ending.fault)) }
+{
+    if !put_several_wrongs(alloc, errors, name, several)? {
+        return Ok(false);
+    }
+    Ok(put_tail_wrong(errors, name, several.main.len(), &several.main.ending))
+}
+
+/// Writes the verdict on all sources and on what follows RAM: to `output` that all are complete,
+/// unless `--quiet` is set, and to `errors` what is wrong. Returns whether all are complete.
+///
+/// # Errors
+///
+/// `Trouble::Output` where `output` can't be written, `Trouble::NoMemory`.
+pub fn put_several_verdict<F: Read + OpenFile + Drop, W: Write, E: Write>(
+    alloc: Global,
+    output: &mut W,
+    errors: &mut E,
+    name: &str,
+    several: &Several<F>,
+    talk: Talk,
+) -> Result<bool, Trouble>
+    ensures verdict { IfOk result (λ is_complete. IsTrue is_complete ↔ (AreComplete several.now × IsNone several.now.main.ending.fault)) }
+{
+    let is_complete = several.fault().is_none() && several.main.ending.fault.is_none();
+    if is_complete && !talk.quiet {
+        put_complete(output, name, several).map_err(output_failed)?;
+    }
+    put_several_all_wrongs(alloc, errors, name, several)
+}
+
+/// Writes the verdict, whatever follows RAM: to `output` that all sources are complete, unless
+/// `--quiet` is set, and to `errors` what is wrong. Returns whether they are complete.
 ///
 /// # Errors
 ///
@@ -130,7 +169,7 @@ pub fn put_several_judgement<F: Read + OpenFile + Drop, W: Write, E: Write>(
     several: &Several<F>,
     talk: Talk,
 ) -> Result<bool, Trouble>
-    ensures verdict { IfOk result (λ is_complete. IsTrue is_complete ↔ (several.now.verdict ≡ verdict.Done)) }
+    ensures verdict { IfOk result (λ is_complete. IsTrue is_complete ↔ AreComplete several.now) }
 {
     if several.fault().is_none() && !talk.quiet {
         put_complete(output, name, several).map_err(output_failed)?;
@@ -145,8 +184,7 @@ fn put_head<F: Drop, W: Write>(
     name: &str,
     several: &Several<F>,
 ) -> Result<(), Trouble> {
-    let len = several.main.len();
-    writeln!(output, "file {name}, {len} bytes").map_err(output_failed)?;
+    put_file_line(output, name, several.main.input_len()).map_err(output_failed)?;
     put_notes(alloc, output, several.main.read_notes())?;
     put_settings(output, several).map_err(output_failed)
 }
@@ -185,7 +223,13 @@ pub fn put_several_lines<F: Read + OpenFile + Drop, W: Write>(
     if let Some(guest) = &several.guest {
         put_blocks(alloc, output, &guest.blocks)?;
     }
-    put_last(output, several).map_err(output_failed)
+    put_last(output, several).map_err(output_failed)?;
+    put_devices(alloc, output, &several.main.ending.devices)?;
+    if several.fault().is_none() && several.main.ending.fault.is_none() {
+        let word = coverage_word(several.coverage());
+        writeln!(output, "{word}").map_err(output_failed)?;
+    }
+    Ok(())
 }
 
 // Writes the number of rounds, and where RAM ends or up to where it was read.
@@ -199,8 +243,7 @@ fn put_last<F: Read + OpenFile + Drop, W: Write>(
         let end = several.main.valid();
         return writeln!(output, "read up to byte {end}");
     }
-    put_end(output, several)?;
-    writeln!(output, "complete")
+    put_end(output, several)
 }
 
 // Writes the line on a channel.
@@ -209,8 +252,10 @@ fn put_channel<F: Read + OpenFile + Drop, W: Write>(
     channel: &Channel<F>,
 ) -> io::Result<()> {
     let name = &channel.inlet.name;
-    let len = channel.inlet.len();
-    write!(output, "channel {name}, {len} bytes")?;
+    write!(output, "channel {name}")?;
+    if let Some(len) = channel.inlet.input_len() {
+        write!(output, ", {len} bytes")?;
+    }
     match channel.lane.hello() {
         Some(id) => put_counts(output, id, channel.lane.counts),
         None => writeln!(output),

@@ -1,9 +1,14 @@
-//! Counts the page records of each block of a stream.
+//! Counts the page records of each block of a stream, and keeps which pages have one.
 
-ghost use Rattle.std.specs.Prelude.{◌≡◌, ◌+◌, ◌-◌, ◌<◌, ◌^◌};
+ghost use Rattle.std.specs.Prelude.{◌≡◌, ◌↔◌, ◌-◌, ◌<◌, [], IfOk, OnOk, IsTrue};
+ghost use Rattle.mig_mem.specs.Place.{IsPlace};
+ghost use Rattle.mig_mem.specs.PlaceSet.{with_place};
+ghost use Rattle.mig_mem.specs.RamTable.{total_pages};
+ghost use Rattle.zimgasol_reading.specs.Coverage.{IsWhole};
 
-use mig_mem::{Place, Table};
-use std::alloc::{AllocError, Global};
+use mig_mem::{Dirty, Place, Table};
+use std::alloc::Global;
+use zimgasol_files::Trouble;
 
 /// The page records of one block.
 #[derive(Clone, Copy, Debug, PartialEq, Eq)]
@@ -12,61 +17,115 @@ pub struct PageCounts {
     pub pages: u64,
     /// The records of pages of zeros.
     pub zeros: u64,
+    /// The pages that have a record. A page may have several.
+    pub recorded: u64,
 }
 
 impl PageCounts {
     /// No records.
-    pub const NONE: PageCounts = PageCounts { pages: 0, zeros: 0 };
+    pub const NONE: PageCounts = PageCounts {
+        pages: 0,
+        zeros: 0,
+        recorded: 0,
+    };
 
-    /// Returns how many records the block has.
-    pub fn records(self) -> u64
-        ensures { self.pages + self.zeros < 2 ^ 64 → result ≡ self.pages + self.zeros }
-    {
-        self.pages.saturating_add(self.zeros)
-    }
-
-    // Returns the counts with one record more.
-    fn with(self, is_zero: bool) -> PageCounts {
-        if is_zero {
-            return PageCounts {
+    // Returns the counts with one record more; `is_new` if it is the first of its page.
+    fn with(self, is_zero: bool, is_new: bool) -> PageCounts {
+        let counts = if is_zero {
+            PageCounts {
                 zeros: self.zeros.saturating_add(1),
                 ..self
-            };
+            }
+        } else {
+            PageCounts {
+                pages: self.pages.saturating_add(1),
+                ..self
+            }
+        };
+        if !is_new {
+            return counts;
         }
         PageCounts {
-            pages: self.pages.saturating_add(1),
-            ..self
+            recorded: counts.recorded.saturating_add(1),
+            ..counts
         }
     }
 }
 
-/// Returns the least number of a block's `pages` that have none of its `records`. A page may have
-/// several.
-pub(crate) fn pages_without(pages: u64, records: u64) -> u64
-    ensures { result ≡ pages - records }
+/// Returns how many of a block's `pages` have no record, if `recorded` of them have one.
+pub(crate) fn pages_without(pages: u64, recorded: u64) -> u64
+    ensures { result ≡ pages - recorded }
 {
-    pages.saturating_sub(records)
+    pages.saturating_sub(recorded)
 }
 
-/// The table of a stream, and the counts of page records, block by block.
+// Returns how many pages all blocks of `table` have.
+fn pages_of(table: &Table) -> u64
+    ensures { result ≡ total_pages table.now.blocks }
+{
+    let mut pages = 0;
+    for i in 0..table.len() {
+        pages += table.pages(i);
+    }
+    pages
+}
+
+/// How much of a guest's memory a complete stream has.
+#[derive(Clone, Copy, Debug, PartialEq, Eq)]
+pub enum Coverage {
+    /// Each page has a record, or the stream is applied to existing memory.
+    Whole,
+    /// Pages have no record, and that is meant (`--partial`).
+    Partial,
+    /// Pages have no record.
+    Incomplete,
+}
+
+/// The table of a stream, the counts of page records, block by block, and which pages have one.
 #[derive(Drop)]
 pub struct Blocks {
     pub table: Table,
     pub counts: Vec<PageCounts>,
+    /// The pages that have a record, a bit for each.
+    pub recorded: Dirty,
 }
 
 impl Blocks {
-    /// Creates the counts of a stream without records.
-    pub fn new(alloc: Global, table: Table) -> Result<Blocks, AllocError> {
+    /// Creates the counts of a stream without records. Its bits take 32 KiB for each GiB of the
+    /// table at pages of 4,096 bytes, whatever the stream has. So they take at most 32 MiB, for
+    /// 2^40 bytes.
+    ///
+    /// # Errors
+    ///
+    /// `Trouble::NoMemory`.
+    pub fn new(alloc: Global, table: Table) -> Result<Blocks, Trouble>
+        ensures none { IfOk result (λ blocks. blocks.recorded ≡ record { table = table; marked = [] }) }
+    {
         let counts = vec![in alloc; PageCounts::NONE; table.len()]?;
-        Ok(Blocks { table, counts })
+        let recorded = Dirty::none(alloc, &table)?;
+        Ok(Blocks {
+            table,
+            counts,
+            recorded,
+        })
     }
 
     /// Counts a record of the page at `place`; `is_zero` for a page of zeros.
-    pub fn count(&mut self, place: Place, is_zero: bool) {
-        if place.block < self.counts.len() {
-            self.counts[place.block] = self.counts[place.block].with(is_zero);
+    ///
+    /// # Errors
+    ///
+    /// `Trouble::NoMemory`.
+    pub fn count(&mut self, place: Place, is_zero: bool) -> Result<(), Trouble>
+        ensures recorded { OnOk result (IsPlace self.old.recorded.table place → self.new.recorded ≡ with_place self.old.recorded place) }
+    {
+        if !self.recorded.table().holds(place) {
+            return Ok(());
         }
+        let is_new = self.recorded.mark(place)?;
+        if place.block < self.counts.len() {
+            self.counts[place.block] = self.counts[place.block].with(is_zero, is_new);
+        }
+        Ok(())
     }
 
     /// Returns the sum of the blocks' lengths.
@@ -94,16 +153,48 @@ impl Blocks {
         self.table.pages(block)
     }
 
-    /// Returns how many page records a block has.
-    pub fn records(&self, block: usize) -> u64 {
+    /// Returns how many of a block's pages have no record.
+    pub fn missing(&self, block: usize) -> u64 {
         match self.counts.get(block) {
-            Some(counts) => counts.records(),
-            None => 0,
+            Some(counts) => pages_without(self.pages(block), counts.recorded),
+            None => self.pages(block),
         }
     }
 
-    /// Returns the least number of a block's pages that have no record.
-    pub fn missing(&self, block: usize) -> u64 {
-        pages_without(self.pages(block), self.records(block))
+    /// Returns whether each page of each block has a record.
+    pub fn is_whole(&self) -> bool
+        ensures { IsTrue result ↔ IsWhole self.now }
+    {
+        self.recorded.count() == pages_of(self.recorded.table())
+    }
+
+    /// Returns whether none of a block's pages has a record.
+    pub fn is_absent(&self, block: usize) -> bool {
+        self.missing(block) == self.pages(block)
+    }
+
+    /// Returns the counts of all blocks together.
+    pub fn counts_of_all(&self) -> PageCounts {
+        let mut all = PageCounts::NONE;
+        for counts in &self.counts {
+            all = PageCounts {
+                pages: all.pages.saturating_add(counts.pages),
+                zeros: all.zeros.saturating_add(counts.zeros),
+                recorded: all.recorded.saturating_add(counts.recorded),
+            };
+        }
+        all
+    }
+
+    /// Returns how much of the memory the stream has; `is_partial` if pages without a record are
+    /// meant.
+    pub fn coverage(&self, is_partial: bool) -> Coverage {
+        if self.is_whole() {
+            Coverage::Whole
+        } else if is_partial {
+            Coverage::Partial
+        } else {
+            Coverage::Incomplete
+        }
     }
 }

@@ -21,6 +21,8 @@ pub struct Inlet<F: Drop> {
     // the length of the file in bytes; 0 of a pipe
     len: u64,
     pieces: Pieces,
+    // whether the file's end was reached
+    is_over: bool,
 }
 
 impl<F: Read + OpenFile + Drop> Inlet<F> {
@@ -33,6 +35,14 @@ impl<F: Read + OpenFile + Drop> Inlet<F> {
     pub fn len(&self) -> u64 {
         self.len.max(self.pieces.read)
     }
+
+    /// Returns the length in bytes; None of a pipe that wasn't read to its end.
+    pub fn input_len(&self) -> Option<u64> {
+        if self.is_over || self.len != 0 {
+            return Some(self.len());
+        }
+        None
+    }
 }
 
 // Opens the file of a channel, and reads its first piece.
@@ -41,12 +51,13 @@ fn open_inlet<H: AllocGlobal + Files>(rt: &H, path: &str) -> Result<Inlet<H::Fil
     let mut file = open(rt, alloc, path)?;
     let len = file.len()?;
     let mut pieces = Pieces::new(alloc)?;
-    file.refill(&mut pieces)?;
+    let is_over = !file.refill(&mut pieces)?;
     Ok(Inlet {
         name: shown_name(alloc, path)?,
         file,
         len,
         pieces,
+        is_over,
     })
 }
 
@@ -122,6 +133,7 @@ impl<F: Read + OpenFile + Drop> Channel<F> {
             let (taken, needs_more) = self.lane.read(piece, guest, sink)?;
             self.inlet.pieces.take(taken);
             if needs_more && !self.inlet.file.refill(&mut self.inlet.pieces)? {
+                self.inlet.is_over = true;
                 self.lane.end();
             }
         }

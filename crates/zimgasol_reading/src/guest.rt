@@ -117,7 +117,7 @@ impl Guest {
         if !self.blocks.table.holds(place) {
             return Ok(());
         }
-        self.blocks.count(place, content.is_none());
+        self.blocks.count(place, content.is_none())?;
         sink.put(place, content)
     }
 

@@ -1,4 +1,4 @@
-//! Keeps the first bytes of the stream's current item, for the block that it names.
+//! Keeps the first bytes of the stream's current item, for the block or the section that it names.
 
 ghost use Rattle.std.specs.Prelude.{◌≡◌};
 
@@ -57,10 +57,30 @@ impl Head {
         Ok(())
     }
 
+    /// Returns the first bytes of the item, and of those after it.
+    pub fn bytes(&self) -> &[u8] {
+        self.bytes.as_slice()
+    }
+
     /// Returns the id of the block that the item names; None if it isn't a page record with an id.
     pub fn id(&self) -> Option<&[u8]> {
         id_in(&self.bytes)
     }
+}
+
+/// Returns the id of the section whose head begins at the byte `at` of `item`, after its type byte.
+/// None if the head is cut.
+pub fn section_id(item: &[u8], at: usize) -> Option<u32> {
+    let bytes = item.get(at..)?.first_chunk::<4>()?;
+    Some(u32::from_be_bytes(*bytes))
+}
+
+/// Returns the name of the section whose head begins at the byte `at` of `item`, after its type
+/// byte. None if the head is cut.
+pub fn section_name(item: &[u8], at: usize) -> Option<&[u8]> {
+    let head = item.get(at..)?;
+    let len = *head.get(4)?;
+    head.get(5..5 + usize::from(len))
 }
 
 // Returns the id that a page record names; None if the record is cut or names none.

@@ -1,7 +1,7 @@
 //! Reads the header that libvirt puts before QEMU's stream in the file of `virsh save`
 //! (`virQEMUSaveHeader` in libvirt's `src/qemu/qemu_saveimage.h`).
 
-use zimgasol_files::Trouble;
+use zimgasol_files::{Packed, Trouble};
 
 /// The bytes of the header, before its XML.
 const HEADER_LEN: usize = 92;
@@ -36,17 +36,27 @@ fn field(bytes: &[u8], at: usize, is_little: bool) -> u32 {
     }
 }
 
-// Returns why a stream in the format `format` can't be read.
-fn format_trouble(format: u32) -> &'static str {
-    match format {
-        1 => "libvirt compressed the stream with gzip; save it with save_image_format = \"raw\"",
-        2 => "libvirt compressed the stream with bzip2; save it with save_image_format = \"raw\"",
-        3 => "libvirt compressed the stream with xz; save it with save_image_format = \"raw\"",
-        4 => "libvirt compressed the stream with lzop; save it with save_image_format = \"raw\"",
-        5 => "libvirt compressed the stream with zstd; save it with save_image_format = \"raw\"",
-        6 => "libvirt saved it sparse (mapped-ram); save it with save_image_format = \"raw\"",
-        _ => "libvirt's header names a format of the stream that isn't known",
-    }
+// Returns why a stream in the format `format`, after a header of `len` bytes, can't be read.
+fn format_trouble(format: u32, len: u64) -> Trouble {
+    let packer = match format {
+        1 => "gzip",
+        2 => "bzip2",
+        3 => "xz",
+        4 => "lzop",
+        5 => "zstd",
+        6 => {
+            return Trouble::Libvirt(
+                "libvirt saved it sparse (mapped-ram); save it with save_image_format = \"raw\"",
+            );
+        }
+        _ => {
+            return Trouble::Libvirt(
+                "libvirt's header names a format of the stream that isn't known",
+            );
+        }
+    };
+    let first = len.saturating_add(1);
+    Trouble::Packed(None, Packed { packer, first })
 }
 
 /// Returns the header at the beginning of a file; None if the file isn't libvirt's.
@@ -54,7 +64,7 @@ fn format_trouble(format: u32) -> &'static str {
 /// # Errors
 ///
 /// `Trouble::Libvirt` if the save was never completed, the header is cut or has another version, or
-/// the stream is compressed or sparse.
+/// the stream is sparse. `Trouble::Packed` if the stream is compressed.
 pub(crate) fn header_of(bytes: &[u8]) -> Result<Option<LibvirtHeader>, Trouble> {
     if bytes.starts_with(PARTIAL_MAGIC) {
         return Err(Trouble::Libvirt("libvirt never completed this save"));
@@ -69,12 +79,13 @@ pub(crate) fn header_of(bytes: &[u8]) -> Result<Option<LibvirtHeader>, Trouble> 
     if !is_little && field(bytes, 16, false) != VERSION {
         return Err(Trouble::Libvirt("libvirt's header has a version other than 2"));
     }
+    let len = HEADER_LEN as u64 + u64::from(field(bytes, 20, is_little));
     let format = field(bytes, 28, is_little);
     if format != 0 {
-        return Err(Trouble::Libvirt(format_trouble(format)));
+        return Err(format_trouble(format, len));
     }
     Ok(Some(LibvirtHeader {
-        len: HEADER_LEN as u64 + u64::from(field(bytes, 20, is_little)),
+        len,
         was_running: field(bytes, 24, is_little) != 0,
     }))
 }

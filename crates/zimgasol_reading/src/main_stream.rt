@@ -4,13 +4,14 @@ ghost use Rattle.std.specs.Prelude.{◌≡◌, ◌+◌, ◌<◌, ◌≤◌, ◌^
 
 use crate::between::{Note, SectionKind};
 use crate::guest::Guest;
+use crate::heads::Head;
 use crate::sections::Sections;
 use crate::sink::PageSink;
+use crate::tail::{Ending, Tail};
 use mig_answer::{Status, stream_end};
-use mig_mem::MAX_TOTAL;
 use mig_stream::{Mode, StreamReader, StreamState};
 use std::alloc::{AllocGlobal, Global};
-use std::fs::Files;
+use std::fs::{Files, Metadata};
 use std::io::Read;
 use zimgasol_files::{Pieces, StreamWords, Trouble};
 
@@ -20,8 +21,17 @@ pub struct MainStream {
     reader: StreamReader<'static>,
     pieces: Pieces,
     sections: Sections,
+    // the first bytes of the item that isn't complete, or has the fault
+    head: Head,
     // whether the current round is complete
     is_whole: bool,
+    /// What is known of the bytes after RAM, once the input's end was reached.
+    pub ending: Ending,
+    // the bytes after RAM
+    tail: Tail,
+    // whether the input's end was reached, and the length of the file that it is
+    is_over: bool,
+    file_len: Option<u64>,
 }
 
 impl MainStream {
@@ -29,11 +39,29 @@ impl MainStream {
     pub fn new(alloc: Global, words: &StreamWords<'_>) -> Result<MainStream, Trouble> {
         let page_size = words.page_size.bytes();
         Ok(MainStream {
-            reader: StreamReader::new_in(alloc, words.frame, Mode::Main, page_size, MAX_TOTAL),
+            reader: StreamReader::new_in(
+                alloc,
+                words.frame,
+                Mode::MainAsShown,
+                page_size,
+                words.limit(),
+            ),
             pieces: Pieces::new(alloc)?,
             sections: Sections::new(alloc, page_size),
+            head: Head::new(alloc),
             is_whole: false,
+            ending: Ending::unchecked(),
+            tail: Tail::new(alloc, words.checks_tail()),
+            is_over: false,
+            file_len: None,
         })
+    }
+
+    /// Takes the length of the file that the stream is read from.
+    pub fn expect_file(&mut self, metadata: &Metadata) {
+        if metadata.is_file() {
+            self.file_len = Some(metadata.len());
+        }
     }
 
     /// Reads up to the end of the current round. Creates the guest once the table is known, and
@@ -57,6 +85,7 @@ impl MainStream {
             if self.pieces.refill(input)? {
                 self.feed()?;
             } else {
+                self.is_over = true;
                 self.reader.end();
             }
         }
@@ -81,6 +110,11 @@ impl MainStream {
             StreamState::Reading | StreamState::Closed => u64::MAX,
         };
         self.sections.look(piece, fed, limit)?;
+        self.head.look(piece, fed, self.reader.valid_up_to())?;
+        if let StreamState::Closed = self.reader.state() {
+            let from = self.reader.valid_up_to().saturating_sub(fed);
+            self.tail.look(piece.get(from as usize..).unwrap_or(&[]))?;
+        }
         self.pieces.take_all();
         Ok(())
     }
@@ -121,18 +155,21 @@ impl MainStream {
         }
     }
 
-    /// Reads the rest of `input`, and counts its bytes.
+    /// Reads the rest of `input`, the bytes after RAM.
     ///
     /// # Errors
     ///
-    /// `Trouble::Unread` if a read fails.
+    /// `Trouble::Unread` if a read fails, `Trouble::NoMemory`.
     pub fn read_rest<R: Read>(&mut self, input: &mut R) -> Result<(), Trouble> {
         for _ in 0..u64::MAX {
             self.pieces.take_all();
             if !self.pieces.refill(input)? {
                 break;
             }
+            self.tail.look(self.pieces.waiting())?;
         }
+        self.is_over = true;
+        self.ending = self.tail.ending()?;
         Ok(())
     }
 
@@ -154,6 +191,11 @@ impl MainStream {
         self.sections.notes(self.valid())
     }
 
+    /// Returns the first bytes of the item that isn't complete, or has the fault.
+    pub fn item(&self) -> &[u8] {
+        self.head.bytes()
+    }
+
     /// Returns how many sections are complete, and the kind of the one that is open.
     pub fn section(&self) -> (u64, Option<SectionKind>) {
         (self.sections.count, self.sections.kind(self.valid()))
@@ -167,5 +209,14 @@ impl MainStream {
     /// Returns how many bytes were read of the input.
     pub fn len(&self) -> u64 {
         self.pieces.read
+    }
+
+    /// Returns the length of the input in bytes; None if reading stopped at a fault, and the input
+    /// is no plain file.
+    pub fn input_len(&self) -> Option<u64> {
+        if self.is_over {
+            return Some(self.pieces.read);
+        }
+        self.file_len
     }
 }

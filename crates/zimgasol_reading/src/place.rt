@@ -1,9 +1,10 @@
 //! Locates the fault of a single stream: byte, section and block.
 
-ghost use Rattle.std.specs.Prelude.{◌≡◌, ◌↔◌, IsNone, IfSome};
+ghost use Rattle.std.specs.Prelude.{◌≡◌, ◌↔◌, IsNone, IsTrue, IfSome};
 ghost use Rattle.mig_stream.specs.declared.fault.StreamFault.{StreamFault};
 ghost use Rattle.mig_stream.specs.declared.fault.StreamFault.TheVariants as fault;
 ghost use Rattle.mig_stream.specs.declared.item.StreamState.TheVariants as state;
+ghost use Rattle.zimgasol_reading.specs.Coverage.{IsComplete};
 
 use crate::between::SectionKind;
 use crate::survey::Survey;
@@ -41,6 +42,17 @@ pub fn fault_of(survey: &Survey) -> Option<FaultPlace>
         sections: survey.sections,
         kind: kind_at(survey),
     })
+}
+
+/// Returns whether a stream that was read to its end is complete: it is closed, and each of its
+/// pages has a record or needn't have one.
+pub fn is_complete(survey: &Survey) -> bool
+    ensures { IsTrue result ↔ IsComplete survey.now }
+{
+    match fault_of(survey) {
+        Some(_) => false,
+        None => survey.has_its_pages(),
+    }
 }
 
 // Returns the kind of the section in which the reading stopped; None between two sections. A

@@ -5,10 +5,12 @@
 //! The verdict on the sources' statuses is that of `verdict_told` (`mig_answer`), the verdict on a
 //! complete round that of `Arrivals::judge` (`mig_assemble`).
 
-ghost use Rattle.std.specs.Prelude.{◌≡◌, ◌↔◌, ◌≤◌, Some, IsNone};
+ghost use Rattle.std.specs.Prelude.{◌≡◌, ◌↔◌, ◌≤◌, Some, IsNone, IfSome, IsTrue};
 ghost use Rattle.mig_single_load.specs.declared.fault.LoadFault.{LoadFault};
 ghost use Rattle.mig_answer.specs.declared.verdict.Verdict.TheVariants as verdict;
+ghost use Rattle.zimgasol_reading.specs.Coverage.{IsWhole, HasItsPages, AreComplete};
 
+use crate::blocks::Coverage;
 use crate::channel::{Channel, channels_of, hello_uuid, open_inlets};
 use crate::guest::Guest;
 use crate::main_stream::MainStream;
@@ -42,6 +44,8 @@ pub struct Several<F: Drop> {
     pub verdict: Verdict,
     /// Whether it is applied to existing memory, so that it needn't have a record of each page.
     pub is_laid_over: bool,
+    /// Whether pages without a record are meant (`--partial`).
+    pub is_partial: bool,
 }
 
 // Opens the channels.
@@ -69,6 +73,7 @@ fn opened<H: AllocGlobal + Files>(
         base: 0,
         verdict: Verdict::Running,
         is_laid_over: false,
+        is_partial: words.partial,
     })
 }
 
@@ -86,6 +91,37 @@ impl<F: Read + OpenFile + Drop> Several<F> {
                 source: Origin::Round,
                 fault: Fault::NoMemory,
             }),
+        }
+    }
+
+    /// Returns whether each page has a record or needn't have one, after the sources were read.
+    pub fn has_its_pages(&self) -> bool
+        ensures { IsTrue result ↔ HasItsPages self.now.is_laid_over self.now.is_partial (IfSome self.now.guest (λ guest. IsWhole guest.blocks)) }
+    {
+        if self.is_laid_over || self.is_partial {
+            return true;
+        }
+        match &self.guest {
+            Some(guest) => guest.blocks.is_whole(),
+            None => true,
+        }
+    }
+
+    /// Returns how much of the memory the sources have, after they were read.
+    pub fn coverage(&self) -> Coverage {
+        match &self.guest {
+            Some(guest) if !self.is_laid_over => guest.blocks.coverage(self.is_partial),
+            _ => Coverage::Whole,
+        }
+    }
+
+    /// Returns whether all sources are complete, and each page has a record or needn't have one.
+    pub fn is_complete(&self) -> bool
+        ensures { IsTrue result ↔ AreComplete self.now }
+    {
+        match self.fault() {
+            Some(_) => false,
+            None => self.has_its_pages(),
         }
     }
 
@@ -119,14 +155,16 @@ impl<F: Read + OpenFile + Drop> Several<F> {
         watch.expect_total(total);
     }
 
-    // Takes the lengths of the files for the progress; the main stream is read from `main`.
-    fn expect_file(&self, main: &F, watch: &mut Watch) {
+    // Takes the lengths of the files; the main stream is read from `main`.
+    fn expect_file(&mut self, main: &F, watch: &mut Watch) {
         if let Ok(metadata) = main.metadata() {
+            self.main.expect_file(&metadata);
             self.expect(&metadata, watch);
         }
     }
 
-    // Reads all sources, round by round, up to the verdict.
+    // Reads all sources, round by round, up to the verdict. Reads the rest of the main stream,
+    // unless there is a fault.
     fn read<H: AllocGlobal + Files + Clock, R: Read, S: PageSink<H>, E: Write>(
         &mut self,
         rt: &H,
@@ -146,6 +184,9 @@ impl<F: Read + OpenFile + Drop> Several<F> {
                 break;
             }
             self.advance();
+        }
+        if self.fault().is_some() {
+            return Ok(());
         }
         self.main.read_rest(input)
     }

@@ -1,15 +1,17 @@
 //! Reads a single stream in pieces. Passes each page on as it is read, counts the stream's items,
 //! and finds its fault.
 
-ghost use Rattle.std.specs.Prelude.{◌≡◌, ◌≤◌, ◌^◌, length, IfOk};
+ghost use Rattle.std.specs.Prelude.{◌≡◌, ◌↔◌, ◌≤◌, ◌^◌, length, IfOk, IfSome, IsTrue};
 ghost use Rattle.mig_stream.specs.Giving.{HasNoneLeft};
+ghost use Rattle.zimgasol_reading.specs.Coverage.{IsWhole, HasItsPages};
 
 use crate::between::Between;
-use crate::blocks::Blocks;
+use crate::blocks::{Blocks, Coverage};
 use crate::heads::Head;
 use crate::libvirt::{LibvirtHeader, header_of};
 use crate::sink::PageSink;
-use mig_mem::{MAX_TOTAL, Place};
+use crate::tail::{Ending, Tail};
+use mig_mem::Place;
 use mig_stream::{Frame, Given, Pause, RecordReader, StreamState};
 use std::alloc::{AllocGlobal, Global};
 use std::fs::{File, Files, Metadata, OpenFile};
@@ -39,17 +41,29 @@ pub struct Survey {
     pub state: StreamState,
     /// The bytes of the stream that are complete items without a fault.
     pub valid: u64,
-    /// The bytes of the input, with libvirt's header and the bytes after the stream.
+    /// The bytes of the input that were read, with libvirt's header and the bytes after the stream.
+    /// After a fault no more are read.
     pub len: u64,
+    /// What is known of the bytes after RAM, once the input's end was reached.
+    pub ending: Ending,
     /// The progress that is printed.
     pub watch: Watch,
     /// Whether the stream is applied to existing memory, so that it needn't have a record of each
     /// page.
     pub is_laid_over: bool,
+    /// Whether pages without a record are meant (`--partial`).
+    pub is_partial: bool,
+    // whether the sink has the table
+    is_begun: bool,
     // the reader for the next piece; None after the stream's end or fault
     pause: Option<Pause>,
     // the number of the stream's bytes that were read
     fed: u64,
+    // the bytes after RAM
+    tail: Tail,
+    // whether the input's end was reached, and the length of the file that it is
+    is_over: bool,
+    file_len: Option<u64>,
 }
 
 impl Survey {
@@ -68,10 +82,16 @@ impl Survey {
             state: StreamState::Reading,
             valid: 0,
             len: 0,
+            ending: Ending::unchecked(),
             watch,
             is_laid_over: false,
-            pause: Some(Pause::new_in(alloc, words.frame, page_size, MAX_TOTAL)),
+            is_partial: words.partial,
+            is_begun: false,
+            pause: Some(Pause::new_in(alloc, words.frame, page_size, words.limit())),
             fed: 0,
+            tail: Tail::new(alloc, words.checks_tail()),
+            is_over: false,
+            file_len: None,
         }
     }
 
@@ -83,19 +103,50 @@ impl Survey {
         }
     }
 
-    /// Takes the length of the file that the stream is read from, for the progress.
+    /// Returns whether each page has a record or needn't have one, after the stream was read.
+    pub fn has_its_pages(&self) -> bool
+        ensures { IsTrue result ↔ HasItsPages self.now.is_laid_over self.now.is_partial (IfSome self.now.blocks IsWhole) }
+    {
+        if self.is_laid_over || self.is_partial {
+            return true;
+        }
+        match &self.blocks {
+            Some(blocks) => blocks.is_whole(),
+            None => true,
+        }
+    }
+
+    /// Returns how much of the memory the stream has, after it was read to its end.
+    pub fn coverage(&self) -> Coverage {
+        match &self.blocks {
+            Some(blocks) if !self.is_laid_over => blocks.coverage(self.is_partial),
+            _ => Coverage::Whole,
+        }
+    }
+
+    /// Takes the length of the file that the stream is read from.
     pub fn expect_file(&mut self, metadata: &Metadata) {
         if metadata.is_file() {
+            self.file_len = Some(metadata.len());
             self.watch.expect_total(metadata.len());
         }
     }
 
-    /// Reads `input` to its end, and passes the pages of its stream to `sink`.
+    /// Returns the length of the input in bytes; None if reading stopped at a fault, and the input
+    /// is no plain file.
+    pub fn input_len(&self) -> Option<u64> {
+        if self.is_over {
+            return Some(self.len);
+        }
+        self.file_len
+    }
+
+    /// Reads `input` to its end, or to a fault, and passes the pages of its stream to `sink`.
     ///
     /// # Errors
     ///
-    /// `Trouble::Unread` if a read fails, `Trouble::Libvirt` of libvirt's header,
-    /// `Trouble::NoMemory`, and those of `sink`.
+    /// `Trouble::Unread` if a read fails, `Trouble::Libvirt` and `Trouble::Packed` of libvirt's
+    /// header, `Trouble::NoMemory`, and those of `sink`.
     pub fn read<H: AllocGlobal + Files + Clock, R: Read, S: PageSink<H>, E: Write>(
         &mut self,
         rt: &H,
@@ -109,6 +160,7 @@ impl Survey {
         let mut skip = self.before();
         'pieces: for _ in 0..u64::MAX {
             if len == 0 {
+                self.is_over = true;
                 break;
             }
             self.len = self.len.saturating_add(len as u64);
@@ -116,7 +168,18 @@ impl Survey {
             skip -= skipped;
             self.feed(rt, &buffer[skipped as usize..len], sink)?;
             self.watch.show(rt, errors, self.len);
+            if let StreamState::Bad(_) = self.state {
+                break;
+            }
             len = read_piece(input, buffer)?;
+        }
+        self.end_tail()
+    }
+
+    // Notes what is known of the bytes after RAM, if the stream has them.
+    fn end_tail(&mut self) -> Result<(), Trouble> {
+        if let StreamState::Closed = self.state {
+            self.ending = self.tail.ending()?;
         }
         Ok(())
     }
@@ -129,12 +192,25 @@ impl Survey {
         sink: &mut S,
     ) -> Result<(), Trouble> {
         let Some(pause) = self.pause.take() else {
+            self.tail.look(piece)?;
             return Ok(());
         };
         let start = self.fed;
         self.fed = start.saturating_add(piece.len() as u64);
         self.between.look(piece, start)?;
-        self.read_by(rt, pause.resume(piece), piece, start, sink)
+        self.read_by(rt, pause.resume(piece), piece, start, sink)?;
+        self.begin_tail(piece, start)
+    }
+
+    // Takes the bytes of `piece` after the stream's end, if it has that. `piece` begins at the
+    // stream's byte `start`.
+    fn begin_tail(&mut self, piece: &[u8], start: u64) -> Result<(), Trouble> {
+        let StreamState::Closed = self.state else {
+            return Ok(());
+        };
+        let from = self.valid.saturating_sub(start);
+        self.tail.look(piece.get(from as usize..).unwrap_or(&[]))?;
+        Ok(())
     }
 
     // Reads `piece`, which begins at the stream's byte `start`, by `reader`.
@@ -191,6 +267,7 @@ impl Survey {
     {
         'records: loop {
             let gave = reader.read_on()?;
+            self.list_blocks(rt, reader)?;
             if let Given::End(found) = gave {
                 return Ok(found);
             }
@@ -204,19 +281,34 @@ impl Survey {
         }
     }
 
-    // Takes the table, as soon as `reader` has it.
+    // Lists the blocks, as soon as `reader` has the table: also if no record follows it.
+    fn list_blocks<H: AllocGlobal>(
+        &mut self,
+        rt: &H,
+        reader: &RecordReader<'_>,
+    ) -> Result<(), Trouble> {
+        if self.blocks.is_some() {
+            return Ok(());
+        }
+        if let Some(table) = reader.table() {
+            self.blocks = Some(Blocks::new(rt.alloc(), table.try_copy()?)?);
+        }
+        Ok(())
+    }
+
+    // Passes the table to `sink`, before the first records.
     fn begin<H: AllocGlobal + Files, S: PageSink<H>>(
         &mut self,
         rt: &H,
         reader: &RecordReader<'_>,
         sink: &mut S,
     ) -> Result<(), Trouble> {
-        if self.blocks.is_some() {
+        if self.is_begun {
             return Ok(());
         }
         if let Some(table) = reader.table() {
             sink.begin(rt, table)?;
-            self.blocks = Some(Blocks::new(rt.alloc(), table.try_copy()?)?);
+            self.is_begun = true;
         }
         Ok(())
     }
@@ -233,21 +325,21 @@ impl Survey {
             sink.put(place, content)?;
             self.last = Some(place);
             if let Some(blocks) = &mut self.blocks {
-                blocks.count(place, content.is_none());
+                blocks.count(place, content.is_none())?;
             }
         }
         Ok(())
     }
 }
 
-// Takes the length of `file` for the progress.
+// Takes the length of `file`.
 fn expect_len<F: OpenFile>(survey: &mut Survey, file: &F) {
     if let Ok(metadata) = file.metadata() {
         survey.expect_file(&metadata);
     }
 }
 
-// Reads a stream from the file `name` to its end.
+// Reads a stream from the file `name`.
 fn read_named<H: AllocGlobal + Files + Clock, S: PageSink<H>, E: Write>(
     rt: &H,
     name: &str,
@@ -261,7 +353,7 @@ fn read_named<H: AllocGlobal + Files + Clock, S: PageSink<H>, E: Write>(
     survey.read(rt, &mut file, buffer, sink, errors)
 }
 
-// Reads a stream to its end, from the file `name` or from `input`.
+// Reads a stream from the file `name` or from `input`.
 fn read_whole<H: AllocGlobal + Files + Clock, R: Read, S: PageSink<H>, E: Write>(
     rt: &H,
     name: &str,
@@ -277,13 +369,13 @@ fn read_whole<H: AllocGlobal + Files + Clock, R: Read, S: PageSink<H>, E: Write>
     read_named(rt, name, survey, &mut buffer, sink, errors)
 }
 
-/// Reads a stream to its end, from its file or from `input`, and passes its pages to `sink`. A
-/// fault of the stream is no error: the survey has it.
+/// Reads a stream to its end or to a fault, from its file or from `input`, and passes its pages to
+/// `sink`. A fault of the stream is no error: the survey has it.
 ///
 /// # Errors
 ///
-/// `Trouble::Unread` where the file can't be opened or read, `Trouble::Libvirt` of libvirt's
-/// header, `Trouble::NoMemory`, and those of `sink`.
+/// `Trouble::Unread` where the file can't be opened or read, `Trouble::Libvirt` and
+/// `Trouble::Packed` of libvirt's header, `Trouble::NoMemory`, and those of `sink`.
 pub fn read_stream<H: AllocGlobal + Files + Clock, R: Read, S: PageSink<H>, E: Write>(
     rt: &H,
     words: &StreamWords<'_>,

@@ -1,0 +1,24 @@
+-- When a saved guest is complete.
+use Rattle.std.specs.Prelude.{◌≡◌, ◌⊎◌, length, Bool, IsTrue, IfSome}
+use Rattle.mig_mem.specs.RamTable.{total_pages}
+use Rattle.mig_stream.specs.declared.item.StreamState.TheVariants as state
+use Rattle.mig_answer.specs.declared.verdict.Verdict.TheVariants as verdict
+use Rattle.zimgasol_reading.specs.declared.blocks.Blocks.{Blocks}
+use Rattle.zimgasol_reading.specs.declared.survey.Survey.{Survey}
+use Rattle.zimgasol_reading.specs.declared.several.Several.{Several}
+
+-- Each page of the table has a record or is a packet's: the set has as many pages as the table.
+abbrev pub IsWhole : Blocks → Type 0
+IsWhole blocks = length blocks.recorded.marked ≡ total_pages blocks.recorded.table.blocks
+
+-- Pages may lack if the stream is applied to existing memory, or if only a part is meant.
+abbrev pub HasItsPages : Bool → Bool → Type 0 → Type 0
+HasItsPages is_laid_over is_partial whole = IsTrue is_laid_over ⊎ (IsTrue is_partial ⊎ whole)
+
+-- a single stream: closed, with its pages
+abbrev pub IsComplete : Survey → Type 0
+IsComplete survey = (survey.state ≡ state.Closed) × HasItsPages survey.is_laid_over survey.is_partial (IfSome survey.blocks IsWhole)
+
+-- a main stream and its channels
+abbrev pub AreComplete : {F : Type 0} → Several F → Type 0
+AreComplete several = (several.verdict ≡ verdict.Done) × HasItsPages several.is_laid_over several.is_partial (IfSome several.guest (λ guest. IsWhole guest.blocks))
