@@ -164,6 +164,12 @@ CASES = [
         ["cpr.sav: partial: sections 2, blocks 1, memory 4194304 bytes, RAM ends at byte 89, devices: whole, 1011 bytes",
          """cpr.sav: INCOMPLETE: 1024 of 1024 pages of block "m0" have no record: it isn't in the stream""",
          f"cpr.sav: INCOMPLETE: {NOT_SENT}"], 1)),
+    # (both are told: that RAM isn't there, and that the devices are cut)
+    ("head -c 600 cpr.sav > cut-cpr.sav", ([], 0)),
+    ("zimgasol verify cut-cpr.sav", (
+        ["""cut-cpr.sav: INCOMPLETE: 1024 of 1024 pages of block "m0" have no record: it isn't in the stream""",
+         f"cut-cpr.sav: INCOMPLETE: {NOT_SENT}",
+         tail_facts.fault_line("cut-cpr.sav", 600, (RUNS / "data" / "cpr.sav").read_bytes()[89:600])], 1)),
     ("zimgasol verify persection.sav", (
         ["persection.sav: partial: sections 3, blocks 1, memory 2097152 bytes, RAM ends at byte 108, devices: whole, 1011 bytes",
          """persection.sav: INCOMPLETE: 512 of 512 pages of block "ram" have no record: it isn't in the stream""",
@@ -177,7 +183,8 @@ CASES = [
      r"printf '\3\0\0\0\1'; tail -c +55 guest.sav | head -c 13) > large.sav", ([], 0)),
     ("zimgasol verify large.sav", (
         ["""large.sav: INCOMPLETE: 268435456 of 268435456 pages of block "a" have no record: it isn't in the stream""",
-         f"large.sav: INCOMPLETE: {NOT_SENT}"], 1)),
+         f"large.sav: INCOMPLETE: {NOT_SENT}",
+         tail_facts.fault_line("large.sav", 83, b"")], 1)),
     # ---- a cut between the size list and the first record
     ("head -c 56 guest.sav > listed.sav", None),
     ("zimgasol inspect listed.sav", (
@@ -688,14 +695,14 @@ class Shell:
                 f"blocks {len(found['memory'])}, memory {memory} bytes, UUID {found['uuid']}, {self.ends(name, found, words)}")
         is_lacking = self.status
         wrongs = self.tail_wrongs(name, self.files[name], found, words) if words[1] == "verify" else []
-        return [line] * (not wrongs) + lacks + wrongs * (not is_lacking)
+        is_told = not wrongs if words[1] == "verify" else not is_lacking
+        return [line] * is_told + lacks + wrongs
 
     def inspect_several(self, name, words):
         found = self.several(name, words)
         word, lacks = self.judged(name, found, words)
-        is_lacking = self.status
         wrongs = self.tail_wrongs(name, self.files[name], found, words)
-        said = lacks + wrongs * (not is_lacking)
+        said = lacks + wrongs
         if "--json" in words:
             return self.several_json(name, found, words) + said
         lines = [f"file {name}, {len(self.files[name])} bytes", *map(self.note_line, found["notes"]),
@@ -761,7 +768,8 @@ class Shell:
         wrongs = self.tail_wrongs(name, data, found, words[3:]) if words[1] == "verify" else []
         line = (f"{name}: {word}: sections {found['sections']}, blocks {len(found['memory'])}, memory {memory} bytes, "
                 f"{self.after(data, found, words[3:])}")
-        return [line] * (not wrongs) + lacks + wrongs * (not is_lacking)
+        is_told = not wrongs if words[1] == "verify" else not is_lacking
+        return [line] * is_told + lacks + wrongs
 
     def judged(self, name, found, words):
         """The word for what a stream without a fault is, and the lines of the blocks that lack pages. Sets the status."""
@@ -834,9 +842,8 @@ class Shell:
     def inspect(self, name, data, words):
         found = self.facts(data)
         word, lacks = self.judged(name, found, words)
-        is_lacking = self.status
         wrongs = self.tail_wrongs(name, data, found, words)
-        said = lacks + wrongs * (not is_lacking)
+        said = lacks + wrongs
         if "--json" in words:
             return self.inspect_json(name, data, found, words) + said
         lines = [f"file {name}, {len(data)} bytes"]

@@ -126,10 +126,10 @@ pub fn put_several_all_wrongs<F: Read + OpenFile + Drop, E: Write>(
 ) -> Result<bool, Trouble>
     ensures verdict { IfOk result (λ is_complete. IsTrue is_complete ↔ (AreComplete several.now × IsNone several.now.main.ending.fault)) }
 {
-    if !put_several_wrongs(alloc, errors, name, several)? {
-        return Ok(false);
-    }
-    Ok(put_tail_wrong(errors, name, several.main.len(), &several.main.ending))
+    let is_complete = put_several_wrongs(alloc, errors, name, several)?;
+    let len = several.main.len();
+    let has_tail = put_tail_wrong(errors, name, len, &several.main.ending);
+    Ok(is_complete && has_tail)
 }
 
 /// Writes the verdict on all sources and on what follows RAM: to `output` that all are complete,
@@ -171,7 +171,7 @@ pub fn put_several_judgement<F: Read + OpenFile + Drop, W: Write, E: Write>(
 ) -> Result<bool, Trouble>
     ensures verdict { IfOk result (λ is_complete. IsTrue is_complete ↔ AreComplete several.now) }
 {
-    if several.fault().is_none() && !talk.quiet {
+    if several.is_complete() && !talk.quiet {
         put_complete(output, name, several).map_err(output_failed)?;
     }
     put_several_wrongs(alloc, errors, name, several)

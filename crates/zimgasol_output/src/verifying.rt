@@ -216,10 +216,9 @@ pub fn put_all_wrongs<E: Write>(
 ) -> Result<bool, Trouble>
     ensures verdict { IfOk result (λ is_complete. IsTrue is_complete ↔ (IsComplete survey.now × IsNone survey.now.ending.fault)) }
 {
-    if !put_wrongs(alloc, errors, name, survey)? {
-        return Ok(false);
-    }
-    Ok(put_tail_wrong(errors, name, survey.len, &survey.ending))
+    let is_complete = put_wrongs(alloc, errors, name, survey)?;
+    let has_tail = put_tail_wrong(errors, name, survey.len, &survey.ending);
+    Ok(is_complete && has_tail)
 }
 
 /// Writes the verdict on a stream and on what follows its RAM: success to `output`, unless
@@ -261,7 +260,7 @@ pub fn put_judgement<W: Write, E: Write>(
 ) -> Result<bool, Trouble>
     ensures verdict { IfOk result (λ is_complete. IsTrue is_complete ↔ IsComplete survey.now) }
 {
-    if fault_of(survey).is_none() && !talk.quiet {
+    if is_complete(survey) && !talk.quiet {
         put_complete(output, name, survey).map_err(Trouble::Output)?;
     }
     put_wrongs(alloc, errors, name, survey)
