@@ -75,6 +75,8 @@ impl<A: Allocator + Copy> Senders<A> {
         requires room { (0 < layout.batch) × (layout.batch ≤ page_limit table.now.page_size) }
         ensures table { IfOk result (AreSendersOf table.now) }
         ensures fresh { IfOk result (λ s. HaveSent s []) }
+        ensures several { IfOk result (λ s. MatchOption s.several (layout.channels ≡ 0) (IsNewSender table.now uuid layout)) }
+        ensures one { IfOk result (λ s. MatchOption s.several (is_some s.single ≡ true) (λ sender. s.single ≡ None)) }
     {
         let several = several(alloc, table, layout, uuid)?;
         let single = match several {
