@@ -726,9 +726,9 @@ ZIMGASOL_API void zimgasol_session_free(zimgasol_session *session);
  *             feed what waits of it, or read more; if its connection has ended and nothing waits,
  *             zimgasol_in_place_session_end(&load, source)
  *
- * Of a channel only the hello is taken before the main stream's table is known. Verdict and rounds
- * are those of a zimgasol_session of the bytes taken, but that a stream of another table is refused
- * (OTHER_TABLE), with nothing written. */
+ * Of a channel only the hello is taken while the main stream's size list may follow. Verdict and
+ * rounds are those of a zimgasol_session of the bytes taken, but that a stream of another table is
+ * refused (OTHER_TABLE), with nothing written. */
 
 /* Makes a load into blocks of a table, of which it keeps copies, from 1 to 255 channels under a
  * UUID of 16 bytes. Its main stream is read in this frame. Returns DONE, BAD_CHANNELS,
@@ -787,6 +787,21 @@ ZIMGASOL_API zimgasol_status zimgasol_in_place_session_closed_at(
  * returns whether it is known, as zimgasol_session_valid_up_to does. */
 ZIMGASOL_API bool zimgasol_in_place_session_valid_up_to(zimgasol_in_place_session *session,
     size_t source, uint64_t *at);
+
+/* Reports in *found the fault of the bytes taken of a source by themselves, whatever other sources
+ * have, and returns its number, or DONE if they have none. It is known at once, where the verdict
+ * is RUNNING as long as another source may still have bytes, and then names the first source with a
+ * fault. A source that was ended too early has STREAM_TRUNCATED, CHANNEL_TRUNCATED, or behind a
+ * packet without SYNC CHANNEL_UNSYNCED: so it says which connection broke. Returns BAD_SOURCE, with
+ * *found unchanged. After NO_MEMORY no fault is known. */
+ZIMGASOL_API zimgasol_status zimgasol_in_place_session_fault_of(
+    zimgasol_in_place_session *session, size_t source, zimgasol_fault *found);
+
+/* Returns whether all rounds are in: the main stream is closed, each of its rounds was judged
+ * lawful, and no packet of a further round has begun. The blocks have all rounds, and nothing else.
+ * QEMU with a return path ends its channels only after the answer, and DONE waits for their ends.
+ * So answer where this is true. Then the channels end, and the verdict is DONE. */
+ZIMGASOL_API bool zimgasol_in_place_session_has_all_rounds(zimgasol_in_place_session *session);
 
 /* Frees it. The blocks stay the caller's. */
 ZIMGASOL_API void zimgasol_in_place_session_free(zimgasol_in_place_session *session);

@@ -8,7 +8,7 @@ ghost use Rattle.mig_c_loads.specs.Frames.{waiting_of as most_waiting};
 ghost use Rattle.mig_c.specs.Kinds.{table_in, in_place_session_in, Turns, Tells};
 ghost use Rattle.mig_c_loads.specs.Found.{seen_of_verdict};
 ghost use Rattle.mig_c_loads.specs.Sessions.{source_of};
-ghost use Rattle.mig_c_loads.specs.InPlaceSessions.{Opens, OpensInto, FeedsBlocks, EndsSource, TellsTaken, TellsTakes, TellsClosedAt, TellsValidUpTo};
+ghost use Rattle.mig_c_loads.specs.InPlaceSessions.{Opens, OpensInto, FeedsBlocks, EndsSource, TellsTaken, TellsTakes, TellsClosedAt, TellsValidUpTo, TellsFault, TellsAllRounds};
 
 use crate::handle::{Handle, InPlaceSessionHandle, TableHandle};
 use crate::object::Object;
@@ -324,6 +324,61 @@ pub extern "C" fn zimgasol_in_place_session_valid_up_to(
 {
     let object = session.handle.take().into_box(alloc);
     let result = valid_up_to(&object, source_of(source), at);
+    session.handle = Handle::of(object);
+    result
+}
+
+fn fault_of(object: &Object, source: Source, found: &mut FoundFault) -> u32
+    requires { IsSome (in_place_session_in (Some object.now)) }
+    ensures { Tells (TellsFault source result found.old found.new) (in_place_session_in (Some object.now)) }
+{
+    match object {
+        Object::InPlaceSession(load) => load.fault_of(source, found),
+        _ => unreachable!(),
+    }
+}
+
+/// Reports the fault of a source's own bytes, or that they have none, whatever other sources have.
+#[unsafe(no_mangle)]
+pub extern "C" fn zimgasol_in_place_session_fault_of(
+    alloc: Global,
+    session: &mut InPlaceSessionHandle,
+    source: usize,
+    found: &mut FoundFault,
+) -> u32
+    requires session { IsSome (in_place_session_in session.old.handle.value) }
+    ensures same { session.new.handle.value ≡ session.old.handle.value }
+    ensures tells { Tells (TellsFault (source_of source) result found.old found.new) (in_place_session_in session.old.handle.value) }
+{
+    let object = session.handle.take().into_box(alloc);
+    let status = fault_of(&object, source_of(source), found);
+    session.handle = Handle::of(object);
+    status
+}
+
+fn has_all_rounds(object: &Object) -> bool
+    requires { IsSome (in_place_session_in (Some object.now)) }
+    ensures { Tells (TellsAllRounds result) (in_place_session_in (Some object.now)) }
+{
+    match object {
+        Object::InPlaceSession(load) => load.has_all_rounds(),
+        _ => unreachable!(),
+    }
+}
+
+/// Returns whether all rounds are in: the main stream is closed, and the blocks have all its rounds
+/// and nothing else, though the channels may not have ended yet.
+#[unsafe(no_mangle)]
+pub extern "C" fn zimgasol_in_place_session_has_all_rounds(
+    alloc: Global,
+    session: &mut InPlaceSessionHandle,
+) -> bool
+    requires session { IsSome (in_place_session_in session.old.handle.value) }
+    ensures same { session.new.handle.value ≡ session.old.handle.value }
+    ensures tells { Tells (TellsAllRounds result) (in_place_session_in session.old.handle.value) }
+{
+    let object = session.handle.take().into_box(alloc);
+    let result = has_all_rounds(&object);
     session.handle = Handle::of(object);
     result
 }

@@ -155,8 +155,8 @@ refills_open old new t v was is le none waits =
 -- the bytes that are copied out come before those that still wait
 pub hands_front : (count : ℕ) (out : List ℕ) (old new : Sender) → count ≤ length out → take count out ≡ take count (waiting old)
     → new.state ≡ old.state → new.drained.items ≡ old.drained.items → new.given ≡ old.given + count → (count ≡ 0 → 0 < length out → length (waiting old) ≡ 0)
-    → Hands count out old new
-hands_front count out old new fits front state drained given none = record {
+    → (count < length out → count ≡ length (waiting old)) → Hands count out old new
+hands_front count out old new fits front state drained given none fills = record {
   fits = fits;
   has_front =
       ap (λ (l : List ℕ). l ++ waiting new) front
@@ -164,6 +164,11 @@ hands_front count out old new fits front state drained given none = record {
       ∙ ap (λ (n : ℕ). take count (waiting old) ++ drop n old.drained.items) given
       ∙ ap (λ (l : List ℕ). take count (waiting old) ++ l) (sym (drop-drop count old.given old.drained.items))
       ∙ take-append-drop count (waiting old);
+  fills = λ less.
+      let still : waiting new ≡ drop count (waiting old) =
+      ap (λ (l : List ℕ). drop new.given l) drained ∙ ap (λ (n : ℕ). drop n old.drained.items) given ∙ sym (drop-drop count old.given old.drained.items) in
+      let same = fills less in
+      nil_from_length (waiting new) (ap (λ (l : List ℕ). length l) still ∙ (let left = length-drop count (waiting old) in omega (arith, left, same)));
   same_state = state;
   none = λ zero room. nil_from_length (waiting old) (none zero room);
 }
@@ -172,6 +177,7 @@ hands_front count out old new fits front state drained given none = record {
 pub drains : (count : ℕ) (out : List ℕ) (old mid new : Sender) → Refills old mid → Hands count out mid new → Drains count out old new
 drains count out old mid new refills hands = record {
   fits = hands.fits;
+  fills = hands.fills;
   hands = λ table name given rounds sent.
       let kept : (plain : List ℕ) × IsNamed name (given ++ waiting mid) plain × HasSentRounds table plain rounds mid.state = refills.keeps table name given rounds sent in (
         kept.0,

@@ -179,11 +179,12 @@ open_stream name table rounds = machine_written name table (map RoundPart rounds
 abbrev pub text_so_far : RamTable → List (List Page) → List ℕ
 text_so_far table rounds = written_so_far table (map RoundPart rounds)
 
--- The effect of `drain`: it copies the next `count` bytes to the front of a buffer. If there are
--- none between two rounds, all bytes written so far were copied out; if there are none after the
+-- The effect of `drain`: it copies the next `count` bytes to the front of a buffer, which it fills if
+-- that many bytes were drained of the stream's writer. If there are none between two rounds, all bytes written so far were copied out; if there are none after the
 -- end of the stream, all of it was. An open round stays open, with its pages.
 pub record Drains (count : ℕ) (out : List ℕ) (old new : Sender) : Type 0 where
   pub fits : count ≤ length out
+  pub fills : count < length out → waiting new ≡ []
   pub hands : (table : RamTable) (name : Option (List ℕ)) (given : List ℕ) (rounds : List (List Page)) → Sends table name given rounds old
       → Sends table name (given ++ take count out) rounds new
   pub keeps_open : (pages : List Page) → HasPutPages pages old.state → HasPutPages pages new.state
@@ -218,6 +219,7 @@ pub record Refills (old new : Sender) : Type 0 where
 pub record Hands (count : ℕ) (out : List ℕ) (old new : Sender) : Type 0 where
   pub fits : count ≤ length out
   pub has_front : take count out ++ waiting new ≡ waiting old
+  pub fills : count < length out → waiting new ≡ []
   pub same_state : new.state ≡ old.state
   pub none : count ≡ 0 → 0 < length out → waiting old ≡ []
 

@@ -21,6 +21,7 @@ pub fn copy_front(bytes: &[u8], out: &mut [u8]) -> usize
     ensures within { result ≤ length bytes.now }
     ensures front { take result out.new ≡ take result bytes.now }
     ensures none { result ≡ 0 → 0 < length out.new → length bytes.now ≡ 0 }
+    ensures fills { result < length out.new → result ≡ length bytes.now }
 {
     let count = bytes.len().min(out.len());
     out[..count].copy_from_slice(&bytes[..count]);

@@ -3,3 +3,4 @@ pub mod Moved
 pub mod LentBlocks
 pub mod PageReads
 pub mod PageTakes
+pub mod Headline

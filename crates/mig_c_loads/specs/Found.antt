@@ -13,6 +13,8 @@ use Rattle.mig_single_load.specs.declared.fault.Origin.{Origin}
 use Rattle.mig_single_load.specs.declared.fault.Origin.TheVariants as origin
 use Rattle.mig_answer.specs.declared.verdict.Verdict.{Verdict}
 use Rattle.mig_answer.specs.declared.verdict.Verdict.TheVariants as verdict
+use Rattle.mig_session.specs.declared.source.Source.{Source}
+use Rattle.mig_session.specs.declared.source.Source.TheVariants as source
 use Rattle.mig_c_loads.specs.declared.fault.FoundFault.{FoundFault}
 use Rattle.mig_c_calls.specs.Status.{done, running, stream_truncated}
 
@@ -60,6 +62,11 @@ found_of f = record {
   reserved = no_words;
 }
 
+-- a source, as a fault names it
+abbrev pub origin_of : Source → Origin
+origin_of source.Main = origin.Main
+origin_of (source.Channel j) = origin.Channel j
+
 -- the value for no fault
 abbrev pub no_fault : FoundFault
 no_fault = record { round = 0; source = 0; number = done; first = 0; second = 0; reserved = no_words }
@@ -82,6 +89,11 @@ abbrev pub seen_of_verdict : ℕ → Verdict → FoundFault
 seen_of_verdict rounds verdict.Done = no_fault
 seen_of_verdict rounds verdict.Running = goes_on rounds
 seen_of_verdict rounds (verdict.Failed f) = found_of f
+
+-- the fault of a source as C sees it, after some rounds, or that it has none
+abbrev pub seen_of_source : ℕ → Source → Option Fault → FoundFault
+seen_of_source rounds from None = no_fault
+seen_of_source rounds from (Some f) = found_of (record { round = rounds; source = origin_of from; fault = f })
 
 -- a number that is reported to C, or isn't: a call says which
 abbrev pub if_told : Bool → ℕ → Option ℕ

@@ -2,26 +2,25 @@
 -- passed to the call that feeds it, as the call before left them.
 use Rattle.std.specs.Prelude.{◌≡◌, ◌≢◌, ◌⊎◌, ◌≤◌, ◌<◌, ◌+◌, ◌^◌, ℕ, List, [], ◌∷◌, length, take, IsTrue, IsFalse, ◌↔◌, Bool, Option, None, Some, ⊤}
 use Rattle.mig_mem.specs.RamTable.{RamTable}
-use Rattle.mig_mem.specs.Image.{Image}
+use Rattle.mig_mem.specs.Image.{Image, IsImage}
 use Rattle.mig_mem.specs.Lent.{FitTable, lent_image}
 use Rattle.mig_stream.specs.declared.item.Frame.{Frame}
 use Rattle.mig_stream.specs.Reader.{HasClosedAt}
 use Rattle.mig_single_load.specs.Settings.{for_table, main_of}
 use Rattle.mig_single_load.specs.declared.settings.LoadSettings.{LoadSettings}
 use Rattle.mig_single_load.specs.declared.settings.RoundEnd.{RoundEnd}
-use Rattle.mig_single_load.specs.declared.fault.Origin.TheVariants as origin
-use Rattle.mig_single_load.specs.declared.fault.Fault.TheVariants as fault
-use Rattle.mig_answer.specs.declared.verdict.Verdict.{Verdict}
-use Rattle.mig_answer.specs.declared.verdict.Verdict.TheVariants.{Running}
+use Rattle.mig_single_load.specs.declared.fault.Fault.{Fault}
+use Rattle.mig_answer.specs.declared.verdict.Verdict.TheVariants.{Running, Done}
 use Rattle.mig_answer.specs.Texts.{Texts, no_texts}
-use Rattle.mig_answer.specs.MultiLoad.{failed}
 use Rattle.mig_session.specs.declared.source.Source.{Source}
+use Rattle.mig_session.specs.declared.source.Source.TheVariants as source
 use Rattle.mig_session.specs.Session.{HasSource, count_of, feed_step, end_step, with_fed, with_end, IsSourceValidUpTo}
 use Rattle.mig_in_place.specs.Sources.{counts_of}
-use Rattle.mig_in_place.specs.Session.{InPlaceLoad, StandsFor, LacksMemory, StepsOn, RunsOut, Tells, TakesBytes}
+use Rattle.mig_in_place.specs.Session.{InPlaceLoad, StandsFor, LacksMemory, StepsOn, StillLacks, RunsOut, Tells, TakesBytes, HasFault, HasAllRounds}
 use Rattle.mig_c_calls.specs.Status.{IsOneOf, done, running, no_memory, bad_channels, bad_source, is_over, too_long, bad_length, bad_frame, bad_round_end}
 use Rattle.mig_c_loads.specs.Frames.{frame_of, round_end_of, with_round_end}
-use Rattle.mig_c_loads.specs.Found.{if_told}
+use Rattle.mig_c_loads.specs.declared.fault.FoundFault.{FoundFault}
+use Rattle.mig_c_loads.specs.Found.{if_told, seen_of_source, no_fault}
 use Rattle.mig_c_loads.specs.InPlace.{settings_into}
 
 -- ---- the calls
@@ -68,11 +67,12 @@ pub record RefusesPiece (from : Source) (len : ℕ) (blocks : List (List ℕ)) (
   pub long : status ≡ too_long → 2 ^ 64 ≤ (count_of (counts_of s.sources) from).fed + len
   pub short : status ≢ bad_source → status ≢ is_over → status ≢ too_long → (count_of (counts_of s.sources) from).fed + len < 2 ^ 64
 
--- The state after a piece was fed into a memory: `taken` bytes of it were taken, or an allocation
--- was refused.
+-- The state after a piece was fed into a memory: `taken` bytes of it were taken, of the main stream
+-- none or all; or an allocation was refused.
 pub record FeedsMemory (from : Source) (piece : List ℕ) (before after : Image) (taken status : ℕ) (old new : InPlaceLoad) : Type 0 where
   pub is_named : IsOneOf (done ∷ no_memory ∷ []) status
   pub within : status ≡ done → taken ≤ length piece
+  pub whole : status ≡ done → from ≡ source.Main → (taken ≡ 0) ⊎ (taken ≡ length piece)
   pub steps : status ≡ done → StepsOn (feed_step from (take taken piece)) before old after new
   pub waits : status ≡ done → taken < length piece → (new.verdict ≢ Running)
       ⊎ Tells after new (λ given uuid first texts. TakesBytes (for_table first.table given) uuid new.rounds texts from → ⊥)
@@ -108,7 +108,8 @@ pub record FeedsBlocks (from : Source) (piece : List ℕ) (before after : List (
 -- The effect of `end` on a source, whatever the memory holds. A verdict, once there is one, stays.
 pub record EndsSource (from : Source) (status : ℕ) (old new : InPlaceLoad) : Type 0 where
   pub is_named : IsOneOf (done ∷ bad_source ∷ []) status
-  pub steps : status ≡ done → old.verdict ≡ Running → (memory : Image) → StepsOn (end_step from) memory old memory new
+  pub steps : status ≡ done → (memory : Image) → StepsOn (end_step from) memory old memory new
+  pub lacking : status ≡ done → (memory : Image) → StillLacks (end_step from) memory old memory new
   pub settled : status ≡ done → old.verdict ≢ Running → (new.verdict ≡ old.verdict) × (new.rounds ≡ old.rounds)
   pub counted : status ≡ done → counts_of new.sources ≡ with_end (counts_of old.sources) from
   pub same_table : new.table ≡ old.table
@@ -149,3 +150,19 @@ pub record TellsValidUpTo (from : Source) (told : Bool) (before after : ℕ) (s 
       → IsFalse told
   pub foreign : (HasSource (counts_of s.sources) from → ⊥) → IsFalse told
   pub same : IsFalse told → after ≡ before
+
+-- C sees the fault of a source's own bytes, or that they have none. None is known after a refused
+-- allocation. If there is no such source what C has stays.
+pub record TellsFault (from : Source) (status : ℕ) (before after : FoundFault) (s : InPlaceLoad) : Type 0 where
+  pub stands : HasSource (counts_of s.sources) from → (memory : Image)
+      → Tells memory s (λ given uuid first texts. (found : Option Fault) × HasFault (for_table first.table given) uuid texts from found × (after ≡ seen_of_source s.rounds from found))
+  pub lacking : (memory : Image) (given : LoadSettings) (uuid : List ℕ) (first : Image) (texts : Texts) → LacksMemory given uuid first texts memory s
+      → HasSource (counts_of s.sources) from → after ≡ no_fault
+  pub number : HasSource (counts_of s.sources) from → status ≡ after.number
+  pub foreign : (HasSource (counts_of s.sources) from → ⊥) → (status ≡ bad_source) × (after ≡ before)
+
+-- whether all rounds are in
+pub record TellsAllRounds (told : Bool) (s : InPlaceLoad) : Type 0 where
+  pub all : IsTrue told → (memory : Image) → IsImage memory → Tells memory s (λ given uuid first texts. HasAllRounds (for_table first.table given) uuid first texts memory s.rounds)
+  pub done : s.verdict ≡ Done → IsTrue told
+  pub failed : IsTrue told → (s.verdict ≡ Running) ⊎ (s.verdict ≡ Done)

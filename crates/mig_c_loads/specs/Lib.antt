@@ -8,3 +8,5 @@ pub mod InPlace
 pub mod NextBytes
 pub mod Sessions
 pub mod InPlaceSessions
+-- Then the law on what C's senders sent
+pub mod Headline

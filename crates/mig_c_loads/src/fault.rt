@@ -1,11 +1,12 @@
 //! A load's fault as C sees it.
 
 ghost use Rattle.std.specs.Prelude.{◌≡◌};
-ghost use Rattle.mig_c_loads.specs.Found.{source_number, carried_of_stream, carried_of_round, carried, found_of, no_fault, so_far, seen_so_far, goes_on};
+ghost use Rattle.mig_c_loads.specs.Found.{source_number, carried_of_stream, carried_of_round, carried, found_of, origin_of, seen_of_source, no_fault, so_far, seen_so_far, goes_on};
 
 use mig_assemble::RoundFault;
 use mig_c_calls::status::{RUNNING, STREAM_TRUNCATED};
 use mig_packet::ChannelFault;
+use mig_session::Source;
 use mig_single_load::{Fault, LoadFault, Origin};
 use mig_stream::StreamFault;
 
@@ -106,6 +107,30 @@ pub(crate) fn none() -> FoundFault
     ensures { result ≡ no_fault }
 {
     NONE
+}
+
+// Returns the source as a fault names it.
+fn origin_of(source: Source) -> Origin
+    ensures { result ≡ origin_of source }
+{
+    match source {
+        Source::Main => Origin::Main,
+        Source::Channel(j) => Origin::Channel(j),
+    }
+}
+
+/// Returns the fault of a source as C sees it, after `rounds` rounds, or that it has none.
+pub(crate) fn of_source(rounds: u64, source: Source, fault: Option<Fault>) -> FoundFault
+    ensures { result ≡ seen_of_source rounds source fault }
+{
+    match fault {
+        None => none(),
+        Some(fault) => found(LoadFault {
+            round: rounds,
+            source: origin_of(source),
+            fault,
+        }),
+    }
 }
 
 // Returns the fault of a stream so far. If the stream hasn't ended, missing bytes aren't a fault.

@@ -6,9 +6,9 @@ ghost use Rattle.mig_mem.specs.Lent.{mut_lent_bytes};
 ghost use Rattle.mig_session.specs.Session.{HasSource, count_of};
 ghost use Rattle.mig_in_place.specs.Sources.{counts_of};
 ghost use Rattle.mig_c_loads.specs.Found.{seen_of_verdict};
-ghost use Rattle.mig_c_loads.specs.InPlaceSessions.{BeginsInto, RefusesPiece, FeedsMemory, FeedsBlocks, EndsSource, TellsTaken, TellsTakes, TellsClosedAt, TellsValidUpTo};
+ghost use Rattle.mig_c_loads.specs.InPlaceSessions.{BeginsInto, RefusesPiece, FeedsMemory, FeedsBlocks, EndsSource, TellsTaken, TellsTakes, TellsClosedAt, TellsValidUpTo, TellsFault, TellsAllRounds};
 
-use crate::fault::{FoundFault, found, none, running};
+use crate::fault::{FoundFault, found, none, of_source, running};
 use crate::lent::{LentBlocks, fit, put_back, taken_out};
 use mig_answer::Verdict;
 use mig_c_calls::status::{
@@ -157,6 +157,18 @@ fn valid_up_to(session: &InPlaceSession<Global>, source: Source, at: &mut u64) -
     }
 }
 
+// Reports the fault of a source's own bytes, or that they have none.
+fn report_fault(session: &InPlaceSession<Global>, source: Source, told: &mut FoundFault) -> u32
+    ensures { TellsFault source result told.old told.new session.now }
+{
+    if !session.has(source) {
+        return BAD_SOURCE;
+    }
+    let fault = of_source(session.rounds(), source, session.fault_of(source));
+    *told = fault;
+    fault.number
+}
+
 impl HeldSession {
     /// Creates a load into blocks of `table`, which it copies. No bytes were taken.
     pub fn new(
@@ -245,6 +257,20 @@ impl HeldSession {
         ensures { TellsValidUpTo source result at.old at.new self.now }
     {
         valid_up_to(&self.session, source, at)
+    }
+
+    /// Reports the fault of a source's own bytes, or that they have none.
+    pub fn fault_of(&self, source: Source, told: &mut FoundFault) -> u32
+        ensures { TellsFault source result told.old told.new self.now }
+    {
+        report_fault(&self.session, source, told)
+    }
+
+    /// Returns whether all rounds are in.
+    pub fn has_all_rounds(&self) -> bool
+        ensures { TellsAllRounds result self.now }
+    {
+        self.session.has_all_rounds()
     }
 
     /// Returns the verdict on the bytes taken, as C sees it.

@@ -5,13 +5,14 @@
 //! pages into their bytes (`putting`). C passes the numbers of a frame and of what ends rounds, and
 //! settings (`frame`, `round_end`, `settings`). It sees a load's fault (`fault`) and what the next
 //! bytes are (`next_bytes`), and reads the pages of the memory (`reading`). Statuses are those of
-//! `mig_c_calls`.
+//! `mig_c_calls`. What C's senders sent, these loads load (`laws`).
 #![tactic(auto)]
 
 mod fault;
 mod frame;
 mod held_load;
 mod held_session;
+mod laws;
 mod lent;
 mod loading;
 mod next_bytes;
@@ -25,6 +26,7 @@ pub use fault::FoundFault;
 pub use frame::frame_of;
 pub use held_load::HeldLoad;
 pub use held_session::HeldSession;
+pub use laws::{drained_channels_are_loaded, drained_is_loaded, drained_machine_is_loaded};
 pub use loading::{fault_of, feed_loader, loader_closed_at, settle_loader};
 pub use next_bytes::NextBytes;
 pub use reading::{count_blocks, next_nonzero, read_block, read_page, read_pages};

@@ -12,13 +12,14 @@ use Rattle.mig_packet.specs.Paging.{OpenPacket, GivenSoFar, none_given, PageHold
 use Rattle.mig_packet.proofs.Exists.{one_reading_law}
 use Rattle.mig_answer.specs.declared.status.Status.{Status}
 use Rattle.mig_answer.specs.declared.status.Status.TheVariants.{Whole, Clean, Bad, Pending}
-use Rattle.mig_answer.specs.Status.{channel_status, channel_end, is_pending}
+use Rattle.mig_single_load.specs.declared.fault.Fault.{Fault}
+use Rattle.mig_answer.specs.Status.{channel_status, channel_end, is_pending, fault_of}
 use Rattle.mig_answer.specs.Texts.{Text, no_text, over}
 use Rattle.mig_answer.proofs.Statuses.{status_whole, status_end}
 use Rattle.mig_answer.proofs.GrowingChannels.{same_rounds}
 use Rattle.mig_in_place.specs.declared.main_stream.SizeList.{SizeList}
 use Rattle.mig_in_place.specs.declared.main_stream.SizeList.TheVariants as list
-use Rattle.mig_in_place.specs.Sources.{KeptChannel, HoldsChannel, TellsChannelStatus, TellsHello, TellsTakes, holds_back, rounds_come}
+use Rattle.mig_in_place.specs.Sources.{KeptChannel, HoldsChannel, TellsChannelStatus, TellsChannelFault, TellsHello, TellsTakes, holds_back, rounds_come}
 
 abbrev pub kept : PageHolder → Option ℕ → Bool → KeptChannel
 kept reader block is_whole = record { reader = reader; block = block; is_whole = is_whole }
@@ -92,6 +93,15 @@ tells_end reader block state status tells e = λ given table k text so_far readi
     let rounds = rounds_are given table k text so_far (kept reader block false) reading size holds is in
     e ∙ ap channel_end (sym has.has_state ∙ sym (ap (λ (x : ChannelReading). x.state) same))
     ∙ sym (status_end k (length reading.rounds) (channel_end reading.state) (omega (arith, rounds)))
+
+pub tells_fault : (c : KeptChannel) (state : ChannelState) (status : Status) (found : Option Fault) → HolderTells c.reader (λ given text so_far. HasReading given text c.reader.ended so_far state)
+    → status ≡ channel_end state → found ≡ fault_of status → TellsChannelFault c found
+tells_fault c state status found tells is e = λ given text reading size has reads.
+    let gave = tells given text.bytes has.0 has.1 in
+    let there : IsReading given text.bytes text.ended gave.reading = subst (λ (ended : Bool). IsReading given text.bytes ended gave.reading) has.2 gave.is_reading in
+    let one = one_reading_law given text.bytes text.ended size in
+    let same : reading ≡ gave.reading = one.2 reading reads ∙ sym (one.2 gave.reading there) in
+    e ∙ ap fault_of (is ∙ ap channel_end (sym gave.has_state ∙ sym (ap (λ (x : ChannelReading). x.state) same)))
 
 pub tells_hello : (c : KeptChannel) (hello : Option ℕ) → HolderTells c.reader (λ given text so_far. HasHello given text hello) → TellsHello c hello
 tells_hello c hello tells = λ given table k text so_far reading size holds is.

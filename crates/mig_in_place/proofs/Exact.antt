@@ -51,7 +51,7 @@ status_behind k rounds end below = elim (cases_Bool (k == rounds)) [
       ∙ cond-false (k == rounds) end Pending ne
 ]
 
-clean_at : (k n : ℕ) (end : Status) → is_clean (status_at k n end) ≡ true → (k ≡ n) × (is_clean end ≡ true)
+pub clean_at : (k n : ℕ) (end : Status) → is_clean (status_at k n end) ≡ true → (k ≡ n) × (is_clean end ≡ true)
 clean_at k n end clean = elim (cases_order k n) [
   | inl e ↦ (e, sym (ap is_clean (status_end k n end e)) ∙ clean)
   | inr ne ↦ elim ne [
@@ -60,7 +60,7 @@ clean_at k n end clean = elim (cases_order k n) [
   ]
 ]
 
-stream_closed : (ended : Bool) (s : StreamState) → is_clean (stream_end (state_at ended s)) ≡ true → s ≡ stream_state.Closed
+pub stream_closed : (ended : Bool) (s : StreamState) → is_clean (stream_end (state_at ended s)) ≡ true → s ≡ stream_state.Closed
 stream_closed true stream_state.Reading clean = absurd cc
 stream_closed false stream_state.Reading clean = absurd cc
 stream_closed true stream_state.Closed clean = refl

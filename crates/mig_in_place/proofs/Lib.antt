@@ -19,6 +19,7 @@ pub mod Heading
 pub mod NamedSoFar
 pub mod Writing
 pub mod Places
+pub mod Faults
 pub mod Told
 pub mod Refused
 pub mod Lawful
@@ -35,4 +36,6 @@ pub mod Turning
 pub mod ChannelEnds
 pub mod Ended
 pub mod Over
+pub mod AllIn
+pub mod DoneStays
 pub mod Sendings

@@ -21,10 +21,11 @@ use Rattle.mig_single_load.specs.Settings.{main_of}
 use Rattle.mig_single_load.specs.declared.settings.LoadSettings.{LoadSettings}
 use Rattle.mig_answer.specs.declared.status.Status.{Status}
 use Rattle.mig_answer.specs.declared.status.Status.TheVariants.{Whole}
-use Rattle.mig_answer.specs.Status.{stream_end}
+use Rattle.mig_single_load.specs.declared.fault.Fault.{Fault}
+use Rattle.mig_answer.specs.Status.{stream_end, fault_of}
 use Rattle.mig_answer.specs.Texts.{Text, IsMainReading, no_text, with_piece, over}
 use Rattle.mig_answer.proofs.Statuses.{status_whole, status_end}
-use Rattle.mig_in_place.specs.Sources.{KeptMain, StandsAt, HasNoRound, HoldsMain, TellsMainStatus, TellsList, rounds_come, so_far_of}
+use Rattle.mig_in_place.specs.Sources.{KeptMain, StandsAt, HasNoRound, HoldsMain, TellsMainStatus, TellsMainFault, TellsList, rounds_come, so_far_of}
 use Rattle.mig_in_place.specs.declared.main_stream.SizeList.TheVariants as list
 
 abbrev pub kept : Reader → Bool → KeptMain
@@ -113,6 +114,12 @@ state_is : (given : LoadSettings) (text : Text) (state : StreamState) (reading :
     → reading.state ≡ state
 state_is given text state reading size has is =
     ap (λ (x : StreamReading). x.state) (same_found given text has.0 reading size has.1 is) ∙ sym has.2
+
+pub tells_fault : (m : KeptMain) (state : StreamState) (status : Status) (found : Option Fault) → Tells m.reader (λ given so_far. HasState given so_far.text so_far.ended state) → status ≡ stream_end state
+    → found ≡ fault_of status → TellsMainFault m found
+tells_fault m state status found tells is e = λ given k text reading size stands reads.
+    let has = tells (main_of given) (so_far_of text (rounds_come k m.is_whole)) stands in
+    e ∙ ap fault_of (is ∙ ap stream_end (sym (state_is given text state reading size has reads)))
 
 some_is : {X : Type 0} (o : Option X) → is_some o ≡ true → o ≢ None
 some_is None e = absurd cc

@@ -1,6 +1,6 @@
 -- The readers of a load in place took the bytes of the texts, whatever its verdict is: while it
 -- runs, and once a source has ended. So they say up to where the sources are valid.
-use Rattle.std.proofs.Common.{ℕ, zero, suc, ◌≡◌, true, List, [], ◌∷◌, length, get_or, set, Some, sym, subst, arith}
+use Rattle.std.proofs.Common.{ℕ, zero, suc, ◌≡◌, true, List, [], ◌∷◌, length, get_or, set, Some, refl, sym, subst, arith}
 use Rattle.std.specs.Prelude.{zip, slice_get}
 use Rattle.std.specs.List.{AllZip}
 use Rattle.std.proofs.lemmas.List.{length-set}
@@ -23,7 +23,7 @@ given_each given table k [] [] (c ∷ channels) same holds = absurd holds
 given_each given table k [] (g ∷ gave) channels same holds = absurd (omega (arith, same))
 given_each given table k (text ∷ texts) [] channels same holds = absurd (omega (arith, same))
 given_each given table k (text ∷ texts) (g ∷ gave) [] same holds = absurd holds
-given_each given table k (text ∷ texts) (g ∷ gave) (c ∷ channels) same holds = ((g, holds.0.gives), given_each given table k texts gave channels (omega (arith, same)) holds.1)
+given_each given table k (text ∷ texts) (g ∷ gave) (c ∷ channels) same holds = ((g, holds.0.gives, holds.0.has_ended), given_each given table k texts gave channels (omega (arith, same)) holds.1)
 
 pub running_taken : (given : LoadSettings) (uuid : List ℕ) (first : Image) (texts : Texts) (memory : Image) (s : InPlaceLoad) → IsRunning given uuid first texts memory s → HaveTaken given uuid texts s.sources
 running_taken given uuid first texts memory s r = record {
@@ -56,7 +56,7 @@ gives_over given text so_far r g = record {
 given_over : (given : Settings) (text : Text) (c q next : KeptChannel) → c ≡ q → next ≡ record q { reader = record q.reader { ended = true } } → HasGiven given text c → HasGiven given (over text) next
 given_over given text c q next here same has =
     let mine : HasGiven given text q = subst (λ (x : KeptChannel). HasGiven given text x) here has in
-    subst (λ (x : KeptChannel). HasGiven given (over text) x) (sym same) (mine.0, gives_over given text.bytes mine.0 q.reader mine.1)
+    subst (λ (x : KeptChannel). HasGiven given (over text) x) (sym same) (mine.0, gives_over given text.bytes mine.0 q.reader mine.1, refl)
 
 over_each : (given : Settings) (texts : List Text) (channels : List KeptChannel) (j : ℕ) (q next : KeptChannel) → slice_get channels j ≡ Some q → next ≡ record q { reader = record q.reader { ended = true } }
     → AllZip (HasGiven given) texts channels → AllZip (HasGiven given) (set texts j (over (get_or texts j no_text))) (set channels j next)

@@ -31,6 +31,7 @@ pub record TakenSoFar (from : Source) (piece : List ℕ) (n : ℕ) (before : Ima
   pub memory_table : after.table ≡ before.table
   pub more_rounds : old.rounds ≤ new.rounds
   pub settled : old.verdict ≢ Running → (n ≡ 0) × (new ≡ old) × (after ≡ before)
+  pub takes_whole : from ≡ source.Main → (n ≡ 0) ⊎ (n ≡ length piece)
 
 pub taken_none : (from : Source) (piece : List ℕ) (before : Image) (old : InPlaceLoad) → TakenSoFar from piece 0 before old before old
 taken_none from piece before old = record {
@@ -41,6 +42,7 @@ taken_none from piece before old = record {
   memory_table = refl;
   more_rounds = omega arith;
   settled = λ _. (refl, refl, refl);
+  takes_whole = λ _. inl refl;
 }
 
 more_fed : (from : Source) (piece : List ℕ) (n k : ℕ) (f : Loading) → with_bytes from (take k (drop n piece)) (with_bytes from (take n piece) f) ≡ with_bytes from (take (n + k) piece) f
@@ -50,8 +52,8 @@ more_fed from piece n k f = ap (λ (texts : Texts). record f { texts = texts }) 
 pub taken_more : (from : Source) (piece : List ℕ) (n k : ℕ) (first middle last : Image) (old s read new : InPlaceLoad) (turn : Image) → s.verdict ≡ Running → k ≤ length (drop n piece)
     → ((f : Loading) → Loads f middle s → IsUnsettled (with_bytes from (take k (drop n piece)) f) turn read) → ((f : Loading) → IsUnsettled f turn read → Stands f last new)
     → counts_of read.sources ≡ with_fed (counts_of s.sources) from k → counts_of new.sources ≡ counts_of read.sources → read.table ≡ s.table → new.table ≡ read.table → turn.table ≡ middle.table → last.table ≡ turn.table
-    → read.rounds ≡ s.rounds → read.rounds ≤ new.rounds → TakenSoFar from piece n first old middle s → TakenSoFar from piece (n + k) first old last new
-taken_more from piece n k first middle last old s read new turn running le reads settles counted same_counts table1 table2 memory1 memory2 rounds1 rounds2 at = record {
+    → read.rounds ≡ s.rounds → read.rounds ≤ new.rounds → (from ≡ source.Main → k ≡ length (drop n piece)) → TakenSoFar from piece n first old middle s → TakenSoFar from piece (n + k) first old last new
+taken_more from piece n k first middle last old s read new turn running le reads settles counted same_counts table1 table2 memory1 memory2 rounds1 rounds2 whole at = record {
   is_part = (let p = at.is_part in omega (arith, p, le, length-drop n piece));
   steps = λ f stands.
       let g : Loading = with_bytes from (take n piece) f in
@@ -62,6 +64,7 @@ taken_more from piece n k first middle last old s read new turn running le reads
   memory_table = memory2 ∙ memory1 ∙ at.memory_table;
   more_rounds = (let p = at.more_rounds in omega (arith, p, rounds1, rounds2));
   settled = λ other. absurd (other (ap (λ (x : InPlaceLoad). x.verdict) (sym (at.settled other).1) ∙ running));
+  takes_whole = λ main. inr (let e = whole main in let p = at.is_part in omega (arith, e, p, length-drop n piece));
 }
 
 -- an allocation was refused in a turn

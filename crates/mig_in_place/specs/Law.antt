@@ -1,5 +1,5 @@
 -- Properties of each answer of a load in place.
-use Rattle.std.specs.Prelude.{ℕ, ◌≡◌, ◌≢◌, ◌≤◌, List, None, length}
+use Rattle.std.specs.Prelude.{ℕ, ◌≡◌, ◌≢◌, ◌≤◌, Bool, List, None, length, map}
 use Rattle.mig_mem.specs.RamTable.{IsTable}
 use Rattle.mig_mem.specs.Image.{Image, IsImage}
 use Rattle.mig_mem.specs.Round.{with_rounds}
@@ -13,8 +13,8 @@ use Rattle.mig_single_load.specs.declared.settings.LoadSettings.{LoadSettings}
 use Rattle.mig_single_load.specs.declared.settings.RoundEnd.TheVariants.{Flush as by_flush}
 use Rattle.mig_answer.specs.declared.verdict.Verdict.{Verdict}
 use Rattle.mig_answer.specs.declared.verdict.Verdict.TheVariants.{Running, Done}
-use Rattle.mig_answer.specs.Texts.{Text, Texts, ended_texts}
-use Rattle.mig_answer.specs.Growing.{GoesOn}
+use Rattle.mig_answer.specs.Texts.{Text, Texts, ended_text}
+use Rattle.mig_answer.specs.Growing.{GoesOn, GoOn}
 use Rattle.mig_answer.specs.MultiLoad.{Answer, IsAnswer, failed}
 use Rattle.mig_answer.specs.Sent.{IsSentInAnyOrder, IsMachineSentInAnyOrder, sent_rounds}
 use Rattle.mig_session.specs.declared.source.Source.{Source}
@@ -34,6 +34,11 @@ abbrev pub InPlaceDoneIsExact : Type 0
 InPlaceDoneIsExact = (given : LoadSettings) (uuid : List ℕ) (first : Image) (texts : Texts) (memory : Image) (rounds : ℕ) → IsTable first.table → IsImage first → IsImage memory
     → (answer : IsInPlaceAnswer given uuid first texts memory rounds Done) → memory ≡ rounds_onto first rounds answer.readings
 
+-- A load that is done stays so, with the same memory, whatever bytes follow.
+abbrev pub InPlaceDoneStays : Type 0
+InPlaceDoneStays = (given : LoadSettings) (uuid : List ℕ) (first : Image) (old new : Texts) (memory : Image) (rounds : ℕ) → IsTable first.table → IsImage first → IsImage memory
+    → GoOn old new → IsInPlaceAnswer given uuid first old memory rounds Done → IsInPlaceAnswer given uuid first new memory rounds Done
+
 -- Bytes of a source that aren't taken change no answer, nor does its end after them. So the answer
 -- on the bytes taken is that on all bytes that the caller has.
 abbrev pub WaitingBytesChangeNothing : Type 0
@@ -46,19 +51,25 @@ abbrev pub RunningTakesSome : Type 0
 RunningTakesSome = (given : LoadSettings) (uuid : List ℕ) (first : Image) (texts : Texts) (memory : Image) (rounds : ℕ) → IsTable first.table
     → IsInPlaceAnswer given uuid first texts memory rounds Running → (from : Source) × HasSource (counts_in texts) from × TakesBytes (for_table first.table given) uuid rounds texts from
 
+-- a sender's streams of which all was taken: the channels have ended, and the main stream, which
+-- its own bytes close, may have
+abbrev pub taken_texts : List ℕ → Bool → List (List ℕ) → Texts
+taken_texts main ended channels = record { main = record { bytes = main; ended = ended }; channels = map ended_text channels }
+
 -- The streams of a sender on several channels with the memory's table are loaded: the memory has
--- the rounds sent, on top of its earlier content.
+-- the rounds sent, on top of its earlier content. It doesn't matter whether the main stream was
+-- ended.
 abbrev pub SentIsLoadedInPlace : Type 0
-SentIsLoadedInPlace = (uuid : List ℕ) (limit : ℕ) (first : Image) (rounds : List DealtRound) (main : List ℕ) (channels : List (List ℕ)) (memory : Image) (k : ℕ) (verdict : Verdict)
+SentIsLoadedInPlace = (uuid : List ℕ) (limit : ℕ) (first : Image) (rounds : List DealtRound) (main : List ℕ) (ended : Bool) (channels : List (List ℕ)) (memory : Image) (k : ℕ) (verdict : Verdict)
     → IsTable first.table → IsImage first → IsImage memory → IsSentInAnyOrder first.table uuid rounds main channels → total_bytes first.table ≤ limit
-    → IsInPlaceAnswer (ram_settings first.table.page_size limit) uuid first (ended_texts main channels) memory k verdict
+    → IsInPlaceAnswer (ram_settings first.table.page_size limit) uuid first (taken_texts main ended channels) memory k verdict
     → (verdict ≡ Done) × (k ≡ length rounds) × (memory ≡ with_rounds first (sent_rounds rounds))
 
 -- The sender's streams with a machine's main stream are loaded in a machine's frame, whatever
 -- follows RAM's END. Any number of page records may wait.
 abbrev pub MachineSentIsLoadedInPlace : Type 0
-MachineSentIsLoadedInPlace = (given : LoadSettings) (uuid : List ℕ) (first : Image) (rounds : List DealtRound) (main : List ℕ) (channels : List (List ℕ)) (memory : Image) (k : ℕ) (verdict : Verdict)
+MachineSentIsLoadedInPlace = (given : LoadSettings) (uuid : List ℕ) (first : Image) (rounds : List DealtRound) (main : List ℕ) (ended : Bool) (channels : List (List ℕ)) (memory : Image) (k : ℕ) (verdict : Verdict)
     → IsTable first.table → IsImage first → IsImage memory → given.frame ≡ Machine → given.waiting ≡ None → given.round_end ≡ by_flush
     → IsMachineSentInAnyOrder first.table uuid rounds main channels → total_bytes first.table ≤ given.limit
-    → IsInPlaceAnswer given uuid first (ended_texts main channels) memory k verdict
+    → IsInPlaceAnswer given uuid first (taken_texts main ended channels) memory k verdict
     → (verdict ≡ Done) × (k ≡ length rounds) × (memory ≡ with_rounds first (sent_rounds rounds))

@@ -22,7 +22,8 @@ use Rattle.mig_single_load.specs.Settings.{main_of}
 use Rattle.mig_single_load.specs.declared.settings.LoadSettings.{LoadSettings}
 use Rattle.mig_answer.specs.declared.status.Status.{Status}
 use Rattle.mig_answer.specs.declared.status.Status.TheVariants.{Pending}
-use Rattle.mig_answer.specs.Status.{main_status, channel_status}
+use Rattle.mig_single_load.specs.declared.fault.Fault.{Fault}
+use Rattle.mig_answer.specs.Status.{main_status, channel_status, stream_end, channel_end, fault_of}
 use Rattle.mig_answer.specs.Texts.{Text, IsMainReading, with_piece}
 use Rattle.mig_session.specs.Sources.{Counts}
 use Rattle.mig_session.specs.declared.counts.Count.{Count}
@@ -103,9 +104,9 @@ pub record HoldsChannel (given : channel.Settings) (table : RamTable) (k : ℕ) 
   pub has_missing : IfSome so_far.packet (λ packet. IsFalse (is_complete packet))
   pub has_block : IfSome c.block (λ b. IsSomeAnd so_far.packet (λ packet. LieIn table b packet.head))
 
--- a channel's reader took its bytes, and gave something of them
+-- a channel's reader took its bytes, gave something of them, and was ended if the channel was
 abbrev pub HasGiven : channel.Settings → Text → KeptChannel → Type 0
-HasGiven given text c = (so_far : GivenSoFar) × Gives given text.bytes so_far c.reader
+HasGiven given text c = (so_far : GivenSoFar) × Gives given text.bytes so_far c.reader × (c.reader.ended ≡ text.ended)
 
 -- nothing of a channel was given but its hello
 pub record HasHelloAlone (so_far : GivenSoFar) : Type 0 where
@@ -137,6 +138,15 @@ TellsMainStatus m status = (given : LoadSettings) (k : ℕ) (text : Text) (readi
 abbrev pub TellsChannelStatus : KeptChannel → Status → Type 0
 TellsChannelStatus c status = (given : channel.Settings) (table : RamTable) (k : ℕ) (text : Text) (so_far : GivenSoFar) (reading : channel.ChannelReading) → IsPageSize given.page_size
     → HoldsChannel given table k text so_far c → channel.IsReading given text.bytes text.ended reading → status ≡ channel_status k reading
+
+-- this is the fault of the bytes taken
+abbrev pub TellsMainFault : KeptMain → Option Fault → Type 0
+TellsMainFault m found = (given : LoadSettings) (k : ℕ) (text : Text) (reading : stream.StreamReading) → IsPageSize given.page_size
+    → StandsAt (main_of given) k text m → IsMainReading given text reading → found ≡ fault_of (stream_end reading.state)
+
+abbrev pub TellsChannelFault : KeptChannel → Option Fault → Type 0
+TellsChannelFault c found = (given : channel.Settings) (text : Text) (reading : channel.ChannelReading) → IsPageSize given.page_size
+    → HasGiven given text c → channel.IsReading given text.bytes text.ended reading → found ≡ fault_of (channel_end reading.state)
 
 -- this is the id in its hello
 abbrev pub TellsHello : KeptChannel → Option ℕ → Type 0

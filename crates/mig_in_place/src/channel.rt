@@ -14,15 +14,15 @@ ghost use Rattle.mig_packet.specs.Reading.{Settings};
 ghost use Rattle.mig_answer.specs.declared.status.Status.TheVariants.{Whole as whole};
 ghost use Rattle.mig_in_place.specs.declared.main_stream.SizeList.TheVariants as size_list;
 ghost use Rattle.mig_in_place.specs.Round.{KeepsSome};
-ghost use Rattle.mig_in_place.specs.Sources.{IsChannelOf, HoldsChannel, HasGiven, TellsChannelStatus, TellsHello, TellsTakes, holds_back, HasRead, HasReadSome, AddsHead, WritesInto, AddsPage, channel_count};
+ghost use Rattle.mig_in_place.specs.Sources.{IsChannelOf, HoldsChannel, HasGiven, TellsChannelStatus, TellsChannelFault, TellsHello, TellsTakes, holds_back, HasRead, HasReadSome, AddsHead, WritesInto, AddsPage, channel_count};
 
-use crate::main_stream::{SizeList, is_pending};
+use crate::main_stream::{SizeList, fault_of, is_pending};
 use crate::put::put_zeros;
 use crate::round::{Pages, RoundInHand};
 use mig_answer::{Status, channel_end};
 use mig_mem::{GuestTarget, NoMemory, Place};
 use mig_packet::{Came, PageContent, PageReader};
-use mig_single_load::LoadSettings;
+use mig_single_load::{Fault, LoadSettings};
 use std::alloc::{Allocator, Global};
 use std::marker::Model;
 use uuid::Uuid;
@@ -282,6 +282,13 @@ impl<A: Allocator> Channel<A> {
             return Status::Whole;
         }
         channel_end(self.reader.state())
+    }
+
+    /// Returns the fault of the bytes taken.
+    pub(crate) fn fault(&self) -> Option<Fault>
+        ensures { TellsChannelFault self.now result }
+    {
+        fault_of(channel_end(self.reader.state()))
     }
 
     /// Returns the id in its hello. None before the hello is complete, and if it has a fault.

@@ -1,7 +1,7 @@
 //! Laws of the answers of a load in place: what follows from the definitions, as clauses of
 //! functions that do nothing.
 
-ghost use Rattle.mig_in_place.specs.Law.{InPlaceTellsAlike, InPlaceDoneIsExact, WaitingBytesChangeNothing, RunningTakesSome, SentIsLoadedInPlace, MachineSentIsLoadedInPlace};
+ghost use Rattle.mig_in_place.specs.Law.{InPlaceTellsAlike, InPlaceDoneIsExact, InPlaceDoneStays, WaitingBytesChangeNothing, RunningTakesSome, SentIsLoadedInPlace, MachineSentIsLoadedInPlace};
 
 /// Rounds and verdict are those of any load on several channels.
 pub fn in_place_tells_alike()
@@ -11,6 +11,11 @@ pub fn in_place_tells_alike()
 /// A load that is done has all rounds in the memory, on top of what it held, and nothing else.
 pub fn in_place_done_is_exact()
     ensures { InPlaceDoneIsExact }
+{}
+
+/// A load that is done stays done, whatever bytes follow.
+pub fn in_place_done_stays()
+    ensures { InPlaceDoneStays }
 {}
 
 /// Bytes that wait with the caller change no answer.
@@ -23,7 +28,8 @@ pub fn running_takes_some()
     ensures { RunningTakesSome }
 {}
 
-/// The streams of a sender on several channels are loaded in place.
+/// The streams of a sender on several channels are loaded in place, once the channels have ended. The
+/// main stream is closed by its own bytes, and needn't be ended.
 pub fn sent_is_loaded_in_place()
     ensures { SentIsLoadedInPlace }
 {}

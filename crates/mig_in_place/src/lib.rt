@@ -26,8 +26,9 @@ mod session;
 mod source_reader;
 
 pub use laws::{
-    in_place_done_is_exact, in_place_tells_alike, machine_sent_is_loaded_in_place,
-    running_takes_some, sent_is_loaded_in_place, waiting_bytes_change_nothing,
+    in_place_done_is_exact, in_place_done_stays, in_place_tells_alike,
+    machine_sent_is_loaded_in_place, running_takes_some, sent_is_loaded_in_place,
+    waiting_bytes_change_nothing,
 };
 pub use pumping::{RoundRobin, TurnOrder, pump_by_turns};
 pub use session::InPlaceSession;

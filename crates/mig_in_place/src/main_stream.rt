@@ -9,13 +9,13 @@ ghost use Rattle.mig_stream.specs.Reading.{Settings};
 ghost use Rattle.mig_stream.specs.Reader.{HasTable, HasRound, HasClosedAt, IsValidUpTo};
 ghost use Rattle.mig_single_load.specs.Settings.{main_of};
 ghost use Rattle.mig_answer.specs.Texts.{Text, no_text, with_piece, over};
-ghost use Rattle.mig_answer.specs.Status.{is_pending};
+ghost use Rattle.mig_answer.specs.Status.{is_pending, is_clean, fault_of};
 ghost use Rattle.mig_answer.specs.declared.status.Status.TheVariants.{Whole as whole};
-ghost use Rattle.mig_in_place.specs.Sources.{StandsAt, HasNoRound, HoldsMain, TellsMainStatus, TellsList, main_count};
+ghost use Rattle.mig_in_place.specs.Sources.{StandsAt, HasNoRound, HoldsMain, TellsMainStatus, TellsMainFault, TellsList, main_count};
 
 use mig_answer::{Status, stream_end};
 use mig_mem::{NoMemory, Table};
-use mig_single_load::LoadSettings;
+use mig_single_load::{Fault, LoadSettings};
 use mig_stream::{StreamReader, StreamRound, StreamState};
 use std::alloc::{Allocator, Global};
 use std::marker::Model;
@@ -36,6 +36,23 @@ pub(crate) fn is_pending(status: Status) -> bool
     ensures { result ≡ is_pending status }
 {
     matches!(status, Status::Pending)
+}
+
+/// Returns whether a source is closed.
+pub(crate) fn is_clean(status: Status) -> bool
+    ensures { result ≡ is_clean status }
+{
+    matches!(status, Status::Clean)
+}
+
+/// Returns the fault of a source that has one.
+pub(crate) fn fault_of(status: Status) -> Option<Fault>
+    ensures { result ≡ fault_of status }
+{
+    match status {
+        Status::Bad(fault) => Some(fault),
+        Status::Whole | Status::Clean | Status::Pending => None,
+    }
 }
 
 /// The main stream, with its bytes so far.
@@ -155,6 +172,13 @@ impl<A: Allocator> MainStream<A> {
             return Status::Whole;
         }
         stream_end(self.reader.state())
+    }
+
+    /// Returns the fault of the bytes taken.
+    pub(crate) fn fault(&self) -> Option<Fault>
+        ensures { TellsMainFault self.now result }
+    {
+        fault_of(stream_end(self.reader.state()))
     }
 
     /// Returns the table, once the size list is complete.

@@ -12,10 +12,11 @@ ghost use Rattle.mig_single_load.specs.declared.fault.Origin.TheVariants as orig
 ghost use Rattle.mig_single_load.specs.declared.settings.LoadSettings.{LoadSettings};
 ghost use Rattle.mig_single_load.specs.declared.fault.Fault.TheVariants.{NoMemory as fault_no_memory};
 ghost use Rattle.mig_single_load.specs.Settings.{ram_settings, for_table, main_of, channel_of};
-ghost use Rattle.mig_answer.specs.declared.verdict.Verdict.TheVariants.{Running as running};
+ghost use Rattle.mig_answer.specs.declared.verdict.Verdict.TheVariants.{Running as running, Done as done};
 ghost use Rattle.mig_answer.specs.Texts.{no_text, no_texts};
 ghost use Rattle.mig_answer.specs.MultiLoad.{failed};
 ghost use Rattle.mig_session.specs.declared.source.Source.TheVariants as source;
+ghost use Rattle.mig_session.specs.declared.source.Source.TheVariants.{Main as main_source};
 ghost use Rattle.mig_session.specs.Session.{HasSource, count_of, no_count, with_fed, with_end, feed_step, end_step, IsSourceValidUpTo};
 ghost use Rattle.mig_in_place.specs.Answer.{IsInPlaceAnswer};
 ghost use Rattle.mig_stream.specs.Reading.{Settings};
@@ -23,10 +24,10 @@ ghost use Rattle.mig_stream.specs.Reader.{HasTable, HasClosedAt};
 ghost use Rattle.mig_answer.specs.Texts.{Text, Texts};
 ghost use Rattle.mig_in_place.specs.Round.{KeepsSome};
 ghost use Rattle.mig_in_place.specs.Sources.{counts_of, main_count, channel_count, at_next_round, StandsAt, HoldsChannel, TellsChannelStatus, TellsHello, HasTakenRecords};
-ghost use Rattle.mig_in_place.specs.Session.{TakesBytes, StandsFor, LacksMemory, StepsOn, StillLacks, RunsOut, Tells, HaveTaken, Loading, Loads, Stands, IsDue, TellsVerdict, PassesAt, IsUnsettled, Lacks, LacksBehind, with_bytes, with_over, TakesNoMore, IsOpenAt, IsMainOf};
+ghost use Rattle.mig_in_place.specs.Session.{TakesBytes, StandsFor, LacksMemory, StepsOn, StillLacks, RunsOut, Tells, HasFault, HasAllRounds, HaveTaken, Loading, Loads, Stands, IsDue, TellsVerdict, PassesAt, IsUnsettled, Lacks, LacksBehind, with_bytes, with_over, TakesNoMore, IsOpenAt, IsMainOf};
 
 use crate::channel::Channel;
-use crate::main_stream::{MainStream, is_pending};
+use crate::main_stream::{MainStream, is_clean, is_pending};
 use crate::round::RoundInHand;
 use mig_answer::{Status, Verdict, repeated_id, verdict_told};
 use mig_assemble::put_records;
@@ -301,6 +302,7 @@ impl<A: Allocator + Copy> InPlaceSession<A> {
         requires room { (count_of (counts_of self.old.sources) source).fed + length piece.now < 2 ^ 64 }
         ensures taken { IfOk result (λ n. n ≤ length piece.now) }
         ensures ok { IfOk result (λ n. StepsOn (feed_step source (take n piece.now)) (M.image memory.old) self.old (M.image memory.new) self.new) }
+        ensures main { IfOk result (λ n. source ≡ main_source → (n ≡ 0) ⊎ (n ≡ length piece.now)) }
         ensures waits { IfOk result (λ n. n < length piece.now → (self.new.verdict ≢ running)
             ⊎ Tells (M.image memory.new) self.new (λ given uuid first texts. TakesBytes (for_table first.table given) uuid self.new.rounds texts source → ⊥)) }
         ensures other { (result ≡ Err in_place_fault.OtherTable) ↔ ((M.image memory.old).table ≢ self.old.table) }
@@ -338,6 +340,7 @@ impl<A: Allocator + Copy> InPlaceSession<A> {
         ensures taken { IfOk result (λ n. n ≤ length piece.now) }
         ensures steps { IfOk result (λ n. StepsOn (feed_step source (take n piece.now)) (M.image memory.old) self.old (M.image memory.new) self.new) }
         ensures lacks { OnErr result (LacksBehind source piece.now (λ f. Stands f (M.image memory.old) self.old) self.old (M.image memory.new) self.new) }
+        ensures main { IfOk result (λ n. source ≡ main_source → (n ≡ 0) ⊎ (n ≡ length piece.now)) }
         ensures waits { IfOk result (λ n. n < length piece.now → (self.new.verdict ≢ running)
             ⊎ Tells (M.image memory.new) self.new (λ given uuid first texts. TakesBytes (for_table first.table given) uuid self.new.rounds texts source → ⊥)) }
         ensures settled { self.old.verdict ≢ running → (result ≡ Ok 0) × (self.new ≡ self.old) × (M.image memory.new ≡ M.image memory.old) }
@@ -378,6 +381,7 @@ impl<A: Allocator + Copy> InPlaceSession<A> {
         ensures read { IfOk result (λ n. (f : Loading) → Loads f (M.image memory.old) self.old
             → IsUnsettled (with_bytes source (take n piece.now) f) (M.image memory.new) self.new) }
         ensures lacks { OnErr result (LacksBehind source piece.now (λ f. Loads f (M.image memory.old) self.old) self.old (M.image memory.new) self.new) }
+        ensures main { IfOk result (λ n. source ≡ main_source → n ≡ length piece.now) }
         ensures waits { IfOk result (λ n. n < length piece.now → TakesNoMore source self.new.sources) }
         ensures counts { IfOk result (λ n. counts_of self.new.sources ≡ with_fed (counts_of self.old.sources) source n) }
         ensures table { (self.new.table ≡ self.old.table) × ((M.image memory.new).table ≡ (M.image memory.old).table) }
@@ -684,6 +688,56 @@ impl<A: Allocator> InPlaceSession<A> {
             Source::Main => Some(self.main.valid_up_to()),
             Source::Channel(j) => Some(self.channels[j].valid_up_to()),
         }
+    }
+
+    /// Returns the fault of the bytes taken of `source` by themselves, whatever other sources have:
+    /// a `Fault::Stream` or a `Fault::Channel`. It is known at once, while the verdict waits for the
+    /// other sources, and names the first one with a fault. A source that was ended too early has
+    /// `Truncated`, or a channel behind a packet without SYNC `Unsynced`: so it says which connection
+    /// broke. None after a refused allocation.
+    pub fn fault_of(&self, source: Source) -> Option<Fault>
+        requires { HasSource (counts_of self.now.sources) source }
+        ensures stands { (memory : Image) → Tells memory self.now (λ given uuid first texts. HasFault (for_table first.table given) uuid texts source result) }
+        ensures lacking { (memory : Image) (given : LoadSettings) (uuid : List ℕ) (first : Image) (texts : Texts) → LacksMemory given uuid first texts memory self.now → result ≡ None }
+    {
+        if self.lacks_memory() {
+            return None;
+        }
+        match source {
+            Source::Main => self.main.fault(),
+            Source::Channel(j) => self.channels[j].fault(),
+        }
+    }
+
+    /// Returns whether all rounds are in: the main stream is closed, each of its rounds was judged
+    /// lawful, and no packet of a further round has begun. The memory has all rounds on top of what
+    /// it held, and nothing else, though the channels may not have ended yet.
+    ///
+    /// QEMU with a return path ends its channels only after the answer, and `Verdict::Done` waits
+    /// for their ends. So answer where this is true. Then the channels end, and the verdict is
+    /// `Done`.
+    pub fn has_all_rounds(&self) -> bool
+        ensures all { IsTrue result → (memory : Image) → IsImage memory
+            → Tells memory self.now (λ given uuid first texts. HasAllRounds (for_table first.table given) uuid first texts memory self.now.rounds) }
+        ensures done { self.now.verdict ≡ done → IsTrue result }
+        ensures failed { IsTrue result → (self.now.verdict ≡ running) ⊎ (self.now.verdict ≡ done) }
+    {
+        match self.verdict {
+            Verdict::Running => self.lacks_ends(),
+            Verdict::Done => true,
+            Verdict::Failed(_) => false,
+        }
+    }
+
+    // Returns whether a load that runs has all rounds: the main stream is closed at the current
+    // round, and no packet of that round has begun.
+    fn lacks_ends(&self) -> bool
+        ensures { IsTrue result → (f : Loading) (memory : Image) → Loads f memory self.now → HasAllRounds (for_table f.first.table f.given) f.uuid f.first f.texts memory self.now.rounds }
+    {
+        if self.round.len() != 0 {
+            return false;
+        }
+        is_clean(self.main.status())
     }
 
     // Returns whether an allocation was refused.

@@ -8,6 +8,8 @@ mod alike;
 #[cfg(test)]
 mod both;
 #[cfg(test)]
+mod ends;
+#[cfg(test)]
 mod faulty;
 #[cfg(test)]
 mod framed;

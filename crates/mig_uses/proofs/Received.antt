@@ -1,14 +1,18 @@
 -- A guest that is received over connections: what was taken of each.
-use Rattle.std.proofs.Common.{ℕ, zero, suc, ◌≡◌, ◌≢◌, Result, Ok, Err, ◌+◌, ◌<◌, List, [], ◌∷◌, ◌++◌, length, map, get_or, Option, None, refl, sym, ap, subst, ◌∙◌, arith, inl, inr, add-one}
-use Rattle.std.specs.Prelude.{IfOk}
+use Rattle.std.proofs.Common.{ℕ, zero, suc, ◌≡◌, ◌≢◌, Result, Ok, Err, ◌+◌, ◌<◌, Bool, true, List, [], ◌∷◌, ◌++◌, length, map, get_or, Option, None, Some, refl, sym, ap, subst, ◌∙◌, append_assoc, arith, inl, inr, add-one}
+use Rattle.std.specs.Prelude.{IfOk, IsTrue}
 use Rattle.std.specs.List.{AllZip}
-use Rattle.std.specs.Io.KnownBytes.{Consumes}
+use Rattle.std.specs.Io.KnownBytes.{Consumes, IsAtEnd}
 use Rattle.std.proofs.lemmas.Bool.{false≢true}
-use Rattle.std.proofs.lemmas.List.{get_or-map, get_or-replicate, length-replicate}
-use Rattle.mig_mem.specs.Image.{Image}
+use Rattle.std.proofs.lemmas.List.{append-nil, get_or-map, get_or-replicate, length-replicate}
+use Rattle.mig_mem.specs.RamTable.{IsTable}
+use Rattle.mig_mem.specs.Image.{Image, IsImage}
 use Rattle.mig_single_load.specs.declared.settings.LoadSettings.{LoadSettings}
+use Rattle.mig_single_load.specs.Settings.{ram_settings}
 use Rattle.mig_answer.specs.declared.verdict.Verdict.{Verdict}
-use Rattle.mig_answer.specs.Texts.{Text, Texts, no_text, no_texts}
+use Rattle.mig_answer.specs.declared.verdict.Verdict.TheVariants.{Done}
+use Rattle.mig_answer.specs.Texts.{Text, Texts, no_text, no_texts, ended_text, ended_texts}
+use Rattle.mig_answer.specs.Growing.{GoesOn, GoOn}
 use Rattle.mig_session.specs.Reads.{ReadsSoFar, no_reads}
 use Rattle.mig_session.specs.declared.source.Source.{Source}
 use Rattle.mig_session.specs.declared.source.Source.TheVariants as source
@@ -17,7 +21,9 @@ use Rattle.mig_in_place.specs.Session.{InPlaceLoad, text_of, StandsFor}
 use Rattle.mig_in_place.specs.Turns.{KeptSource, new_source, no_source, number_of, source_in, AtTurns, HaveCome, KeepsBytes, Pumps}
 use Rattle.mig_in_place.specs.declared.source_reader.TurnFault.{TurnFault}
 use Rattle.mig_in_place.specs.declared.source_reader.TurnFault.TheVariants as fault
-use Rattle.mig_uses.specs.ByTurns.{IsTakenOf, IsReceived}
+use Rattle.mig_in_place.proofs.DoneStays.{stays_law}
+use Rattle.mig_in_place.proofs.Sendings.{sent_law}
+use Rattle.mig_uses.specs.ByTurns.{IsTakenOf, IsReceived, SentIsReceived}
 
 taken_all : (bytes : List (Option (List ℕ))) (texts : List Text) → length bytes ≡ length texts → ((i : ℕ) → i < length texts → IsTakenOf (get_or bytes i None) (get_or texts i no_text)) → AllZip IsTakenOf bytes texts
 taken_all [] [] same each = tt
@@ -81,3 +87,38 @@ pub received_by : {O : Type 0} (chooses : O → InPlaceLoad → ℕ → O → Ty
 received_by chooses most given uuid first bytes n old new (Ok verdict) many sources stands pumps kept =
     received given uuid first no_reads bytes n old new verdict many sources stands (kept (λ e. absurd cc)) pumps.5
 received_by chooses most given uuid first bytes n old new (Err e) many sources stands pumps kept = tt
+
+-- ---- what a sender sent
+
+-- the bytes of a connection go on behind those that were taken of it, up to its end
+goes_one : (bytes : List ℕ) (text : Text) → IsTakenOf (Some bytes) text → GoesOn text (ended_text bytes)
+goes_one bytes text taken = left_is taken.left taken.is_read taken.is_over
+  where
+    left_is : (left : Option (List ℕ)) → Consumes (Some bytes) left (text.bytes ++ taken.waiting) → (IsTrue text.ended → (taken.waiting ≡ []) × IsAtEnd left) → GoesOn text (ended_text bytes)
+    left_is None read over = absurd read
+    left_is (Some left) read over = record {
+      more = taken.waiting ++ left;
+      has_bytes = read ∙ append_assoc text.bytes taken.waiting left;
+      stays_ended = λ ended.
+          let none = over ended in
+          let all : bytes ≡ text.bytes =
+          read ∙ ap (λ (l : List ℕ). (text.bytes ++ l) ++ left) none.0 ∙ ap (λ (l : List ℕ). (text.bytes ++ []) ++ l) none.1
+          ∙ append-nil (text.bytes ++ []) ∙ append-nil text.bytes in
+          ap (λ (l : List ℕ). record { bytes = l; ended = true }) all ∙ ap (λ (b : Bool). record { bytes = text.bytes; ended = b }) (sym ended);
+    }
+
+goes_each : (bytes : List (List ℕ)) (texts : List Text) → AllZip IsTakenOf (map Some bytes) texts → AllZip GoesOn texts (map ended_text bytes)
+goes_each [] [] taken = tt
+goes_each [] (text ∷ texts) taken = absurd taken
+goes_each (b ∷ bytes) [] taken = absurd taken
+goes_each (b ∷ bytes) (text ∷ texts) taken = (goes_one b text taken.0, goes_each bytes texts taken.1)
+
+pub sent_received : (limit : ℕ) (uuid : List ℕ) (first memory : Image) (connections : List (Option (List ℕ)))
+    → IsReceived (ram_settings first.table.page_size limit) uuid first connections memory Done → SentIsReceived limit uuid first connections memory
+sent_received limit uuid first memory connections is = λ rounds main channels from is_image is_memory sent room.
+    let is_table : IsTable first.table = sent.is_sending.is_set.has_table in
+    let taken : AllZip IsTakenOf (map Some (main ∷ channels)) (is.texts.main ∷ is.texts.channels) =
+    subst (λ (l : List (Option (List ℕ))). AllZip IsTakenOf l (is.texts.main ∷ is.texts.channels)) from is.are_taken in
+    let goes : GoOn is.texts (ended_texts main channels) = record { main = goes_one main is.texts.main taken.0; channels = goes_each channels is.texts.channels taken.1 } in
+    let there = stays_law (ram_settings first.table.page_size limit) uuid first is.texts (ended_texts main channels) memory is.rounds is_table is_image is_memory goes is.is_answer in
+    (sent_law uuid limit first rounds main true channels memory is.rounds Done is_table is_image is_memory sent room there).2

@@ -1,11 +1,15 @@
 -- A guest that is received over connections, whichever has bytes.
-use Rattle.std.specs.Prelude.{ℕ, ◌≡◌, List, [], ◌∷◌, ◌++◌, IsTrue, Option}
+use Rattle.std.specs.Prelude.{ℕ, ◌≡◌, ◌≤◌, List, [], ◌∷◌, ◌++◌, map, IsTrue, Option, Some}
 use Rattle.std.specs.List.{AllZip}
 use Rattle.std.specs.Io.KnownBytes.{Consumes, IsAtEnd}
-use Rattle.mig_mem.specs.Image.{Image}
+use Rattle.mig_mem.specs.Image.{Image, IsImage}
+use Rattle.mig_mem.specs.Round.{with_rounds}
+use Rattle.mig_stream.specs.Text.{total_bytes}
+use Rattle.mig_send.specs.DealtRounds.{DealtRound}
 use Rattle.mig_single_load.specs.declared.settings.LoadSettings.{LoadSettings}
 use Rattle.mig_answer.specs.declared.verdict.Verdict.{Verdict}
 use Rattle.mig_answer.specs.Texts.{Text, Texts}
+use Rattle.mig_answer.specs.Sent.{IsSentInAnyOrder, sent_rounds}
 use Rattle.mig_in_place.specs.Answer.{IsInPlaceAnswer}
 
 -- A stream has the bytes that were taken of a connection, from the first one on. More may have been
@@ -22,3 +26,9 @@ pub record IsReceived (given : LoadSettings) (uuid : List ℕ) (first : Image) (
   pub are_taken : AllZip IsTakenOf connections (texts.main ∷ texts.channels)
   pub rounds : ℕ
   pub is_answer : IsInPlaceAnswer given uuid first texts memory rounds verdict
+
+-- If the connections give what a `MultiSender` sent of a guest of the memory's table, the memory has
+-- the rounds sent, on top of what it held.
+abbrev pub SentIsReceived : ℕ → List ℕ → Image → List (Option (List ℕ)) → Image → Type 0
+SentIsReceived limit uuid first connections memory = (rounds : List DealtRound) (main : List ℕ) (channels : List (List ℕ)) → connections ≡ map Some (main ∷ channels)
+    → IsImage first → IsImage memory → IsSentInAnyOrder first.table uuid rounds main channels → total_bytes first.table ≤ limit → memory ≡ with_rounds first (sent_rounds rounds)

@@ -2,11 +2,12 @@
 //! The new host reads the main stream and the channels in turn, and writes each page as soon as its
 //! bytes have arrived.
 
-ghost use Rattle.std.specs.Prelude.{ℕ, ◌≡◌, ◌≤◌, ◌^◌, length, map, IfOk};
+ghost use Rattle.std.specs.Prelude.{ℕ, ◌≡◌, ◌≤◌, ◌^◌, length, map, Ok, IfOk};
 ghost use Rattle.mig_session.specs.Reads.{no_reads};
 ghost use Rattle.mig_single_load.specs.Settings.{ram_settings};
+ghost use Rattle.mig_answer.specs.declared.verdict.Verdict.TheVariants.{Done as done};
 ghost use Rattle.mig_in_place.specs.Turns.{new_source};
-ghost use Rattle.mig_uses.specs.ByTurns.{IsReceived};
+ghost use Rattle.mig_uses.specs.ByTurns.{IsReceived, SentIsReceived};
 
 use std::alloc::Allocator;
 use std::io::Read;
@@ -40,8 +41,8 @@ fn buffered<A: Allocator + Copy, R: Read + Drop>(
 /// next, among live ones that have bytes. If one channel is a round ahead of the others, its bytes
 /// wait in its buffer of 64 KiB, and then in the network.
 ///
-/// Returns the verdict. On `Done` the memory has all rounds on top of what it held, and the guest
-/// can run. On a fault the pages that the failed round names may hold anything.
+/// Returns the verdict. On `Done` the memory has all rounds on top of what it held, those of the
+/// `MultiSender` at the other end, and the guest can run. On a fault the pages that the failed round names may hold anything.
 ///
 /// # Errors
 ///
@@ -56,7 +57,8 @@ pub fn receive<A: Allocator + Copy, R: Read + Drop, M: GuestTarget, O: TurnOrder
 ) -> Result<Verdict, TurnFault>
     requires connections { (2 ≤ length connections.items) × (length connections.items ≤ 256) }
     requires limit { limit ≤ 2 ^ 40 }
-    ensures { IfOk result (IsReceived (ram_settings (M.image memory.old).table.page_size limit) uuid.now (M.image memory.old) (map R.remaining connections.items) (M.image memory.new)) }
+    ensures answer { IfOk result (IsReceived (ram_settings (M.image memory.old).table.page_size limit) uuid.now (M.image memory.old) (map R.remaining connections.items) (M.image memory.new)) }
+    ensures sent { result ≡ Ok done → SentIsReceived limit uuid.now (M.image memory.old) (map R.remaining connections.items) (M.image memory.new) }
 {
     let channels = connections.len() - 1;
     let Ok(mut load) = InPlaceSession::new(alloc, memory.table(), uuid, channels, limit) else {

@@ -202,6 +202,8 @@ static int feed_all(zimgasol_in_place_session *load, size_t cut) {
         WANT(into[0].bytes == loaded[0] && into[0].len == PAGES * PAGE &&
             into[1].bytes == loaded[1] && into[1].len == OTHER * PAGE);
     }
+    /* all rounds are in before a source ends */
+    WANT(zimgasol_in_place_session_has_all_rounds(load));
     for (size_t source = 0; source <= CHANNELS; source++) {
         WANT(given[source] == length[source]);
         WANT(zimgasol_in_place_session_end(load, source) == ZIMGASOL_DONE);
@@ -353,6 +355,7 @@ static int load_all(zimgasol_table *table, size_t cut) {
         ZIMGASOL_DONE);
     WANT(zimgasol_in_place_session_verdict(&load, &fault) == ZIMGASOL_RUNNING);
     WANT(zimgasol_in_place_session_closed_at(&load, &at) == ZIMGASOL_RUNNING && at == 7);
+    WANT(!zimgasol_in_place_session_has_all_rounds(&load));
     WANT(!zimgasol_in_place_session_takes(&load, 1 + CHANNELS));
     WANT(zimgasol_in_place_session_feed(&load, into, 2, 1 + CHANNELS, stream[0], 1, &taken) ==
             ZIMGASOL_BAD_SOURCE &&
@@ -392,6 +395,10 @@ static int load_wrong(zimgasol_table *table) {
     WANT(zimgasol_in_place_session_verdict(&load, &fault) == ZIMGASOL_CHANNEL_PACKET_MAGIC);
     WANT(fault.source == ZIMGASOL_CHANNEL(1) && fault.round == 0 &&
         fault.number == ZIMGASOL_CHANNEL_PACKET_MAGIC);
+    WANT(zimgasol_in_place_session_fault_of(&load, ZIMGASOL_CHANNEL(1), &fault) ==
+        ZIMGASOL_CHANNEL_PACKET_MAGIC);
+    WANT(zimgasol_in_place_session_fault_of(&load, ZIMGASOL_CHANNEL(0), &fault) == ZIMGASOL_DONE);
+    WANT(!zimgasol_in_place_session_has_all_rounds(&load));
     WANT(zimgasol_in_place_session_valid_up_to(&load, fault.source, &at) && at == 64);
     at = 7;
     WANT(!zimgasol_in_place_session_valid_up_to(&load, ZIMGASOL_CHANNEL(CHANNELS), &at) && at == 7);
@@ -402,6 +409,31 @@ static int load_wrong(zimgasol_table *table) {
     WANT(zimgasol_in_place_session_feed(&load, into, 2, 0, stream[0], 1, &taken) == ZIMGASOL_DONE &&
         taken == 0);
     WANT(zimgasol_in_place_session_rounds(&load) == 0);
+    zimgasol_in_place_session_free(&load);
+    return 0;
+}
+
+/* A channel that ends within its hello is told as cut at once, while the load goes on. */
+static int load_cut(zimgasol_table *table) {
+    zimgasol_in_place_session load = {0};
+    zimgasol_fault fault = {.number = 7};
+    size_t taken;
+    WANT(zimgasol_in_place_session_new(&load, table, uuid, 16, CHANNELS, ZIMGASOL_FRAME_RAM) ==
+        ZIMGASOL_DONE);
+    WANT(zimgasol_in_place_session_fault_of(&load, 1 + CHANNELS, &fault) == ZIMGASOL_BAD_SOURCE &&
+        fault.number == 7);
+    WANT(zimgasol_in_place_session_feed(&load, into, 2, ZIMGASOL_CHANNEL(1), stream[2], 20,
+             &taken) == ZIMGASOL_DONE);
+    WANT(zimgasol_in_place_session_fault_of(&load, ZIMGASOL_CHANNEL(1), &fault) ==
+            ZIMGASOL_DONE &&
+        fault.number == 0);
+    WANT(zimgasol_in_place_session_end(&load, ZIMGASOL_CHANNEL(1)) == ZIMGASOL_DONE);
+    WANT(zimgasol_in_place_session_fault_of(&load, ZIMGASOL_CHANNEL(1), &fault) ==
+        ZIMGASOL_CHANNEL_TRUNCATED);
+    WANT(fault.source == ZIMGASOL_CHANNEL(1) && fault.round == 0 &&
+        fault.number == ZIMGASOL_CHANNEL_TRUNCATED);
+    WANT(zimgasol_in_place_session_fault_of(&load, ZIMGASOL_MAIN, &fault) == ZIMGASOL_DONE);
+    WANT(zimgasol_in_place_session_verdict(&load, &fault) == ZIMGASOL_RUNNING);
     zimgasol_in_place_session_free(&load);
     return 0;
 }
@@ -504,7 +536,7 @@ int main(void) {
     size_t cuts[] = {MOST, 100000, 4096, 777};
     for (size_t i = 0; i < sizeof cuts / sizeof cuts[0]; i++)
         if (load_all(&table, cuts[i])) return 1;
-    if (load_wrong(&table) || load_limited(&table)) return 1;
+    if (load_wrong(&table) || load_cut(&table) || load_limited(&table)) return 1;
     printf("%zu bytes on the main stream, %zu, %zu and %zu on the channels; 0 pages differ\n",
         length[0], length[1], length[2], length[3]);
     if (send_named(&table) || foreign(&table)) return 1;

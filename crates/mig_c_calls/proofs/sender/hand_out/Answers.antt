@@ -10,3 +10,4 @@ returns c =
     hands_front count c.copy_front-count.new.out c.args.sender.now _ c.copy_front-count.ensures.fits
     (c.copy_front-count.ensures.front ∙ ap (λ (l : List ℕ). take count l) here) refl refl refl
     (λ zero room. ap (λ (l : List ℕ). length l) (sym here) ∙ c.copy_front-count.ensures.none zero room)
+    (λ less. c.copy_front-count.ensures.fills less ∙ ap (λ (l : List ℕ). length l) here)

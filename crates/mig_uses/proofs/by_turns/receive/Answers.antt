@@ -1,16 +1,20 @@
-use Rattle.std.proofs.Common.{ℕ, ◌≡◌, ◌-◌, ◌^◌, ◌∙◌, map, sym, ap, subst, arith}
+use Rattle.std.proofs.Common.{ℕ, ◌≡◌, ◌-◌, ◌^◌, ◌∙◌, Result, map, sym, ap, subst, arith}
+use Rattle.std.specs.Prelude.{IfOk}
 use Rattle.std.proofs.lemmas.List.{length-map}
 use Rattle.mig_mem.specs.RamTable.{RamTable}
 use Rattle.mig_mem.specs.Image.{Image}
 use Rattle.mig_single_load.specs.Settings.{ram_settings}
 use Rattle.mig_answer.specs.Texts.{no_texts}
+use Rattle.mig_answer.specs.declared.verdict.Verdict.{Verdict}
+use Rattle.mig_in_place.specs.declared.source_reader.TurnFault.{TurnFault}
 use Rattle.mig_in_place.specs.Session.{StandsFor}
 use Rattle.mig_in_place.specs.Turns.{AtTurns}
-use Rattle.mig_uses.proofs.Received.{received_by}
+use Rattle.mig_uses.specs.ByTurns.{IsReceived}
+use Rattle.mig_uses.proofs.Received.{received_by, sent_received}
 use Rattle.mig_uses.proofs.by_turns.receive.Goals as goal
 
-pub returns : goal.returns
-returns g c =
+pub returns-clause-answer : goal.returns-clause-answer
+returns-clause-answer g c =
     let image = g.M.GuestTarget.image in
     let first : Image = image c.args.memory.now in
     let n : ℕ = c.len-channels.result - 1 in
@@ -23,3 +27,11 @@ returns g c =
     received_by g.O.TurnOrder.chooses (2 ^ 40) (ram_settings first.table.page_size c.args.limit) c.args.uuid.now first (map g.R.Read.remaining c.args.connections.items) n old new c.pump_by_turns.result
     (omega (arith, length-map c.args.connections.items g.R.Read.remaining, c.len-channels.ensures, c.args.connections.ok.0, c.requires.connections.0))
     (c.deref_mut.ensures.value ∙ c.in-Ok-buffered.ensures) stands c.pump_by_turns.ensures.turns c.pump_by_turns.ensures.bytes
+
+pub returns-clause-sent : goal.returns-clause-sent
+returns-clause-sent g c = λ done.
+    let image = g.M.GuestTarget.image in
+    let first : Image = image c.args.memory.now in
+    let last : Image = image c.pump_by_turns.new.memory in
+    sent_received c.args.limit c.args.uuid.now first last (map g.R.Read.remaining c.args.connections.items)
+    (subst (λ (r : Result Verdict TurnFault). IfOk r (IsReceived (ram_settings first.table.page_size c.args.limit) c.args.uuid.now first (map g.R.Read.remaining c.args.connections.items) last)) done (returns-clause-answer g c))

@@ -73,7 +73,8 @@ returns-then-self-rounds-clause-steps g c = λ given uuid guest texts stands.
     subst (λ (x : List ℕ). (f : Loading) → Loads f middle s → IsUnsettled (with_bytes c.args.source (take k x) f) turn c.read.new.self) all c.in_ok-count.ensures.read in
     let next : TakenSoFar c.args.source piece (n + k) first c.args.self.now last c.settle.new.self =
     taken_more c.args.source piece n k first middle last c.args.self.now s c.read.new.self c.settle.new.self turn running le reads c.in_ok-settle.ensures.stands c.in_ok-count.ensures.counts c.settle.ensures.counts
-    c.read.ensures.table.0 c.settle.ensures.table.0 c.read.ensures.table.1 c.settle.ensures.table.1 c.read.ensures.rounds c.settle.ensures.rounds c.rounds.invariant in
+    c.read.ensures.table.0 c.settle.ensures.table.0 c.read.ensures.table.1 c.settle.ensures.table.1 c.read.ensures.rounds c.settle.ensures.rounds
+    (λ main. c.in_ok-count.ensures.main main ∙ ap (λ (x : List ℕ). length x) all) c.rounds.invariant in
     next.steps (record { given = given; uuid = uuid; first = guest; texts = texts }) stands
 
 pub returns-then-self-rounds-clause-waits : goal.returns-then-self-rounds-clause-waits
@@ -93,7 +94,8 @@ returns-then-self-rounds-clause-waits g c = λ lt.
     subst (λ (x : List ℕ). (f : Loading) → Loads f middle s → IsUnsettled (with_bytes c.args.source (take k x) f) turn c.read.new.self) all c.in_ok-count.ensures.read in
     let next : TakenSoFar c.args.source piece (n + k) first c.args.self.now last c.settle.new.self =
     taken_more c.args.source piece n k first middle last c.args.self.now s c.read.new.self c.settle.new.self turn running le reads c.in_ok-settle.ensures.stands c.in_ok-count.ensures.counts c.settle.ensures.counts
-    c.read.ensures.table.0 c.settle.ensures.table.0 c.read.ensures.table.1 c.settle.ensures.table.1 c.read.ensures.rounds c.settle.ensures.rounds c.rounds.invariant in
+    c.read.ensures.table.0 c.settle.ensures.table.0 c.read.ensures.table.1 c.settle.ensures.table.1 c.read.ensures.rounds c.settle.ensures.rounds
+    (λ main. c.in_ok-count.ensures.main main ∙ ap (λ (x : List ℕ). length x) all) c.rounds.invariant in
     let zero_taken : k ≡ 0 = c.if-count-eq0.true in
     let rounds : c.settle.new.self.rounds ≡ c.read.new.self.rounds =
     sym (ap (λ (x : InPlaceLoad). x.rounds) c.self-in-rounds.view_is) ∙ c.if-self-rounds.true ∙ ap (λ (x : InPlaceLoad). x.rounds) c.self.view_is ∙ sym c.read.ensures.rounds in
@@ -125,8 +127,30 @@ returns-then-self-rounds-clause-counts g c =
     subst (λ (x : List ℕ). (f : Loading) → Loads f middle s → IsUnsettled (with_bytes c.args.source (take k x) f) turn c.read.new.self) all c.in_ok-count.ensures.read in
     let next : TakenSoFar c.args.source piece (n + k) first c.args.self.now last c.settle.new.self =
     taken_more c.args.source piece n k first middle last c.args.self.now s c.read.new.self c.settle.new.self turn running le reads c.in_ok-settle.ensures.stands c.in_ok-count.ensures.counts c.settle.ensures.counts
-    c.read.ensures.table.0 c.settle.ensures.table.0 c.read.ensures.table.1 c.settle.ensures.table.1 c.read.ensures.rounds c.settle.ensures.rounds c.rounds.invariant in
+    c.read.ensures.table.0 c.settle.ensures.table.0 c.read.ensures.table.1 c.settle.ensures.table.1 c.read.ensures.rounds c.settle.ensures.rounds
+    (λ main. c.in_ok-count.ensures.main main ∙ ap (λ (x : List ℕ). length x) all) c.rounds.invariant in
     next.has_counts
+
+pub returns-then-self-rounds-clause-main : goal.returns-then-self-rounds-clause-main
+returns-then-self-rounds-clause-main g c =
+    let piece : List ℕ = c.args.piece.now in
+    let n : ℕ = c.rounds.taken in
+    let s : InPlaceLoad = c.rounds.self in
+    let first : Image = g.M.GuestTarget.image c.args.memory.now in
+    let middle : Image = g.M.GuestTarget.image c.rounds.memory in
+    let turn : Image = g.M.GuestTarget.image c.read.new.memory in
+    let all : take (length piece - n) (drop n piece) ≡ drop n piece = rest_is piece n in
+    let running : s.verdict ≡ Running = c.if-not-is_taking.ensures.runs refl in
+    let k : ℕ = c.in_ok-count.count in
+    let last : Image = g.M.GuestTarget.image c.settle.new.memory in
+    let le : k ≤ length (drop n piece) = subst (λ (x : List ℕ). k ≤ length x) all c.in_ok-count.ensures.taken in
+    let reads : (f : Loading) → Loads f middle s → IsUnsettled (with_bytes c.args.source (take k (drop n piece)) f) turn c.read.new.self =
+    subst (λ (x : List ℕ). (f : Loading) → Loads f middle s → IsUnsettled (with_bytes c.args.source (take k x) f) turn c.read.new.self) all c.in_ok-count.ensures.read in
+    let next : TakenSoFar c.args.source piece (n + k) first c.args.self.now last c.settle.new.self =
+    taken_more c.args.source piece n k first middle last c.args.self.now s c.read.new.self c.settle.new.self turn running le reads c.in_ok-settle.ensures.stands c.in_ok-count.ensures.counts c.settle.ensures.counts
+    c.read.ensures.table.0 c.settle.ensures.table.0 c.read.ensures.table.1 c.settle.ensures.table.1 c.read.ensures.rounds c.settle.ensures.rounds
+    (λ main. c.in_ok-count.ensures.main main ∙ ap (λ (x : List ℕ). length x) all) c.rounds.invariant in
+    next.takes_whole
 
 pub rounds-preserved : goal.rounds-preserved
 rounds-preserved g c =
@@ -145,8 +169,15 @@ rounds-preserved g c =
     subst (λ (x : List ℕ). (f : Loading) → Loads f middle s → IsUnsettled (with_bytes c.args.source (take k x) f) turn c.read.new.self) all c.in_ok-count.ensures.read in
     let next : TakenSoFar c.args.source piece (n + k) first c.args.self.now last c.settle.new.self =
     taken_more c.args.source piece n k first middle last c.args.self.now s c.read.new.self c.settle.new.self turn running le reads c.in_ok-settle.ensures.stands c.in_ok-count.ensures.counts c.settle.ensures.counts
-    c.read.ensures.table.0 c.settle.ensures.table.0 c.read.ensures.table.1 c.settle.ensures.table.1 c.read.ensures.rounds c.settle.ensures.rounds c.rounds.invariant in
+    c.read.ensures.table.0 c.settle.ensures.table.0 c.read.ensures.table.1 c.settle.ensures.table.1 c.read.ensures.rounds c.settle.ensures.rounds
+    (λ main. c.in_ok-count.ensures.main main ∙ ap (λ (x : List ℕ). length x) all) c.rounds.invariant in
     next
 
 pub returns-clause-steps : goal.returns-clause-steps
 returns-clause-steps g c = λ given uuid first texts stands. c.rounds.invariant.steps (record { given = given; uuid = uuid; first = first; texts = texts }) stands
+
+pub returns-then-not-is_taking-clause-main : goal.returns-then-not-is_taking-clause-main
+returns-then-not-is_taking-clause-main g c = c.rounds.invariant.takes_whole
+
+pub returns-clause-main : goal.returns-clause-main
+returns-clause-main g c = c.rounds.invariant.takes_whole

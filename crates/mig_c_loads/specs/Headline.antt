@@ -1,0 +1,69 @@
+-- The headline in C: what was copied out of a sender that ended, fed in any pieces to a load into
+-- blocks, is DONE, and the blocks have the memory that was sent.
+use Rattle.std.specs.Prelude.{◌≡◌, ◌<◌, ◌+◌, ◌++◌, ℕ, Bool, false, List, length, map, All, None}
+use Rattle.std.specs.List.{range_with_len}
+use Rattle.mig_mem.specs.RamTable.{RamTable, IsTable}
+use Rattle.mig_mem.specs.Image.{Page}
+use Rattle.mig_mem.specs.Round.{IsRound, with_rounds}
+use Rattle.mig_mem.specs.Lent.{FitTable, lent_image}
+use Rattle.mig_stream.specs.declared.item.Frame.TheVariants.{Ram, Machine}
+use Rattle.mig_send.specs.DealtRounds.{DealtRound, channel_text}
+use Rattle.mig_send.specs.MultiSending.{Drained}
+use Rattle.mig_single_load.specs.LoadInPlace.{LoadInPlace, LoadsInPlace}
+use Rattle.mig_answer.specs.Sent.{sent_rounds}
+use Rattle.mig_in_place.specs.Law.{taken_texts}
+use Rattle.mig_in_place.specs.Session.{InPlaceLoad, StandsFor}
+use Rattle.mig_c_calls.specs.Sending.{whole_stream}
+use Rattle.mig_c_calls.specs.Named.{IsLongName}
+use Rattle.mig_c_calls.specs.declared.sending.Multi.{Multi}
+use Rattle.mig_c_calls.specs.Multi.{MultiSetting, Sends, IsOver, is_left_open, ended_main}
+use Rattle.mig_c_loads.specs.declared.fault.FoundFault.{FoundFault}
+use Rattle.mig_c_loads.specs.Found.{no_fault, seen_of_verdict}
+use Rattle.mig_c_loads.specs.InPlace.{settings_into, TellsVerdict}
+
+-- ---- one stream
+
+-- All bytes of a sender that was ended, which has sent these rounds: its `drain` promises that they
+-- were copied out, once it returns 0. Fed to a load into blocks of the same table, they are loaded:
+-- C sees DONE, and the blocks have the rounds on top of what they held. START and END count as a
+-- section each.
+abbrev pub DrainedIsLoaded : Type 0
+DrainedIsLoaded = (table : RamTable) (rounds : List (List Page)) (given : List ℕ) → IsTable table → All (IsRound table) rounds → given ≡ whole_stream None table rounds
+    → (before after : List (List ℕ)) (load : LoadInPlace) (ended : Bool) (found : FoundFault) → FitTable table before
+    → LoadsInPlace (lent_image table after) (settings_into table Ram None) (lent_image table before) load given ended → TellsVerdict found load
+    → (found ≡ no_fault) × (load.rounds ≡ length rounds + 2) × (lent_image table after ≡ with_rounds (lent_image table before) rounds)
+
+-- ---- several channels
+
+-- the channels' bytes that were copied out
+abbrev pub channels_out : ℕ → Drained → List (List ℕ)
+channels_out channels given = map given.channel (range_with_len 0 channels)
+
+-- All bytes of a sender on several channels, which was ended, were copied out: of its main stream,
+-- and of each channel. Each drain promises it once it returns 0.
+pub record IsAllOf (setting : MultiSetting) (given : Drained) (rounds : List DealtRound) (sender : Multi) : Type 0 where
+  pub sends : Sends setting given rounds sender
+  pub is_over : IsOver sender.state
+  pub all_of_main : given.main ≡ ended_main (is_left_open sender.state) setting.name setting.table (length rounds)
+  pub all_of_channels : (channel : ℕ) → channel < setting.channels → given.channel channel ≡ channel_text setting.uuid rounds channel
+
+-- what C sees of a load that is done with so many rounds
+abbrev pub IsDone : ℕ → InPlaceLoad → Type 0
+IsDone rounds load = (seen_of_verdict load.rounds load.verdict ≡ no_fault) × (load.rounds ≡ rounds)
+
+-- Of a sender without a machine's name that was ended with its end byte: all of them were taken by a
+-- load into blocks of the same table. It is done, and the blocks have the rounds that were sent.
+abbrev pub DrainedChannelsAreLoaded : Type 0
+DrainedChannelsAreLoaded = (setting : MultiSetting) (given : Drained) (rounds : List DealtRound) (sender : Multi) → IsAllOf setting given rounds sender
+    → setting.name ≡ None → is_left_open sender.state ≡ false
+    → (before after : List (List ℕ)) (load : InPlaceLoad) (ended : Bool) → FitTable setting.table before → FitTable setting.table after
+    → StandsFor (settings_into setting.table Ram None) setting.uuid (lent_image setting.table before) (taken_texts given.main ended (channels_out setting.channels given)) (lent_image setting.table after) load
+    → IsDone (length rounds) load × (lent_image setting.table after ≡ with_rounds (lent_image setting.table before) (sent_rounds rounds))
+
+-- So it is of a sender with a machine's name, or one that was left open behind RAM's END. Its main
+-- stream may go on with anything.
+abbrev pub DrainedMachineIsLoaded : Type 0
+DrainedMachineIsLoaded = (setting : MultiSetting) (given : Drained) (rounds : List DealtRound) (sender : Multi) → IsAllOf setting given rounds sender
+    → (IsLongName setting.name → ⊥) → (behind : List ℕ) (before after : List (List ℕ)) (load : InPlaceLoad) (ended : Bool) → FitTable setting.table before → FitTable setting.table after
+    → StandsFor (settings_into setting.table Machine None) setting.uuid (lent_image setting.table before) (taken_texts (given.main ++ behind) ended (channels_out setting.channels given)) (lent_image setting.table after) load
+    → IsDone (length rounds) load × (lent_image setting.table after ≡ with_rounds (lent_image setting.table before) (sent_rounds rounds))

@@ -1,0 +1,21 @@
+//! The headline in C, as clauses of functions that do nothing: C's loads load what C's senders sent.
+//! It joins the clauses of the calls of `mig_c_calls` and of this crate.
+
+ghost use Rattle.mig_c_loads.specs.Headline.{DrainedIsLoaded, DrainedChannelsAreLoaded, DrainedMachineIsLoaded};
+
+/// What was copied out of a sender of one stream is loaded into blocks, in whatever pieces it was
+/// fed.
+pub fn drained_is_loaded()
+    ensures { DrainedIsLoaded }
+{}
+
+/// What was copied out of a sender on several channels is loaded into blocks, in whatever pieces it
+/// was fed, and in whatever order of the sources.
+pub fn drained_channels_are_loaded()
+    ensures { DrainedChannelsAreLoaded }
+{}
+
+/// So it is with a machine's main stream, whatever follows RAM's END.
+pub fn drained_machine_is_loaded()
+    ensures { DrainedMachineIsLoaded }
+{}
