@@ -53,6 +53,12 @@ Q35_RUNNING = Kind("q35, running", ("-M", "q35", "-device", "virtio-rng-pci"), 3
 KINDS = (NONE, NONE_RUNNING, PC, PC_WRITING, Q35, Q35_RUNNING)
 # those that go by channels: small, as a program that isn't built takes its time to load them
 SMALL = NONE, replace(PC, mib=8), PC_WRITING
+# machine types whose channels' rounds end with EOS, which newer QEMUs have as well
+OLD = (
+    Kind("pc of 8.0", ("-M", "pc-i440fx-8.0"), 8),
+    Kind("pc of 8.0, running", ("-M", "pc-i440fx-8.0"), 8, running=True, writes=True),
+    Kind("q35 of 6.2", ("-M", "pc-q35-6.2"), 8),
+)
 
 
 def uuid_of(kind):

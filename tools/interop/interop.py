@@ -24,7 +24,7 @@ import packages
 import qemu
 from checks import (NO_CONFIGURATION, Bench, chain, chain_devices, load_saved, read_between,
                     read_single, refuse_single, refuse_xbzrle)
-from guests import KINDS, NONE, PC, PC_UUID, PC_WRITING, SMALL
+from guests import KINDS, NONE, OLD, PC, PC_UUID, PC_WRITING, SMALL
 from ours import Differs, Programs
 
 CHANNELS = (1, 2, 4)
@@ -113,6 +113,7 @@ def read_channels(table, bench, version):
     tries = [(kind, count, () if has_flush else UNLAWFUL, "" if has_flush else ", rounds end with EOS", {})
              for kind in SMALL for count in CHANNELS]
     if has_flush:
+        tries += [(kind, 2, (), ", rounds end with EOS", {}) for kind in OLD]
         tries.append((PC_UUID, 2, (), "", {}))
         tries.append((NONE, 2, (41,), ", zlib", {"multifd_compression": "zlib"}))
     if qemu.number(version) >= (9, 0):
