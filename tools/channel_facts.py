@@ -27,11 +27,7 @@ def page_records(reader, found, records):
         if flags == FLUSH:
             continue
         if flags == SIZES:
-            while offset:
-                name = reader.text()
-                found["memory"][name] = bytearray(reader.number(8))
-                found["counts"][name] = [0, 0]
-                offset -= len(found["memory"][name])
+            stream_facts.size_list(reader, found, offset)
         else:
             if not flags & CONTINUE:
                 found["last"] = reader.text()
@@ -50,9 +46,10 @@ def stream_records(data, found):
         at, kind = reader.at, reader.number(1)
         if kind == 7:
             found["notes"].append(("machine", reader.text(4), at))
+        elif kind == 5:
+            stream_facts.subsection(reader, found, at)
         elif kind == 8:
-            found["notes"].append(("command", reader.number(2), sections, at))
-            reader.take(reader.number(2))
+            stream_facts.command(reader, found, sections, at)
         else:
             number = reader.take(4)
             assert kind in (1, 2, 3) and number == found.setdefault("number", number)
@@ -113,13 +110,13 @@ def whole_before_cut(data):
 def lay(found, name, offset, content):
     assert offset % PAGE == 0 and offset < len(found["memory"][name])
     found["memory"][name][offset:offset + PAGE] = content or bytes(PAGE)
-    found["pages"].setdefault(name, []).append(offset)
+    found["pages"][name].add(offset)
     found["counts"][name][content is None] += 1
 
 
 def facts(main, channels):
     """Returns the memory of each block, the page records of each, the rounds, what each channel has, and where RAM ends."""
-    found = {"memory": {}, "counts": {}, "notes": [], "channels": [], "pages": {}}
+    found = {"memory": {}, "counts": {}, "notes": [], "channels": [], "pages": {}, "form": stream_facts.PLAIN}
     rounds = stream_rounds(main, found)
     assert not rounds.pop()
     each = [channel_rounds(it) for it in channels]

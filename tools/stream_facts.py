@@ -10,6 +10,9 @@ import struct
 PAGE = 4096
 ZERO, SIZES, NORMAL, EOS, CONTINUE = 0x02, 0x04, 0x08, 0x10, 0x20
 LIBVIRT = b"LibvirtQemudSave"
+# what an entry of the size list has after the length of its block
+PLAIN, ADDRESSED, SIZED = "nothing", "its guest address", "its page size, where that isn't the host's"
+POSTCOPY_ADVISE = 3
 
 
 class Reader:
@@ -39,6 +42,22 @@ def libvirt_len(data):
     return 92 + length
 
 
+def has_page_size(reader):
+    """Whether the next bytes are the page size of a block of huge pages: a power of two above the host's."""
+    ahead = int.from_bytes(reader.data[reader.at:reader.at + 8], "big")
+    return ahead > PAGE and ahead & (ahead - 1) == 0
+
+
+def size_list(reader, found, total):
+    """Reads the entries of the size list, of blocks that have `total` bytes."""
+    while total:
+        name, length = reader.text(), reader.number(8)
+        if found["form"] == ADDRESSED or found["form"] == SIZED and has_page_size(reader):
+            reader.take(8)
+        found["memory"][name], found["counts"][name], found["pages"][name] = bytearray(length), [0, 0], set()
+        total -= length
+
+
 def records(reader, found):
     """Reads the records of a section up to EOS."""
     block = None
@@ -48,14 +67,7 @@ def records(reader, found):
         if flags == EOS:
             return
         if flags & SIZES:
-            total = offset
-            while total:
-                name = reader.text()
-                length = reader.number(8)
-                found["memory"][name] = bytearray(length)
-                found["counts"][name] = [0, 0]
-                found["pages"][name] = set()
-                total -= length
+            size_list(reader, found, offset)
             continue
         if not flags & CONTINUE:
             block = found["last"] = reader.text()
@@ -84,13 +96,34 @@ def section(reader, kind, found):
     reader.sections += 1
 
 
+def subsection(reader, found, at):
+    """Reads a subsection of the configuration."""
+    name, _ = reader.text(), reader.number(4)
+    start = reader.at
+    if name == "configuration/capabilities":
+        if "x-ignore-shared" in [reader.text() for _ in range(reader.number(4))]:
+            found["form"] = ADDRESSED
+    else:
+        reader.take({"configuration/target-page-bits": 4, "configuration/uuid": 16}[name])
+    found["notes"].append(("subsection", name, reader.data[start:reader.at].hex(), at))
+
+
+def command(reader, found, sections, at):
+    """Reads a COMMAND."""
+    number = reader.number(2)
+    data = reader.take(reader.number(2))
+    if number == POSTCOPY_ADVISE and data:
+        found["form"] = SIZED
+    found["notes"].append(("command", number, sections, at))
+
+
 def facts(data):
     """Returns the memory of each block, the records of each and the offsets of their pages, the sections,
     the notes, and where RAM ends."""
     before = libvirt_len(data)
     reader = Reader(data, before)
     assert reader.take(8) == b"QEVM\0\0\0\3"
-    found = {"before": before, "memory": {}, "counts": {}, "pages": {}, "sections": 0, "notes": []}
+    found = {"before": before, "memory": {}, "counts": {}, "pages": {}, "sections": 0, "notes": [], "form": PLAIN}
     kind = 0
     while kind != 3:
         at = reader.at - before
@@ -98,13 +131,9 @@ def facts(data):
         if kind == 7:
             found["notes"].append(("machine", reader.text(4), at))
         elif kind == 5:
-            name, _ = reader.text(), reader.number(4)
-            content = reader.take({"configuration/target-page-bits": 4, "configuration/uuid": 16}[name])
-            found["notes"].append(("subsection", name, content.hex(), at))
+            subsection(reader, found, at)
         elif kind == 8:
-            command = reader.number(2)
-            reader.take(reader.number(2))
-            found["notes"].append(("command", command, found["sections"], at))
+            command(reader, found, found["sections"], at)
         else:
             section(reader, kind, found)
     found["end"] = reader.at

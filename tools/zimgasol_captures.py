@@ -50,10 +50,25 @@ def facts_of(capture):
         expect("NAME.blocks, blocks", capture.blocks, sizes)
         expect("NAME.blocks, notes", capture.notes, [said(it) for it in found["notes"]])
     found["digests"] = capture.image_digests([length for _, length in sizes])
-    digests = [stream_facts.digest(it) for it in found["memory"].values()]
-    expect("NAME.image", found["digests"], digests)
+    digests = {it: stream_facts.digest(memory) for it, memory in found["memory"].items()}
+    for block, wanted in zip(digests, found["digests"]):
+        if not is_outside(found, block):
+            expect(f"NAME.image, block {block}", wanted, digests[block])
+    found["digests"] = list(digests.values())
     expect("end of RAM", capture.end, found["end"])
     return found
+
+
+def is_outside(found, block):
+    """Whether a block is shared memory that isn't in the stream (x-ignore-shared)."""
+    return found["form"] == stream_facts.ADDRESSED and not found["pages"][block]
+
+
+def lacking(name, found):
+    """The lines of `verify` on the blocks that aren't in the stream."""
+    pages = {it: len(memory) // 4096 for it, memory in found["memory"].items() if is_outside(found, it)}
+    return [f'{name}: INCOMPLETE: {count} of {count} pages of block "{it}" have no record: it isn\'t in the stream'
+            for it, count in pages.items()]
 
 
 def said(note):
@@ -88,7 +103,8 @@ def whole_line(name, found, capture):
         ident = f", UUID {uuid.UUID(bytes=found['uuid'])}"
     else:
         counts, ident = f"sections {found['sections']}", ""
-    return (f"{name}: complete: {counts}, blocks {len(found['memory'])}, memory {memory} bytes{ident}, "
+    word = "partial" if lacking(name, found) else "complete"
+    return (f"{name}: {word}: {counts}, blocks {len(found['memory'])}, memory {memory} bytes{ident}, "
             f"RAM ends at byte {found['end']}, {tail_facts.line(found['tail'])}\n")
 
 
@@ -100,7 +116,7 @@ def listing(name, found, capture):
               for it, memory in found["memory"].items()]
     listed = {"file": name, "bytes": found["bytes"], "page_size": 4096, "blocks": blocks,
               "notes": [note_value(it) for it in found["notes"]], "end": found["end"],
-              "complete": True, "fault": None, **tail_facts.value(found["tail"])}
+              "complete": not lacking(name, found), "fault": None, **tail_facts.value(found["tail"])}
     if capture.channels:
         listed.update(rounds=found["rounds"], uuid=str(uuid.UUID(bytes=found["uuid"])))
     else:
@@ -135,14 +151,25 @@ class Run:
             raise Differs(f"{words[0]}: expected status {status}, came {done.returncode}: {error}")
         return done.stdout, done.stderr
 
+    def complains(self, command, found, error):
+        """What a command says of errors: the blocks that aren't in the stream, and why."""
+        wanted, lines = lacking(self.name, found), error.splitlines()
+        expect(f"{command}, error output", wanted, lines[:-1])
+        if lines and not ("INCOMPLETE" in lines[-1] and "`x-ignore-shared`" in lines[-1]):
+            raise Differs(f"{command}: expected the cause, came {lines[-1]!r}")
+
     def verify(self, found):
-        wanted = whole_line(self.name, found, self.capture), ""
-        expect("verify", wanted, self.ran("verify", self.name, *self.channels))
+        printed, error = self.ran("verify", self.name, *self.channels, status=self.status(found))
+        expect("verify", whole_line(self.name, found, self.capture), printed)
+        self.complains("verify", found, error)
         return f"ends at byte {found['end']}"
 
+    def status(self, found):
+        return 1 if lacking(self.name, found) else 0
+
     def inspect(self, found):
-        printed, error = self.ran("inspect", self.name, *self.channels, "--json")
-        expect("inspect, error output", "", error)
+        printed, error = self.ran("inspect", self.name, *self.channels, "--json", status=self.status(found))
+        self.complains("inspect", found, error)
         came = json.loads(printed)
         came["notes"] = without_lengths(came["notes"])
         libvirt, channels = came.pop("libvirt", None), came.pop("channels", [])
@@ -154,9 +181,14 @@ class Run:
         return f"{pages} pages, {zeros} zeros"
 
     def extract(self, found):
-        ident = ["--uuid", self.capture.uuid] if self.channels else []
-        wanted = whole_line(self.name, found, self.capture), ""
-        expect("extract", wanted, self.ran("extract", self.name, "out", *self.channels, *ident))
+        more = ["--uuid", self.capture.uuid] if self.channels else []
+        if lacking(self.name, found):
+            printed, error = self.ran("extract", self.name, "out", *self.channels, *more, status=1)
+            self.complains("extract", found, error)
+            expect("extract without --partial", ("", False), (printed, (self.room / "out").exists()))
+            more.append("--partial")
+        printed, _ = self.ran("extract", self.name, "out", *self.channels, *more)
+        expect("extract", whole_line(self.name, found, self.capture), printed)
         listed = json.loads((self.room / "out" / "blocks.json").read_text())["blocks"]
         digests = found["digests"]
         wanted = [(it, len(found["memory"][it])) for it in found["memory"]]

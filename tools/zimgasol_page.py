@@ -31,20 +31,26 @@ UUID = "00112233-4455-6677-8899-aabbccddeeff"
 # What may be the cause that pages have no record.
 CHANGES = ("it may be the changes since another stream, which `extract --since` applies; "
            "`--partial` takes it as it is")
-NOT_SENT = ("RAM isn't in the stream: a `cpr-transfer` migration and shared memory (`x-ignore-shared`) "
-            "keep it outside")
+NOT_SENT = "RAM isn't in the stream: a `cpr-transfer` migration keeps it outside"
 NOT_RECORDED = ("RAM isn't in the stream: its pages may have gone over multifd's channels "
-                "(`--channel` names each), or it is shared memory")
+                "(`--channel` names each)")
 NO_CONTENTS = ("all records are of pages of zeros: the other pages may have gone over multifd's channels "
                "(`--channel` names each)")
-NOT_SHARED = ("a block without any record may be shared memory (`x-ignore-shared`), or virtio-mem with nothing "
-              "plugged; `--partial` takes the stream as it is")
+SHARED = ("the save left out shared memory (`x-ignore-shared`): a block without any record is in its own file; "
+          "`--partial` takes the stream as it is")
+NONE_PLUGGED = ("a block without any record may be virtio-mem with nothing plugged; "
+                "`--partial` takes the stream as it is")
 NOT_PLUGGED = ("they may be unplugged memory of virtio-mem, free pages of virtio-balloon, or the stream the changes "
                "since another one; `--partial` takes it as it is")
 NOT_READ = "a device that saves its state before RAM's END, which isn't read"
 LIBVIRT_HEAD = "LibvirtQemudSave" + r"\x02\0\0\0\x05\0\0\0\x01\0\0\0\x01\0\0\0"
 ADVISE = r"\x08\0\x03\0\x10\0\0\0\0\0\x20\0\0\0\0\0\0\0\0\x10\0"
-HUGE = ("the size list has a block of huge pages after POSTCOPY_ADVISE: save with `postcopy-ram` off")
+CAPABILITIES = r"\x05\x1aconfiguration/capabilities\0\0\0\1\0\0\0\2\x03xyz\x0fx-ignore-shared"
+HUGE = r"\0\0\0\0\0\x20\0\0"
+ADDRESS = r"\0\0\0\1\0\0\0\0"
+# the total of the size list with a block "a" of 8,192 bytes, and its entry
+BOTH = r"\0\0\0\0\0\2\x20\4"
+SMALL = r"\1a\0\0\0\0\0\0\x20\0"
 WHOLE = "complete: sections 3, blocks 1, memory 131072 bytes, RAM ends at byte 86395, devices: whole, 1011 bytes"
 TAIL_CUT = "the stream ends early; the file was cut, or the save didn't come to its end"
 UNKNOWN = "no valid description follows, so it isn't known whether their state is complete"
@@ -265,12 +271,39 @@ CASES = [
         (f"(head -c 72 guest.sav; printf '" + r"\0\0\0\0\0\0" + f"{flags}') > record.sav", ([], 0)),
         ("zimgasol verify record.sav", (
             [f"record.sav: byte 72 (section 2, PART): fault 27: unexpected record flags: {shown}; {what}"], 1)))),
-    (f"(head -c 17 guest.sav; printf '{ADVISE}'; tail -c +18 guest.sav | head -c 37; " +
-     r"printf '\0\0\0\0\0\x20\0\0') > huge.sav", ([], 0)),
-    ("zimgasol verify huge.sav", ([f"huge.sav: byte 75 (section 1, START): fault 27: unexpected record flags: 0x0; {HUGE}"], 1)),
-    (f"(head -c 17 guest.sav; printf '{ADVISE}'; tail -c +18 guest.sav | head -c 17; " +
-     r"printf '\0\0\0\0\0\0\x20\4\1a\0\0\0\0\0\0\x10\0\0\0\0\0\0\x20\0\0\1') > huge.sav", ([], 0)),
-    ("zimgasol verify huge.sav", ([f"huge.sav: byte 73 (section 1, START): fault 21: bad block id; {HUGE}"], 1)),
+    # ---- size lists with 8 bytes more: START's own head ends at byte 34, the total at 42, the entry at 54
+    (f"(head -c 17 guest.sav; printf '{ADVISE}'; tail -c +18 guest.sav | head -c 37; printf '{HUGE}'; "
+     "tail -c +55 guest.sav) > huge.sav", ([], 0)),
+    ("zimgasol verify huge.sav", (["huge.sav: complete: sections 3, blocks 1, memory 131072 bytes, RAM ends at byte 86424, "
+                                   "devices: whole, 1011 bytes"], 0)),
+    ("zimgasol compare huge.sav guest.sav", (["huge.sav and guest.sav: the same: blocks 1, memory 131072 bytes"], 0)),
+    (f"(head -c 17 guest.sav; printf '{ADVISE}'; tail -c +18 guest.sav | head -c 17; printf '{BOTH}{SMALL}{HUGE}'; "
+     "tail -c +43 guest.sav) > huge.sav", ([], 0)),
+    ("zimgasol verify huge.sav", (
+        ["huge.sav: partial: sections 3, blocks 2, memory 139264 bytes, RAM ends at byte 86434, devices: whole, 1011 bytes",
+         'huge.sav: INCOMPLETE: 2 of 2 pages of block "a" have no record: it isn\'t in the stream',
+         f"huge.sav: INCOMPLETE: {NONE_PLUGGED}"], 1)),
+    (f"(head -c 17 guest.sav; printf '{ADVISE}'; tail -c +18 guest.sav | head -c 37; printf '{HUGE}{HUGE}') > huge.sav", ([], 0)),
+    ("zimgasol verify huge.sav", (
+        ["huge.sav: byte 83 (section 1, START): fault 27: unexpected record flags: 0x0; "
+         "the page size may be the other one (`--page`), or the save used mapped-ram"], 1)),
+    (f"(head -c 17 guest.sav; printf '{CAPABILITIES}'; tail -c +18 guest.sav | head -c 17; "
+     f"printf '{BOTH}{SMALL}{ADDRESS}'; tail -c +43 guest.sav | head -c 12; printf '{ADDRESS}'; tail -c +55 guest.sav) > shared.sav",
+     ([], 0)),
+    ("zimgasol verify shared.sav", (
+        ["shared.sav: partial: sections 3, blocks 2, memory 139264 bytes, RAM ends at byte 86477, devices: whole, 1011 bytes",
+         'shared.sav: INCOMPLETE: 2 of 2 pages of block "a" have no record: it isn\'t in the stream',
+         f"shared.sav: INCOMPLETE: {SHARED}"], 1)),
+    ("zimgasol extract shared.sav shared", (
+        ['shared.sav: INCOMPLETE: 2 of 2 pages of block "a" have no record: it isn\'t in the stream',
+         f"shared.sav: INCOMPLETE: {SHARED}"], 1)),
+    ("zimgasol verify shared.sav --partial --quiet", (
+        ['shared.sav: note: 2 of 2 pages of block "a" have no record: it isn\'t in the stream'], 0)),
+    # (a capability that isn't the last one, and is refused)
+    (r"(head -c 17 guest.sav; printf '\x05\x1aconfiguration/capabilities\0\0\0\1\0\0\0\2\x0amapped-ram\x03xyz'; "
+     "tail -c +18 guest.sav) > mapped.sav", ([], 0)),
+    ("zimgasol verify mapped.sav", (
+        ["mapped.sav: byte 53 (before section 1): fault 47: unsupported capability; save without mapped-ram"], 1)),
     # ---- channels
     ("zimgasol verify multi.sav", (
         ["multi.sav: byte 72 (section 2, PART): fault 32: FLUSH in a single stream; "
@@ -324,6 +357,27 @@ CASES = [
     ("zimgasol verify multi.sav --channel multi.sav.0 --channel cut.1", (
         ["cut.1: byte 1408 (round 2, complete packets 1): fault 53: the channel ends before the main stream; "
          "the files may be of different migrations"], 1)),
+    # ---- of several channels, size lists with 8 bytes more
+    (f"(head -c 17 multi.sav; printf '{CAPABILITIES}'; tail -c +18 multi.sav | head -c 17; "
+     f"printf '{BOTH}{SMALL}{ADDRESS}'; tail -c +43 multi.sav | head -c 12; printf '{ADDRESS}'; tail -c +55 multi.sav) > shared.main",
+     ([], 0)),
+    ("zimgasol verify shared.main --channel multi.sav.0 --channel multi.sav.1", (
+        ["shared.main: partial: rounds 2, channels 2, packets 5, blocks 2, memory 139264 bytes, "
+         "UUID 00000000-0000-0000-0000-000000000000, RAM ends at byte 219, devices: none, 1 bytes",
+         'shared.main: INCOMPLETE: 2 of 2 pages of block "a" have no record: it isn\'t in the stream',
+         f"shared.main: INCOMPLETE: {SHARED}"], 1)),
+    ("head -c 170 shared.main > cut.main", ([], 0)),
+    ("zimgasol verify cut.main --channel multi.sav.0 --channel multi.sav.1", (
+        [f"cut.main: byte 170 (round 2, section 2, PART): {CUT}"], 1)),
+    *((command, wanted) for more, at in ((HUGE, 117), ("", 109)) for command, wanted in (
+        (f"(head -c 17 multi.sav; printf '{ADVISE}'; tail -c +18 multi.sav | head -c 37; printf '{more}'; "
+         "tail -c +55 multi.sav | head -c 34) > cut.main", ([], 0)),
+        ("zimgasol verify cut.main --channel multi.sav.0 --channel multi.sav.1", (
+            [f"cut.main: byte {at} (round 2, section 2, PART): {CUT}"], 1)))),
+    (f"(head -c 17 multi.sav; printf '{ADVISE}'; tail -c +18 multi.sav | head -c 17; printf '{BOTH}{SMALL}{HUGE}'; "
+     "tail -c +43 multi.sav | head -c 46) > cut.main", ([], 0)),
+    ("zimgasol verify cut.main --channel multi.sav.0 --channel multi.sav.1", (
+        [f"cut.main: byte 127 (round 2, section 2, PART): {CUT}"], 1)),
     ("head -c 88 multi.sav > cut.main", None),
     ("zimgasol extract cut.main cut --channel multi.sav.0 --channel multi.sav.1", (
         [f"cut.main: byte 88 (round 2, section 2, PART): {CUT}"], 1)),
@@ -575,11 +629,13 @@ def lacking(found):
 def cause(found, is_ram):
     """What may be the cause that a stream without a fault has pages without a record."""
     pages, zeros = (sum(it[i] for it in found["counts"].values()) for i in (0, 1))
+    if found["form"] == stream_facts.ADDRESSED and any(not found["pages"][it] for it in found["memory"]):
+        return SHARED
     if is_ram:
         return CHANGES
     if not pages and "channels" not in found:
         return NO_CONTENTS if zeros else NOT_SENT if found["sections"] == 2 else NOT_RECORDED
-    return NOT_SHARED if any(not found["pages"].get(it) for it in found["memory"]) else NOT_PLUGGED
+    return NONE_PLUGGED if any(not found["pages"].get(it) for it in found["memory"]) else NOT_PLUGGED
 
 
 def ranges(pages):

@@ -1,5 +1,5 @@
-//! A limit on what may wait in a channel's round: which packet is at fault, and that a round after a
-//! SYNC packet has room again. Both readers of a channel report the same.
+//! A limit on what may wait in a channel's round: which packet is at fault, and that a round after
+//! a SYNC packet has room again. Both readers of a channel report the same.
 //!
 //! A round of the channel is a packet with one page of contents and one of zeros, which counts 3,
 //! and a SYNC packet without pages, which counts 1.

@@ -67,8 +67,8 @@ fn closed_in_pieces(out: &mut String, case: &Case, text: &[u8], len: usize) -> D
     put_place_closed(out, loader.closed_at())
 }
 
-// Feeds a piece to a loader, unless it has ended or the stream is too long. A piece that was refused
-// is fed again, and what waits for the guest's memory is settled.
+// Feeds a piece to a loader, unless it has ended or the stream is too long. A piece that was
+// refused is fed again, and what waits for the guest's memory is settled.
 fn feed_loader(loader: &mut SingleLoader, piece: &[u8]) -> Done {
     for _ in 0..2 {
         if loader.ended() || loader.fed() > MAX_TOTAL || piece.len() as u64 > MAX_TOTAL {

@@ -1,5 +1,5 @@
 -- Worked examples of the definitions: what a writer spells, and how items are judged.
-use Rattle.std.proofs.Common.{◌≡◌, flat_map, ℕ, ◌^◌, List, [], ◌∷◌, ◌++◌, replicate, Some, None, refl}
+use Rattle.std.proofs.Common.{◌≡◌, flat_map, ℕ, ◌^◌, false, true, List, [], ◌∷◌, ◌++◌, replicate, Some, None, refl}
 use Rattle.mig_mem.specs.Image.{Page}
 use Rattle.mig_mem.specs.RamTable.{RamTable, is_id}
 use Rattle.mig_stream.specs.declared.fault.StreamFault.TheVariants as fault
@@ -10,15 +10,16 @@ use Rattle.mig_stream.specs.declared.item.Section.TheVariants as section
 use Rattle.mig_stream.specs.declared.item.Before.TheVariants as before
 use Rattle.mig_stream.specs.declared.item.Filling.TheVariants.{Zero}
 use Rattle.mig_stream.specs.declared.item.Subsection.TheVariants as kinds
+use Rattle.mig_stream.specs.declared.item.EntryForm.TheVariants.{Addressed, Sized}
 use Rattle.mig_stream.specs.declared.item.PassedItem.TheVariants as pass
-use Rattle.mig_stream.specs.declared.item.Due.TheVariants.{TypeByte, RecordHead, ListEntry, BlockName, Content, Footer, Passed, Nothing}
+use Rattle.mig_stream.specs.declared.item.Due.TheVariants.{TypeByte, RecordHead, ListEntry, PageSize, BlockName, Content, Footer, Passed, Nothing}
 use Rattle.mig_stream.specs.Fields.{be32, be64, counted, be32_at, be64_at}
-use Rattle.mig_stream.specs.Format.{subsection_name, layout_capabilities}
+use Rattle.mig_stream.specs.Format.{subsection_name, ignore_shared, mapped_ram}
 use Rattle.mig_stream.specs.Progress.{StreamProgress, start}
 use Rattle.mig_stream.specs.Items.{first_fault}
 use Rattle.mig_stream.specs.Reading.{settings, in_frame, after_all, Front}
 use Rattle.mig_stream.specs.Text.{file_header, size_list, start_head, body, footer, section as spelled_section}
-use Rattle.mig_stream.specs.Machine.{Command, command_bytes, command, Uuid, configured, subsection_head, subsection, CommandOf, part_or_command}
+use Rattle.mig_stream.specs.Machine.{Command, command_bytes, command, Uuid, Capabilities, form_of, tailed_list, configured, subsection_head, subsection, CommandOf, part_or_command}
 use Rattle.mig_stream.specs.Reader.{IsClosedAt}
 use Rattle.mig_stream.proofs.Closing.{closed_by}
 use Rattle.mig_stream.specs.Written.{RoundPart, FlushPart, written, written_parts, opening, closing}
@@ -211,10 +212,126 @@ late_subsection = refl
 early_device : first_fault (record (machine Single) { due = TypeByte before.Configuration }) (0x04 ∷ []) ≡ Some fault.SectionType
 early_device = refl
 
--- A capability with which RAM's section has another layout is refused.
-ignore_shared : first_fault (record (machine Single) { due = Passed (pass.Capability 0) }) (counted (0x78 ∷ 0x2D ∷ 0x69 ∷ 0x67 ∷ 0x6E ∷ 0x6F ∷ 0x72 ∷ 0x65 ∷ 0x2D ∷ 0x73 ∷ 0x68 ∷ 0x61 ∷ 0x72 ∷ 0x65 ∷ 0x64 ∷ [])) ≡ Some fault.Capability
-unfolding layout_capabilities
-ignore_shared = refl
+-- ---- what follows the entries of a machine's size list
+
+-- "mapped-ram" is refused.
+mapped_refused : first_fault (record (machine Single) { due = Passed (pass.Capability 0) }) (counted (0x6D ∷ 0x61 ∷ 0x70 ∷ 0x70 ∷ 0x65 ∷ 0x64 ∷ 0x2D ∷ 0x72 ∷ 0x61 ∷ 0x6D ∷ [])) ≡ Some fault.Capability
+unfolding mapped_ram
+mapped_refused = refl
+
+-- "x-ignore-shared" is passed over, and says that guest addresses follow.
+shared_passed : after_all (record (machine Single) { due = Passed (pass.Capability 0) }) (counted (0x78 ∷ 0x2D ∷ 0x69 ∷ 0x67 ∷ 0x6E ∷ 0x6F ∷ 0x72 ∷ 0x65 ∷ 0x2D ∷ 0x73 ∷ 0x68 ∷ 0x61 ∷ 0x72 ∷ 0x65 ∷ 0x64 ∷ []) ∷ []) ≡
+    record (machine Single) { due = TypeByte before.Configuration; form = Addressed }
+unfolding ignore_shared
+shared_passed = refl
+
+shared_form : form_of (Some (record { name = []; subsections = Capabilities (ignore_shared ∷ []) ∷ [] })) [] ≡ Addressed
+unfolding ignore_shared
+shared_form = refl
+
+-- a POSTCOPY_ADVISE, of these page sizes of blocks and of the guest
+abbrev advise : List ℕ → Command
+advise carried = record { number = 3; carried = carried }
+
+abbrev page_sizes : List ℕ
+page_sizes = be64 0x201000 ++ be64 0x1000
+
+-- With postcopy of RAM it says that page sizes may follow; for dirty bitmaps alone it says nothing.
+advise_form : form_of None (advise page_sizes ∷ []) ≡ Sized
+advise_form = refl
+
+bitmaps_form : form_of None (advise [] ∷ []) ≡ form_of None []
+bitmaps_form = refl
+
+-- Beside "x-ignore-shared" it is refused.
+advise_refused : first_fault (record (machine Single) { due = Passed (pass.Command before.Command); form = Addressed }) (command_bytes (advise page_sizes)) ≡ Some fault.Command
+advise_refused = refl
+
+-- two blocks `a` and `b`, of a page and of two pages
+abbrev two_blocks : RamTable
+two_blocks = record { page_size = 4096; blocks = record { id = 0x61 ∷ []; pages = 1 } ∷ record { id = 0x62 ∷ []; pages = 2 } ∷ [] }
+
+-- the head of their size list is due, in an open stream of this form
+abbrev list_begins : StreamProgress → StreamProgress
+list_begins c = record c { due = RecordHead; section_id = 1 }
+
+-- and after it, and all that belongs to it
+abbrev list_ends : StreamProgress → StreamProgress
+list_ends c = record c { section_id = 1; left = Some 0; blocks = two_blocks.blocks }
+
+-- Their size list with guest addresses, 0 and 0xFFFC0000: it has 8 bytes more for each.
+abbrev addresses : List (List ℕ)
+addresses = be64 0 ∷ be64 0xFFFC0000 ∷ []
+
+addressed_spelled : tailed_list two_blocks addresses ≡
+    (0 ∷ 0 ∷ 0 ∷ 0 ∷ 0 ∷ 0 ∷ 0x30 ∷ 4 ∷ []) ++ (1 ∷ 0x61 ∷ 0 ∷ 0 ∷ 0 ∷ 0 ∷ 0 ∷ 0 ∷ 0x10 ∷ 0 ∷ []) ++ (0 ∷ 0 ∷ 0 ∷ 0 ∷ 0 ∷ 0 ∷ 0 ∷ 0 ∷ [])
+    ++ (1 ∷ 0x62 ∷ 0 ∷ 0 ∷ 0 ∷ 0 ∷ 0 ∷ 0 ∷ 0x20 ∷ 0 ∷ []) ++ (0 ∷ 0 ∷ 0 ∷ 0 ∷ 0xFF ∷ 0xFC ∷ 0 ∷ 0 ∷ [])
+unfolding tailed_list
+addressed_spelled = refl
+
+addressed_read : Front (list_begins (record (machine Single) { form = Addressed })) (tailed_list two_blocks addresses) (record (list_ends (record (machine Single) { form = Addressed })) { due = RecordHead })
+unfolding tailed_list be64_at is_id
+addressed_read = record {
+  items = be64 0x3004 ∷ (counted (0x61 ∷ []) ++ be64 0x1000) ∷ be64 0 ∷ (counted (0x62 ∷ []) ++ be64 0x2000) ∷ be64 0xFFFC0000 ∷ [];
+  has_bytes = refl;
+  are_faultless = (
+    record { is_due = λ e. absurd cc; is_whole = refl },
+    refl,
+    (
+      record { is_due = λ e. absurd cc; is_whole = refl },
+      refl,
+      (
+        record { is_due = λ e. absurd cc; is_whole = refl },
+        refl,
+        (record { is_due = λ e. absurd cc; is_whole = refl }, refl, (record { is_due = λ e. absurd cc; is_whole = refl }, refl, tt)),
+      ),
+    ),
+  );
+  leads_to = refl;
+}
+
+-- Of the blocks only the second has its page size behind it, of 2 MiB. Behind the first the next
+-- entry is, and behind the second a record may follow.
+abbrev sizes : List (List ℕ)
+sizes = [] ∷ be64 0x200000 ∷ []
+
+sized_read : Front (list_begins (record (machine Single) { form = Sized })) (tailed_list two_blocks sizes) (record (list_ends (record (machine Single) { form = Sized })) { due = RecordHead })
+unfolding tailed_list be64_at is_id
+sized_read = record {
+  items = be64 0x3004 ∷ (counted (0x61 ∷ []) ++ be64 0x1000) ∷ (counted (0x62 ∷ []) ++ be64 0x2000) ∷ be64 0x200000 ∷ [];
+  has_bytes = refl;
+  are_faultless = (
+    record { is_due = λ e. absurd cc; is_whole = refl },
+    refl,
+    (
+      record { is_due = λ e. absurd cc; is_whole = refl },
+      refl,
+      (
+        record { is_due = λ e. absurd cc; is_whole = refl },
+        refl,
+        (record { is_due = λ e. absurd cc; is_whole = refl }, refl, tt),
+      ),
+    ),
+  );
+  leads_to = refl;
+}
+
+-- Where the last page size isn't, the EOS of START is read.
+unsized_eos : after_all (record (list_ends (record (machine Single) { form = Sized })) { due = PageSize true }) (be64 0x10 ∷ []) ≡ record (list_ends (record (machine Single) { form = Sized })) { due = Footer }
+unfolding be64_at
+unsized_eos = refl
+
+-- A page size that is no multiple of 4,096 is taken for an entry, whose id has no bytes, or for a
+-- record.
+odd_size : first_fault (record (machine Single) { due = PageSize false; left = Some 4096; form = Sized }) (be64 0x1001) ≡ Some fault.Id
+unfolding be64_at is_id
+odd_size = refl
+
+no_size : first_fault (record (list_ends (record (machine Single) { form = Sized })) { due = PageSize true }) (be64 0) ≡ Some (fault.Flags 0)
+unfolding be64_at
+no_size = refl
+
+-- ---- page bits and COMMANDs
 
 -- Page bits of another page size are refused, and those of 4,096 bytes are passed over.
 other_page_bits : first_fault (record (machine Single) { due = Passed (pass.SubsectionBody kinds.PageBits) }) (be32 13) ≡ Some fault.PageBits

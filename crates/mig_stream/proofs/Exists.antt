@@ -1,5 +1,5 @@
 -- Each stream has a reading, and it has no other.
-use Rattle.std.proofs.Common.{◌≡◌, ◌≢◌, ◌⊎◌, ℕ, zero, suc, ◌+◌, ◌*◌, ◌<◌, ◌≤◌, List, [], ◌++◌, length, take, drop, Option, Some, None, refl, sym, ap, ◌∙◌, inl, inr, append_assoc, eqb, arith}
+use Rattle.std.proofs.Common.{◌≡◌, ◌≢◌, ◌⊎◌, ℕ, zero, suc, ◌+◌, ◌*◌, ◌<◌, ◌≤◌, true, false, List, [], ◌++◌, length, get_or, take, drop, Option, Some, None, refl, sym, ap, ◌∙◌, inl, inr, append_assoc, eqb, arith}
 use Rattle.std.specs.Prelude.{slice_index}
 use Rattle.std.proofs.lemmas.Bool.{cond_both, cases_lt}
 use Rattle.std.proofs.lemmas.List.{take-append-drop, length-append}
@@ -10,19 +10,19 @@ use Rattle.mig_stream.specs.declared.item.RecordKind.{RecordKind}
 use Rattle.mig_stream.specs.declared.item.RecordKind.TheVariants.{SizeList, Named, Continued, EndOfSection, Flush}
 use Rattle.mig_stream.specs.declared.item.Before.{Before}
 use Rattle.mig_stream.specs.declared.item.PassedItem.{PassedItem}
-use Rattle.mig_stream.specs.declared.item.PassedItem.TheVariants.{Command, SubsectionHead, SubsectionBody, Capability}
+use Rattle.mig_stream.specs.declared.item.PassedItem.TheVariants.{Command, SubsectionHead, SubsectionBody, Capability, Address}
 use Rattle.mig_stream.specs.declared.item.Subsection.TheVariants.{PageBits, Uuid, Capabilities}
 use Rattle.mig_stream.specs.declared.item.Due.{Due}
-use Rattle.mig_stream.specs.declared.item.Due.TheVariants.{FileHeader, TypeByte, ConfigLength, ConfigName, StartHead, SectionHead, RecordHead, ListEntry, BlockName, Content, Footer, Passed, Nothing}
+use Rattle.mig_stream.specs.declared.item.Due.TheVariants.{FileHeader, TypeByte, ConfigLength, ConfigName, StartHead, SectionHead, RecordHead, ListEntry, PageSize, BlockName, Content, Footer, Passed, Nothing}
 use Rattle.mig_stream.specs.declared.item.StreamState.{StreamState}
 use Rattle.mig_stream.specs.declared.item.StreamState.TheVariants.{Reading, Closed, Bad}
 use Rattle.mig_stream.specs.declared.fault.StreamFault.{StreamFault}
 use Rattle.mig_stream.specs.PageRecord.{PageRecord}
 use Rattle.mig_stream.specs.Progress.{StreamProgress, start, whole_table}
-use Rattle.mig_stream.specs.Items.{passed_size, is_passed, behind_passed, end_section, after_type_byte, size, first_fault, after_type, after_head, after_item, after}
+use Rattle.mig_stream.specs.Items.{passed_size, is_passed, is_page_size, behind_passed, end_section, after_type_byte, size, first_fault, after_type, after_head, after_item, after}
 use Rattle.mig_stream.specs.Reading.{IsItem, Front, Reads, StreamReading}
 use Rattle.mig_stream.specs.Law.{HasOneReading}
-use Rattle.mig_stream.proofs.Fronts.{Front-none, Front-push, work, no_item, item_at}
+use Rattle.mig_stream.proofs.Fronts.{sized, sized_some, Front-none, Front-push, work, no_item, item_at}
 use Rattle.mig_stream.proofs.Unique.{one_reading}
 
 -- ---- an item leaves the page size as it was
@@ -57,6 +57,8 @@ item_size c StartHead item = refl
 item_size c SectionHead item = refl
 item_size c RecordHead item = head_size c _ _
 item_size c ListEntry item = refl
+item_size c (PageSize true) item = cond_both (is_page_size item) _ _ (λ (x : StreamProgress). x.page_size ≡ c.page_size) (λ _. refl) (λ _. head_size c _ _)
+item_size c (PageSize false) item = cond_both (is_page_size item) _ _ (λ (x : StreamProgress). x.page_size ≡ c.page_size) (λ _. refl) (λ _. refl)
 item_size c (BlockName filling page) item = refl
 item_size c (Content Zero place) item = refl
 item_size c (Content Normal place) item = refl
@@ -76,6 +78,7 @@ work_small StartHead = omega arith
 work_small SectionHead = omega arith
 work_small RecordHead = omega arith
 work_small ListEntry = omega arith
+work_small (PageSize last) = omega arith
 work_small (BlockName filling page) = omega arith
 work_small (Content filling place) = omega arith
 work_small Footer = omega arith
@@ -90,6 +93,7 @@ passed_some (SubsectionBody PageBits) item = omega arith
 passed_some (SubsectionBody Uuid) item = omega arith
 passed_some (SubsectionBody Capabilities) item = omega arith
 passed_some (Capability others) item = omega arith
+passed_some (Address last) item = omega arith
 
 -- an item is not empty, or it is a name, after which no name comes
 pub work_falls : (c : StreamProgress) (d : Due) (item : List ℕ) → 0 < c.page_size → d ≢ Nothing → length item ≡ size c.page_size d item → work (after_item c d item).due < 2 * length item + work d
@@ -101,6 +105,12 @@ work_falls c StartHead item some open_ whole = omega arith
 work_falls c SectionHead item some open_ whole = omega arith
 work_falls c RecordHead item some open_ whole = omega (arith, work_small (after_item c RecordHead item).due)
 work_falls c ListEntry item some open_ whole = omega (arith, work_small (after_item c ListEntry item).due)
+work_falls c (PageSize true) item some open_ whole = omega (arith, work_small (after_item c (PageSize true) item).due)
+work_falls c (PageSize false) item some open_ whole =
+    let n : ℕ = get_or item 0 0 in
+    let len : length item ≡ sized n = whole in
+    let long : 8 ≤ sized n = sized_some n in
+    omega (arith, len, long, work_small (after_item c (PageSize false) item).due)
 work_falls c (BlockName filling page) item some open_ whole = omega arith
 work_falls c (Content Zero place) item some open_ whole = omega arith
 work_falls c (Content Normal place) item some open_ whole = omega arith
@@ -118,6 +128,7 @@ is_nothing StartHead = inr (λ e. absurd cc)
 is_nothing SectionHead = inr (λ e. absurd cc)
 is_nothing RecordHead = inr (λ e. absurd cc)
 is_nothing ListEntry = inr (λ e. absurd cc)
+is_nothing (PageSize last) = inr (λ e. absurd cc)
 is_nothing (BlockName filling page) = inr (λ e. absurd cc)
 is_nothing (Content filling place) = inr (λ e. absurd cc)
 is_nothing Footer = inr (λ e. absurd cc)

@@ -1,14 +1,14 @@
 -- Reading a piece after the bytes of an item that wasn't complete.
-use Rattle.std.proofs.Common.{◌≡◌, ◌≢◌, ℕ, ◌+◌, ◌<◌, ◌≤◌, List, [], ◌++◌, length, get_or, take, drop, Option, Some, None, refl, sym, ap, subst, ◌∙◌, append_assoc, inl, inr, arith}
+use Rattle.std.proofs.Common.{◌≡◌, ◌≢◌, ℕ, ◌+◌, ◌<◌, ◌≤◌, true, false, eqb, List, [], ◌++◌, length, get_or, take, drop, Option, Some, None, refl, sym, ap, subst, ◌∙◌, append_assoc, inl, inr, arith}
 use Rattle.std.specs.Prelude.{IfSome, IfNone}
 use Rattle.std.proofs.lemmas.List.{length-append, take-append-drop, get_or_append_left, get_or_past}
-use Rattle.std.proofs.lemmas.Bool.{cases_lt}
+use Rattle.std.proofs.lemmas.Bool.{cases_lt, cond_both, eqb-true, eqb-false}
 use Rattle.mig_stream.specs.declared.item.Filling.TheVariants.{Zero, Normal}
 use Rattle.mig_stream.specs.declared.item.PassedItem.{PassedItem}
-use Rattle.mig_stream.specs.declared.item.PassedItem.TheVariants.{Command, SubsectionHead, SubsectionBody, Capability}
+use Rattle.mig_stream.specs.declared.item.PassedItem.TheVariants.{Command, SubsectionHead, SubsectionBody, Capability, Address}
 use Rattle.mig_stream.specs.declared.item.Subsection.TheVariants.{PageBits, Uuid, Capabilities}
 use Rattle.mig_stream.specs.declared.item.Due.{Due}
-use Rattle.mig_stream.specs.declared.item.Due.TheVariants.{FileHeader, TypeByte, ConfigLength, ConfigName, StartHead, SectionHead, RecordHead, ListEntry, BlockName, Content, Footer, Passed, Nothing}
+use Rattle.mig_stream.specs.declared.item.Due.TheVariants.{FileHeader, TypeByte, ConfigLength, ConfigName, StartHead, SectionHead, RecordHead, ListEntry, PageSize, BlockName, Content, Footer, Passed, Nothing}
 use Rattle.mig_stream.specs.declared.item.StreamState.{StreamState}
 use Rattle.mig_stream.specs.declared.item.StreamState.TheVariants.{Reading, Bad}
 use Rattle.mig_stream.specs.declared.fault.StreamFault.{StreamFault}
@@ -17,7 +17,7 @@ use Rattle.mig_stream.specs.Items.{passed_size, size, first_fault, after}
 use Rattle.mig_stream.specs.Reading.{IsItem, Front, Reads}
 use Rattle.mig_stream.specs.Taking.{HasTaken}
 use Rattle.mig_stream.specs.Reader.{IsUnfinished, ReadsOn}
-use Rattle.mig_stream.proofs.Fronts.{item_at, no_item, Front-none, Front-push, Front-append}
+use Rattle.mig_stream.proofs.Fronts.{sized, sized_some, item_at, no_item, Front-none, Front-push, Front-append}
 
 -- ---- an item that isn't complete
 
@@ -47,6 +47,12 @@ passed_grows (SubsectionBody PageBits) bytes more = omega arith
 passed_grows (SubsectionBody Uuid) bytes more = omega arith
 passed_grows (SubsectionBody Capabilities) bytes more = omega arith
 passed_grows (Capability others) bytes more = omega (arith, byte_grows bytes more 0)
+passed_grows (Address last) bytes more = omega arith
+
+sized_grows : (m n : ℕ) → m ≤ n → sized m ≤ sized n
+sized_grows m n le =
+    cond_both (eqb m 0) 8 (9 + m) (λ (x : ℕ). x ≤ sized n) (λ _. sized_some n) (λ some.
+    cond_both (eqb n 0) 8 (9 + n) (λ (x : ℕ). 9 + m ≤ x) (λ none. let zero_n : n ≡ 0 = eqb-true n 0 none in absurd (eqb-false m 0 some (omega (arith, le, zero_n)))) (λ _. omega (arith, le)))
 
 -- more bytes may show that an item is longer, and never that it is shorter
 pub size_grows : (p : ℕ) (d : Due) (bytes more : List ℕ) → size p d bytes ≤ size p d (bytes ++ more)
@@ -58,6 +64,8 @@ size_grows p StartHead bytes more = omega (arith, byte_grows bytes more 4)
 size_grows p SectionHead bytes more = omega arith
 size_grows p RecordHead bytes more = omega arith
 size_grows p ListEntry bytes more = omega (arith, byte_grows bytes more 0)
+size_grows p (PageSize true) bytes more = omega arith
+size_grows p (PageSize false) bytes more = sized_grows (get_or bytes 0 0) (get_or (bytes ++ more) 0 0) (byte_grows bytes more 0)
 size_grows p (BlockName f page) bytes more = omega (arith, byte_grows bytes more 0)
 size_grows p (Content Zero place) bytes more = omega arith
 size_grows p (Content Normal place) bytes more = omega arith

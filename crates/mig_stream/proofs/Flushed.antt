@@ -1,5 +1,5 @@
 -- A main stream whose EOS ends a round too is read as the same stream with a FLUSH before each EOS.
-use Rattle.std.proofs.Common.{◌≡◌, ℕ, cond, ◌+◌, ◌*◌, ◌/◌, ◌%◌, Bool, true, false, not, ◌&&◌, ◌||◌, ◌==◌, List, [], ◌∷◌, ◌++◌, length, Option, Some, None, refl, sym, ap, subst, ◌∙◌, arith}
+use Rattle.std.proofs.Common.{◌≡◌, ◌⊎◌, inl, inr, ℕ, cond, ◌+◌, ◌*◌, ◌/◌, ◌%◌, Bool, true, false, not, ◌&&◌, ◌||◌, ◌==◌, List, [], ◌∷◌, ◌++◌, length, Option, Some, None, refl, sym, ap, subst, ◌∙◌, arith}
 use Rattle.std.specs.Prelude.{slice_index, is_none}
 use Rattle.std.specs.List.{concat}
 use Rattle.std.proofs.lemmas.List.{length-append}
@@ -9,24 +9,26 @@ use Rattle.mig_stream.specs.declared.item.Mode.{Mode}
 use Rattle.mig_stream.specs.declared.item.Mode.TheVariants.{Main, MainBySection}
 use Rattle.mig_stream.specs.declared.item.Filling.TheVariants.{Zero, Normal}
 use Rattle.mig_stream.specs.declared.item.Due.{Due}
-use Rattle.mig_stream.specs.declared.item.Due.TheVariants.{FileHeader, TypeByte, ConfigLength, ConfigName, StartHead, SectionHead, RecordHead, ListEntry, BlockName, Content, Footer, Passed, Nothing}
+use Rattle.mig_stream.specs.declared.item.Due.TheVariants.{FileHeader, TypeByte, ConfigLength, ConfigName, StartHead, SectionHead, RecordHead, ListEntry, PageSize, BlockName, Content, Footer, Passed, Nothing}
 use Rattle.mig_stream.specs.declared.item.RecordKind.{RecordKind}
 use Rattle.mig_stream.specs.declared.item.RecordKind.TheVariants.{SizeList, Named, Continued, EndOfSection, Flush}
 use Rattle.mig_stream.specs.declared.item.StreamState.{StreamState}
 use Rattle.mig_stream.specs.declared.item.StreamState.TheVariants.{Reading, Closed, Bad}
 use Rattle.mig_stream.specs.declared.item.Before.{Before}
+use Rattle.mig_stream.specs.declared.fault.StreamFault.{StreamFault}
 use Rattle.mig_stream.specs.declared.fault.StreamFault.TheVariants as fault
 use Rattle.mig_stream.specs.Fields.{be64, be64_at, be32_at}
 use Rattle.mig_stream.specs.Format.{end_byte, footer_type, flags_of}
 use Rattle.mig_stream.specs.Progress.{StreamProgress}
-use Rattle.mig_stream.specs.Items.{size, record_kind, is_single, has_tail, is_allowed, is_passed, closes, passed_by, after_type_byte, kind_faults, head_faults, faults, first_fault, after_type, after_head, end_round, open_room, open_records, whole_rounds, end_section, behind_footer, after_item, after, eos_room, eos_records, eos_rounds, end_records, is_start, has_none, flush_ends, flush_rounds, flush_records}
+use Rattle.mig_stream.specs.Items.{size, is_page_size, record_kind, is_single, has_tail, is_allowed, is_passed, closes, passed_by, after_type_byte, kind_faults, head_faults, record_faults, faults, first_fault, after_type, after_head, after_record, after_entry, end_round, open_room, open_records, whole_rounds, end_section, behind_footer, after_item, after, eos_room, eos_records, eos_rounds, end_records, is_start, has_none, flush_ends, flush_rounds, flush_records}
 use Rattle.mig_stream.specs.Later.{is_open}
 use Rattle.mig_stream.specs.Reading.{IsItem, AreFaultless, after_all, Front, Ends, Reads}
 use Rattle.mig_stream.specs.Flushed.{is_eos_kind, is_eos, flush_before, flushed, one_if, eos_count, from, SectionsAreFlushed}
 use Rattle.mig_stream.proofs.Fronts.{Front-none, Front-append}
 use Rattle.mig_stream.proofs.Feeding.{front_item}
 use Rattle.mig_stream.proofs.SpelledItems.{bare_front}
-use Rattle.mig_stream.proofs.Steps.{IsLater-front, passed}
+use Rattle.mig_stream.proofs.Steps.{IsLater-front, passed, not_size}
+use Rattle.mig_stream.proofs.NoPageSize.{unsized_record}
 
 -- the same point of a reading by FLUSH alone
 abbrev to_flush : StreamProgress → StreamProgress
@@ -59,6 +61,8 @@ faults_same c StartHead item e = refl
 faults_same c SectionHead item e = refl
 faults_same c RecordHead item e = head_faults_same c _ _ _ e
 faults_same c ListEntry item e = refl
+faults_same c (PageSize true) item e = ap (λ (t : List (Bool × StreamFault)). cond (is_page_size item) [] t) (head_faults_same c _ _ _ e)
+faults_same c (PageSize false) item e = refl
 faults_same c (BlockName f page) item e = refl
 faults_same c (Content Zero place) item e = refl
 faults_same c (Content Normal place) item e = refl
@@ -94,7 +98,7 @@ end_section_same c e =
 
 flush_records_same : (c : StreamProgress) → c.mode ≡ MainBySection → flush_records (to_flush c) ≡ to_flush (flush_records c)
 flush_records_same c e =
-    ap (λ (m : Mode). record c { mode = Main; room = c.waiting; records = []; rounds = flush_rounds (flush_ends m (is_start c.section) (has_none c.records)) c.rounds c.records }) (sym e)
+    ap (λ (m : Mode). record c { mode = Main; due = RecordHead; room = c.waiting; records = []; rounds = flush_rounds (flush_ends m (is_start c.section) (has_none c.records)) c.rounds c.records }) (sym e)
 
 after_head_same : (c : StreamProgress) (k : Option RecordKind) (page : ℕ) → c.mode ≡ MainBySection → is_eos_kind k ≡ false → after_head (to_flush c) k page ≡ to_flush (after_head c k page)
 after_head_same c None page e other = refl
@@ -103,6 +107,12 @@ after_head_same c (Some (Named f)) page e other = refl
 after_head_same c (Some (Continued f)) page e other = refl
 after_head_same c (Some EndOfSection) page e other = absurd cc
 after_head_same c (Some Flush) page e other = flush_records_same c e
+
+-- where the page size of a block may be
+sized_same : (c : StreamProgress) (item : List ℕ) (b : Bool) → c.mode ≡ MainBySection → (not b && is_eos_kind (record_kind (be64_at 0 item % c.page_size))) ≡ false
+    → cond b (record (to_flush c) { due = RecordHead }) (after_record (to_flush c) item) ≡ to_flush (cond b (record c { due = RecordHead }) (after_record c item))
+sized_same c item true e other = refl
+sized_same c item false e other = after_head_same c (record_kind (be64_at 0 item % c.page_size)) (be64_at 0 item / c.page_size) e other
 
 after_item_same : (c : StreamProgress) (d : Due) (item : List ℕ) → c.mode ≡ MainBySection → is_eos c.page_size d item ≡ false → after_item (to_flush c) d item ≡ to_flush (after_item c d item)
 after_item_same c FileHeader item e other = refl
@@ -113,6 +123,8 @@ after_item_same c StartHead item e other = refl
 after_item_same c SectionHead item e other = refl
 after_item_same c RecordHead item e other = after_head_same c (record_kind (be64_at 0 item % c.page_size)) (be64_at 0 item / c.page_size) e other
 after_item_same c ListEntry item e other = refl
+after_item_same c (PageSize true) item e other = sized_same c item (is_page_size item) e other
+after_item_same c (PageSize false) item e other = sym (choice to_flush (is_page_size item) (record c { due = ListEntry }) (after_entry c item))
 after_item_same c (BlockName f page) item e other = refl
 after_item_same c (Content Zero place) item e other = refl
 after_item_same c (Content Normal place) item e other = refl
@@ -122,8 +134,10 @@ after_item_same c Nothing item e other = refl
 
 -- ---- an EOS leads there after a FLUSH
 
-eos_due : (p : ℕ) (d : Due) (item : List ℕ) → is_eos p d item ≡ true → d ≡ RecordHead
-eos_due p RecordHead item e = refl
+eos_due : (p : ℕ) (d : Due) (item : List ℕ) → is_eos p d item ≡ true → (d ≡ RecordHead) ⊎ (d ≡ PageSize true)
+eos_due p RecordHead item e = inl refl
+eos_due p (PageSize true) item e = inr refl
+eos_due p (PageSize false) item e = absurd cc
 eos_due p FileHeader item e = absurd cc
 eos_due p (TypeByte before) item e = absurd cc
 eos_due p ConfigLength item e = absurd cc
@@ -164,13 +178,9 @@ eos_front c item e paged is kind free =
 
 -- ---- items one after another
 
-step : (c : StreamProgress) (item : List ℕ) (b : Bool) → is_eos c.page_size c.due item ≡ b → c.mode ≡ MainBySection → IsPageSize c.page_size → IsItem c.page_size c.due item → first_fault c item ≡ None
-    → Front (to_flush c) (flush_before b ++ item) (to_flush (after c item))
-step c item false other e paged is free =
-    let f : Front (to_flush c) item (after (to_flush c) item) = front_item (to_flush c) item (record { is_due = is.is_due; is_whole = is.is_whole }) (ap first_of (faults_same c c.due item e) ∙ free) in
-    subst (λ (x : StreamProgress). Front (to_flush c) item x) (after_item_same c c.due item e other) f
-step c item true here e paged is free =
-    let due : c.due ≡ RecordHead = eos_due c.page_size c.due item here in
+step_record : (c : StreamProgress) (item : List ℕ) → c.due ≡ RecordHead → is_eos c.page_size c.due item ≡ true → c.mode ≡ MainBySection → IsPageSize c.page_size → IsItem c.page_size c.due item → first_fault c item ≡ None
+    → Front (to_flush c) (flush_before true ++ item) (to_flush (after c item))
+step_record c item due here e paged is free =
     let kind : record_kind (be64_at 0 item % c.page_size) ≡ Some EndOfSection = eos_kind (record_kind (be64_at 0 item % c.page_size)) (subst (λ (d : Due). is_eos c.page_size d item ≡ true) due here) in
     let is_head : IsItem c.page_size RecordHead item = record { is_due = λ x. absurd cc; is_whole = is.is_whole ∙ ap (λ (d : Due). size c.page_size d item) due } in
     let free_head : first_of (faults c RecordHead item) ≡ None = ap (λ (d : Due). first_of (faults c d item)) (sym due) ∙ free in
@@ -179,6 +189,37 @@ step c item true here e paged is free =
     ap (λ (d : Due). to_flush (after_item c d item)) due ∙ ap (λ (k : Option RecordKind). to_flush (after_head c k (be64_at 0 item / c.page_size))) kind in
     subst (λ (x : StreamProgress). Front (to_flush c) (be64 (flags_of Flush) ++ item) x) (sym there)
     (subst (λ (d : Due). Front (record (to_flush c) { due = d }) (be64 (flags_of Flush) ++ item) (to_flush (end_records c))) (sym due) f)
+
+-- no page size is there
+sized_eos : (b x : Bool) → (not b && x) ≡ true → (b ≡ false) × (x ≡ true)
+sized_eos true x e = absurd cc
+sized_eos false x e = (refl, e)
+
+step_sized : (c : StreamProgress) (item : List ℕ) → c.due ≡ PageSize true → is_eos c.page_size c.due item ≡ true → c.mode ≡ MainBySection → IsPageSize c.page_size → IsItem c.page_size c.due item → first_fault c item ≡ None
+    → Front (to_flush c) (flush_before true ++ item) (to_flush (after c item))
+step_sized c item due here e paged is free =
+    let bytes : List ℕ = be64 (flags_of Flush) ++ item in
+    let to : StreamProgress = to_flush (end_records c) in
+    let both = sized_eos (is_page_size item) (is_eos_kind (record_kind (be64_at 0 item % c.page_size))) (subst (λ (d : Due). is_eos c.page_size d item ≡ true) due here) in
+    let kind : record_kind (be64_at 0 item % c.page_size) ≡ Some EndOfSection = eos_kind (record_kind (be64_at 0 item % c.page_size)) both.1 in
+    let is_head : IsItem c.page_size RecordHead item = record { is_due = λ x. absurd cc; is_whole = is.is_whole ∙ ap (λ (d : Due). size c.page_size d item) due } in
+    let free_head : first_of (faults c RecordHead item) ≡ None = not_size (is_page_size item) (record_faults c item) both.0 (ap (λ (d : Due). first_of (faults c d item)) (sym due) ∙ free) in
+    let f : Front (record (to_flush c) { due = PageSize true }) bytes to = unsized_record (to_flush c) to bytes paged (λ x. absurd cc) (eos_front c item e paged is_head kind free_head) in
+    let there : to_flush (after c item) ≡ to =
+    ap (λ (d : Due). to_flush (after_item c d item)) due ∙ ap (λ (b : Bool). to_flush (cond b (record c { due = RecordHead }) (after_record c item))) both.0
+    ∙ ap (λ (k : Option RecordKind). to_flush (after_head c k (be64_at 0 item / c.page_size))) kind in
+    subst (λ (x : StreamProgress). Front (to_flush c) bytes x) (sym there) (subst (λ (d : Due). Front (record (to_flush c) { due = d }) bytes to) (sym due) f)
+
+step : (c : StreamProgress) (item : List ℕ) (b : Bool) → is_eos c.page_size c.due item ≡ b → c.mode ≡ MainBySection → IsPageSize c.page_size → IsItem c.page_size c.due item → first_fault c item ≡ None
+    → Front (to_flush c) (flush_before b ++ item) (to_flush (after c item))
+step c item false other e paged is free =
+    let f : Front (to_flush c) item (after (to_flush c) item) = front_item (to_flush c) item (record { is_due = is.is_due; is_whole = is.is_whole }) (ap first_of (faults_same c c.due item e) ∙ free) in
+    subst (λ (x : StreamProgress). Front (to_flush c) item x) (after_item_same c c.due item e other) f
+step c item true here e paged is free =
+    elim (eos_due c.page_size c.due item here) [
+      | inl due ↦ step_record c item due here e paged is free
+      | inr due ↦ step_sized c item due here e paged is free
+    ]
 
 flushed_front : (c : StreamProgress) (items : List (List ℕ)) → c.mode ≡ MainBySection → IsPageSize c.page_size → AreFaultless c items → Front (to_flush c) (flushed c items) (to_flush (after_all c items))
 flushed_front c [] e paged free = Front-none (to_flush c)

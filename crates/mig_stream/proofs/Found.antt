@@ -1,6 +1,6 @@
 -- What is read to its end byte is spelled so.
-use Rattle.std.proofs.Common.{◌≡◌, ℕ, ◌+◌, ◌^◌, ◌<◌, ◌≤◌, Bool, true, false, List, [], ◌∷◌, ◌++◌, length, Option, Some, None, refl, sym, ap, subst, ◌∙◌, append_assoc, arith}
-use Rattle.std.specs.List.{flat_map, AllByRecursion}
+use Rattle.std.proofs.Common.{◌≡◌, ℕ, ◌+◌, ◌^◌, ◌<◌, ◌≤◌, Bool, true, false, cond, List, [], ◌∷◌, ◌++◌, length, Option, Some, None, refl, sym, ap, subst, ◌∙◌, append_assoc, arith}
+use Rattle.std.specs.List.{flat_map, list_any, AllByRecursion}
 use Rattle.std.specs.Prelude.{All, IfSome}
 use Rattle.std.proofs.lemmas.List.{append-nil}
 use Rattle.mig_mem.specs.PageSize.{IsPageSize}
@@ -12,32 +12,35 @@ use Rattle.mig_stream.specs.declared.item.Section.TheVariants.{Part, End}
 use Rattle.mig_stream.specs.declared.item.Due.TheVariants.{Nothing}
 use Rattle.mig_stream.specs.declared.item.StreamState.{StreamState}
 use Rattle.mig_stream.specs.declared.item.StreamState.TheVariants.{Closed}
+use Rattle.mig_stream.specs.declared.item.EntryForm.{EntryForm}
+use Rattle.mig_stream.specs.declared.item.EntryForm.TheVariants.{Plain, Addressed}
 use Rattle.mig_stream.specs.declared.item.RecordKind.TheVariants.{SizeList}
 use Rattle.mig_stream.specs.PageRecord.{PageRecord}
 use Rattle.mig_stream.specs.Fields.{be64}
 use Rattle.mig_stream.specs.Format.{end_byte, flags_of, most_name_bytes}
 use Rattle.mig_stream.specs.Progress.{StreamProgress, start, whole_table}
-use Rattle.mig_stream.specs.Items.{is_single, is_machine}
+use Rattle.mig_stream.specs.Items.{is_single, is_machine, is_addressed}
 use Rattle.mig_stream.specs.Reading.{Settings, Ends, StreamReading, IsReading}
-use Rattle.mig_stream.specs.Text.{Record, file_header, configuration, start_head, size_list, total_bytes, entry, Follow, all_records, body, section, IsText, AreRounds}
-use Rattle.mig_stream.specs.Machine.{Command, command, IsCommand, SubsectionBody, subsection, Configuration, configured, IsConfiguration, PartOrCommand, PartOf, CommandOf, part_or_command, IsPartOrCommand, parts_of, IsMachineText}
+use Rattle.mig_stream.specs.Text.{Record, file_header, configuration, start_head, size_list, total_bytes, Follow, all_records, body, section, IsText, AreRounds}
+use Rattle.mig_stream.specs.Machine.{Command, command, IsCommand, is_advise, names_shared, ignores_shared, form_of, IsTail, entries, tailed_list, SubsectionBody, subsection, Configuration, configured, IsConfiguration, PartOrCommand, PartOf, CommandOf, part_or_command, IsPartOrCommand, parts_of, IsMachineText}
 use Rattle.mig_stream.specs.Law.{ReadIsSpelled, MachineReadIsSpelled}
 use Rattle.mig_stream.proofs.Tables.{sum_of, table_from_blocks, total_is_sum}
 use Rattle.mig_stream.proofs.After.{FlushesFit}
 use Rattle.mig_stream.proofs.Modes.{single_kept}
 use Rattle.mig_stream.proofs.SectionRounds.{rounds_spelled}
 use Rattle.mig_stream.proofs.FoundFields.{IsBytes, bytes_from_all, bytes_of_front}
+use Rattle.mig_stream.proofs.Tails.{plain_list}
 use Rattle.mig_stream.proofs.FoundTail.{ending, HasNoCommand, Follow-append, FlushesFit-cons}
 use Rattle.mig_stream.proofs.FoundOpening.{RestOfFile}
 use Rattle.mig_stream.proofs.FoundItems.{items_back}
 
 -- the size list, in front of what is left
-list_spelled : (table : RamTable) (bytes : List ℕ)
-    → be64 (sum_of table.page_size table.blocks + flags_of SizeList) ++ (flat_map (entry table.page_size) table.blocks ++ bytes) ≡ size_list table ++ bytes
-unfolding size_list
-list_spelled table bytes =
-    ap (λ (n : ℕ). be64 (n + flags_of SizeList) ++ (flat_map (entry table.page_size) table.blocks ++ bytes)) (sym (total_is_sum table))
-    ∙ sym (append_assoc (be64 (total_bytes table + flags_of SizeList)) (flat_map (entry table.page_size) table.blocks) bytes)
+list_spelled : (table : RamTable) (tails : List (List ℕ)) (bytes : List ℕ)
+    → be64 (sum_of table.page_size table.blocks + flags_of SizeList) ++ (entries table.page_size table.blocks tails ++ bytes) ≡ tailed_list table tails ++ bytes
+unfolding tailed_list
+list_spelled table tails bytes =
+    ap (λ (n : ℕ). be64 (n + flags_of SizeList) ++ (entries table.page_size table.blocks tails ++ bytes)) (sym (total_is_sum table))
+    ∙ sym (append_assoc (be64 (total_bytes table + flags_of SizeList)) (entries table.page_size table.blocks tails) bytes)
 
 -- the parts of a stream, put together otherwise
 regroup : (f c x s l b p e z : List ℕ) → f ++ (c ++ (x ++ (s ++ (l ++ (b ++ (p ++ (e ++ z))))))) ≡ f ++ c ++ x ++ s ++ l ++ b ++ p ++ e ++ z
@@ -48,16 +51,20 @@ pub record IsFramedText (frame : Frame) (mode : Mode) (limit : ℕ) (text : List
   pub id : ℕ
   pub machine : Option Configuration
   pub commands : List Command
+  pub tails : List (List ℕ)
   pub first : List Record
   pub others : List PartOrCommand
   pub last : List Record
-  pub is_spelled : text ≡ file_header ++ configured machine ++ flat_map command commands ++ start_head id ++ size_list table ++ body table id first
+  pub is_spelled : text ≡ file_header ++ configured machine ++ flat_map command commands ++ start_head id ++ tailed_list table tails ++ body table id first
       ++ flat_map (part_or_command table id) others ++ section table End id last ++ ending (is_machine frame)
   pub has_table : IsTable table
   pub has_limit : total_bytes table ≤ limit
   pub has_id : id < 2 ^ 32
   pub has_machine : IfSome machine (IsConfiguration table.page_size)
   pub are_commands : AllByRecursion IsCommand commands
+  pub is_one_form : ignores_shared machine ≡ true → list_any is_advise commands ≡ false
+  pub has_tails : length tails ≡ length table.blocks
+  pub are_tails : AllByRecursion (IsTail (form_of machine commands)) tails
   pub are_others : AllByRecursion IsPartOrCommand others
   pub follow : Follow table None (first ++ all_records (parts_of others) ++ last)
   pub has_rounds : AreRounds mode (first ∷ parts_of others ++ last ∷ []) rounds
@@ -86,14 +93,14 @@ text_found frame mode page_size limit waiting to text size small file =
     let table : RamTable = record { page_size = page_size; blocks = list.blocks } in
     let others = flat_map (part_or_command table id) tail.others ++ (section table End id tail.last ++ ending (is_machine frame)) in
     let six : list.tail ≡ body table id records.records ++ others = records.has_bytes ∙ ap (λ (x : List ℕ). body table id records.records ++ x) tail.has_bytes in
-    let five : begun.tail ≡ size_list table ++ (body table id records.records ++ others) =
-    list.has_bytes ∙ list_spelled table list.tail ∙ ap (λ (x : List ℕ). size_list table ++ x) six in
-    let four : before.tail ≡ start_head id ++ (size_list table ++ (body table id records.records ++ others)) = begun.has_bytes ∙ ap (λ (x : List ℕ). start_head id ++ x) five in
-    let commands : opening.tail ≡ flat_map command before.commands ++ (start_head id ++ (size_list table ++ (body table id records.records ++ others))) =
+    let five : begun.tail ≡ tailed_list table list.tails ++ (body table id records.records ++ others) =
+    list.has_bytes ∙ list_spelled table list.tails list.tail ∙ ap (λ (x : List ℕ). tailed_list table list.tails ++ x) six in
+    let four : before.tail ≡ start_head id ++ (tailed_list table list.tails ++ (body table id records.records ++ others)) = begun.has_bytes ∙ ap (λ (x : List ℕ). start_head id ++ x) five in
+    let commands : opening.tail ≡ flat_map command before.commands ++ (start_head id ++ (tailed_list table list.tails ++ (body table id records.records ++ others))) =
     before.has_bytes ∙ ap (λ (x : List ℕ). flat_map command before.commands ++ x) four in
-    let three : file.tail ≡ configured opening.machine ++ (flat_map command before.commands ++ (start_head id ++ (size_list table ++ (body table id records.records ++ others)))) =
+    let three : file.tail ≡ configured opening.machine ++ (flat_map command before.commands ++ (start_head id ++ (tailed_list table list.tails ++ (body table id records.records ++ others)))) =
     opening.has_bytes ∙ ap (λ (x : List ℕ). configured opening.machine ++ x) commands in
-    let spelled : text ≡ file_header ++ (configured opening.machine ++ (flat_map command before.commands ++ (start_head id ++ (size_list table ++ (body table id records.records ++ others))))) =
+    let spelled : text ≡ file_header ++ (configured opening.machine ++ (flat_map command before.commands ++ (start_head id ++ (tailed_list table list.tails ++ (body table id records.records ++ others))))) =
     file.has_bytes ∙ ap (λ (x : List ℕ). file_header ++ x) three in
     let sum : total_bytes table ≡ sum_of page_size list.blocks = total_is_sum table in
     let behind : List (List Record) = parts_of tail.others ++ tail.last ∷ [] in
@@ -106,16 +113,20 @@ text_found frame mode page_size limit waiting to text size small file =
         id = id;
         machine = opening.machine;
         commands = before.commands;
+        tails = list.tails;
         first = records.records;
         others = tail.others;
         last = tail.last;
-        is_spelled = spelled ∙ regroup file_header (configured opening.machine) (flat_map command before.commands) (start_head id) (size_list table) (body table id records.records) (flat_map (part_or_command table id) tail.others)
+        is_spelled = spelled ∙ regroup file_header (configured opening.machine) (flat_map command before.commands) (start_head id) (tailed_list table list.tails) (body table id records.records) (flat_map (part_or_command table id) tail.others)
             (section table End id tail.last) (ending (is_machine frame));
         has_table = table_from_blocks table size list.has_some (omega (arith, list.has_few)) list.are_blocks (omega (arith, sum, list.has_limit));
         has_limit = omega (arith, sum, list.has_limit);
         has_id = begun.has_id;
         has_machine = opening.has_machine;
         are_commands = before.are_commands;
+        is_one_form = λ shared. before.is_one_form (ap (λ (b : Bool). is_addressed (cond b Addressed Plain)) shared);
+        has_tails = list.has_tails;
+        are_tails = list.are_tails;
         are_others = tail.are_others;
         follow = subst (Follow table None) (sym (append_assoc records.records (all_records (parts_of tail.others)) tail.last))
             (Follow-append table None records.records (all_records (parts_of tail.others) ++ tail.last) records.follow tail.follow);
@@ -176,14 +187,24 @@ plain_parts table id [] none = refl
 plain_parts table id (PartOf records ∷ others) none = ap (λ (x : List ℕ). section table Part id records ++ x) (plain_parts table id others none)
 plain_parts table id (CommandOf x ∷ others) none = absurd none
 
+-- and nothing follows the entries
+plain_machine : (o : Option Configuration) → IfSome o (λ x. x.subsections ≡ []) → form_of o [] ≡ Plain
+plain_machine None none = refl
+plain_machine (Some x) none = ap (λ (hs : List SubsectionBody). cond (list_any names_shared hs) Addressed Plain) none
+
 ram_text : (mode : Mode) (limit : ℕ) (text : List ℕ) (table : RamTable) (rounds : List (List PageRecord)) → IsFramedText Ram mode limit text table rounds → IsText mode limit text table rounds
 ram_text mode limit text table rounds t =
     let c = plain_configuration t.machine (t.no_subsections refl) in
     let p = plain_parts table t.id t.others (t.no_others refl) in
-    let behind : List ℕ → List ℕ → List ℕ → List ℕ = λ c x p. file_header ++ c ++ x ++ start_head t.id ++ size_list table ++ body table t.id t.first ++ p ++ section table End t.id t.last ++ end_byte ∷ [] in
-    let one : text ≡ behind (configuration (name_of t.machine)) (flat_map command t.commands) (flat_map (part_or_command table t.id) t.others) = t.is_spelled ∙ ap (λ (x : List ℕ). behind x (flat_map command t.commands) (flat_map (part_or_command table t.id) t.others)) c in
-    let two : text ≡ behind (configuration (name_of t.machine)) [] (flat_map (part_or_command table t.id) t.others) = one ∙ ap (λ (x : List Command). behind (configuration (name_of t.machine)) (flat_map command x) (flat_map (part_or_command table t.id) t.others)) (t.no_commands refl) in
-    let three : text ≡ behind (configuration (name_of t.machine)) [] (flat_map (section table Part t.id) (parts_of t.others)) = two ∙ ap (behind (configuration (name_of t.machine)) []) p in
+    let form : form_of t.machine t.commands ≡ Plain = ap (form_of t.machine) (t.no_commands refl) ∙ plain_machine t.machine (t.no_subsections refl) in
+    let l : tailed_list table t.tails ≡ size_list table = plain_list table t.tails t.has_tails (subst (λ (f : EntryForm). AllByRecursion (IsTail f) t.tails) form t.are_tails) in
+    let parts : List ℕ = flat_map (part_or_command table t.id) t.others in
+    let behind : List ℕ → List ℕ → List ℕ → List ℕ → List ℕ =
+    λ c x l p. file_header ++ c ++ x ++ start_head t.id ++ l ++ body table t.id t.first ++ p ++ section table End t.id t.last ++ end_byte ∷ [] in
+    let one : text ≡ behind (configuration (name_of t.machine)) (flat_map command t.commands) (tailed_list table t.tails) parts = t.is_spelled ∙ ap (λ (x : List ℕ). behind x (flat_map command t.commands) (tailed_list table t.tails) parts) c in
+    let two : text ≡ behind (configuration (name_of t.machine)) [] (tailed_list table t.tails) parts = one ∙ ap (λ (x : List Command). behind (configuration (name_of t.machine)) (flat_map command x) (tailed_list table t.tails) parts) (t.no_commands refl) in
+    let listed : text ≡ behind (configuration (name_of t.machine)) [] (size_list table) parts = two ∙ ap (λ (x : List ℕ). behind (configuration (name_of t.machine)) [] x parts) l in
+    let three : text ≡ behind (configuration (name_of t.machine)) [] (size_list table) (flat_map (section table Part t.id) (parts_of t.others)) = listed ∙ ap (behind (configuration (name_of t.machine)) [] (size_list table)) p in
     record {
       id = t.id;
       name = name_of t.machine;
@@ -221,6 +242,7 @@ machine_text mode limit text table rounds t = record {
   id = t.id;
   machine = t.machine;
   commands = t.commands;
+  tails = t.tails;
   first = t.first;
   others = t.others;
   last = t.last;
@@ -230,6 +252,9 @@ machine_text mode limit text table rounds t = record {
   has_id = t.has_id;
   has_machine = t.has_machine;
   are_commands = t.are_commands;
+  is_one_form = t.is_one_form;
+  has_tails = t.has_tails;
+  are_tails = t.are_tails;
   are_others = t.are_others;
   follow = t.follow;
   has_rounds = t.has_rounds;

@@ -1,13 +1,15 @@
 -- What is left of START from its size list on, where its head and its entries were read without a
 -- fault.
-use Rattle.std.proofs.Common.{◌≡◌, ℕ, zero, suc, ◌+◌, ◌-◌, ◌*◌, ◌/◌, ◌%◌, ◌<◌, ◌≤◌, false, not, eqb, ltb, leb, List, [], ◌∷◌, ◌++◌, length, get_or, Option, Some, None, refl, sym, ap, subst, ◌∙◌, append_assoc, arith}
+use Rattle.std.proofs.Common.{◌≡◌, ℕ, zero, suc, ◌+◌, ◌-◌, ◌*◌, ◌/◌, ◌%◌, ◌<◌, ◌≤◌, Bool, true, false, not, eqb, ltb, leb, List, [], ◌∷◌, ◌++◌, length, get_or, Option, Some, None, refl, sym, ap, subst, ◌∙◌, append_assoc, arith}
 use Rattle.std.specs.Prelude.{◌||◌, IsTrue, is_some}
 use Rattle.std.specs.Option.{unwrap_or}
-use Rattle.std.specs.List.{flat_map}
+use Rattle.std.specs.List.{AllByRecursion}
 use Rattle.std.proofs.lemmas.Nat.{div-add-mod'}
 use Rattle.std.proofs.lemmas.Bool.{not-false, eqb-true, eqb-false, leb-false, ltb-false, or_parts}
 use Rattle.std.proofs.lemmas.List.{length-append}
 use Rattle.mig_mem.specs.RamTable.{Block, block_of, is_id, max_blocks}
+use Rattle.mig_stream.specs.declared.item.EntryForm.{EntryForm}
+use Rattle.mig_stream.specs.declared.item.Due.{Due}
 use Rattle.mig_stream.specs.declared.item.Due.TheVariants.{RecordHead, ListEntry}
 use Rattle.mig_stream.specs.declared.item.RecordKind.TheVariants.{SizeList}
 use Rattle.mig_stream.specs.declared.fault.StreamFault.TheVariants as fault
@@ -17,31 +19,38 @@ use Rattle.mig_stream.specs.Progress.{StreamProgress}
 use Rattle.mig_mem.specs.First.{first_of}
 use Rattle.mig_stream.specs.Items.{id_in, length_in, faults}
 use Rattle.mig_stream.specs.Text.{entry}
+use Rattle.mig_stream.specs.Machine.{IsTail, entries}
 use Rattle.mig_stream.proofs.Tables.{AreBlocks, sum_of}
 use Rattle.mig_stream.proofs.FoundFields.{IsBytes, passed}
 use Rattle.mig_stream.proofs.FoundParts.{entry_found}
 use Rattle.mig_stream.proofs.FoundPages.{RestOfBody}
 
--- The entries of one or more blocks are left, and then START's records.
+-- The entries of one or more blocks are left, with their tails, and then START's records.
 pub record RestOfEntries (Behind : StreamProgress → List ℕ → Type 0) (c : StreamProgress) (bytes : List ℕ) : Type 0 where
   pub blocks : List Block
+  pub tails : List (List ℕ)
   pub tail : List ℕ
-  pub has_bytes : bytes ≡ flat_map (entry c.page_size) blocks ++ tail
+  pub has_bytes : bytes ≡ entries c.page_size blocks tails ++ tail
   pub are_blocks : AreBlocks c.blocks blocks
   pub has_some : 0 < length blocks
   pub has_few : length c.blocks + length blocks ≤ 256
   pub has_sum : sum_of c.page_size blocks ≡ unwrap_or c.left 0
+  pub has_tails : length tails ≡ length blocks
+  pub are_tails : AllByRecursion (IsTail c.form) tails
   pub rest : RestOfBody Behind (record c { due = RecordHead; left = Some 0; blocks = c.blocks ++ blocks }) tail
 
 -- The size list is left, and then START's records.
 pub record RestOfList (Behind : StreamProgress → List ℕ → Type 0) (c : StreamProgress) (bytes : List ℕ) : Type 0 where
   pub blocks : List Block
+  pub tails : List (List ℕ)
   pub tail : List ℕ
-  pub has_bytes : bytes ≡ be64 (sum_of c.page_size blocks + flags_of SizeList) ++ (flat_map (entry c.page_size) blocks ++ tail)
+  pub has_bytes : bytes ≡ be64 (sum_of c.page_size blocks + flags_of SizeList) ++ (entries c.page_size blocks tails ++ tail)
   pub are_blocks : AreBlocks c.blocks blocks
   pub has_some : 0 < length blocks
   pub has_few : length c.blocks + length blocks ≤ 256
   pub has_limit : sum_of c.page_size blocks ≤ c.limit
+  pub has_tails : length tails ≡ length blocks
+  pub are_tails : AllByRecursion (IsTail c.form) tails
   pub rest : RestOfBody Behind (record c { due = RecordHead; left = Some 0; blocks = c.blocks ++ blocks }) tail
 
 -- ---- what an entry without a fault is
@@ -104,41 +113,88 @@ left_after c item = unwrap_or c.left 0 - length_in item
 entry_bytes : (c : StreamProgress) (item : List ℕ) → length item ≡ 9 + get_or item 0 0 → IsBytes item → IsEntry c item → item ≡ entry c.page_size (block_in c.page_size item)
 entry_bytes c item len all is = entry_found item len all ∙ ap (λ (n : ℕ). length (id_in item) ∷ (id_in item ++ be64 n)) (sym is.has_length)
 
--- the last entry, in front of what is left
-pub last_entry_back : (Behind : StreamProgress → List ℕ → Type 0) (c : StreamProgress) (item bytes : List ℕ) → length item ≡ 9 + get_or item 0 0 → IsBytes item → IsEntry c item → left_after c item ≡ 0
-    → RestOfBody Behind (record c { due = RecordHead; left = Some 0; blocks = c.blocks ++ block_in c.page_size item ∷ [] }) bytes → RestOfEntries Behind c (item ++ bytes)
-last_entry_back Behind c item bytes len all is none r =
+-- What follows an entry and its tail: START's records, if it is the last entry, or other entries.
+abbrev pub RestOfListed : (StreamProgress → List ℕ → Type 0) → StreamProgress → Bool → List ℕ → Type 0
+RestOfListed Behind c true bytes = c.left ≡ Some 0 → RestOfBody Behind c bytes
+RestOfListed Behind c false bytes = RestOfEntries Behind c bytes
+
+-- The tail of an entry is left, and what follows it.
+pub record RestOfTail (Behind : StreamProgress → List ℕ → Type 0) (c : StreamProgress) (form : EntryForm) (last : Bool) (bytes : List ℕ) : Type 0 where
+  pub tail : List ℕ
+  pub more : List ℕ
+  pub has_bytes : bytes ≡ tail ++ more
+  pub is_tail : IsTail form tail
+  pub rest : RestOfListed Behind c last more
+
+-- what is left doesn't depend on the item that is due
+pub body_at : (Behind : StreamProgress → List ℕ → Type 0) (c : StreamProgress) (d e : Due) (bytes : List ℕ) → RestOfBody Behind (record c { due = d }) bytes → RestOfBody Behind (record c { due = e }) bytes
+body_at Behind c d e bytes r = record { records = r.records; more = r.more; has_bytes = r.has_bytes; follow = r.follow; flushes = r.flushes; others = r.others }
+
+pub entries_at : (Behind : StreamProgress → List ℕ → Type 0) (c : StreamProgress) (d : Due) (bytes : List ℕ) → RestOfEntries Behind (record c { due = d }) bytes → RestOfEntries Behind c bytes
+entries_at Behind c d bytes r = record {
+  blocks = r.blocks;
+  tails = r.tails;
+  tail = r.tail;
+  has_bytes = r.has_bytes;
+  are_blocks = r.are_blocks;
+  has_some = r.has_some;
+  has_few = r.has_few;
+  has_sum = r.has_sum;
+  has_tails = r.has_tails;
+  are_tails = r.are_tails;
+  rest = r.rest;
+}
+
+-- an entry, its tail, the other entries, and all that is left
+regroup_entry : (e t r m : List ℕ) → (e ++ (t ++ r)) ++ m ≡ e ++ (t ++ (r ++ m))
+regroup_entry e t r m = append_assoc e (t ++ r) m ∙ ap (λ (x : List ℕ). e ++ x) (append_assoc t r m)
+
+-- how far the stream has been read after an entry
+abbrev pub behind_entry : StreamProgress → Due → List ℕ → StreamProgress
+behind_entry c d item = record c { due = d; left = Some (left_after c item); blocks = c.blocks ++ block_in c.page_size item ∷ [] }
+
+-- an entry in front of its tail and what follows it
+pub entry_back : (Behind : StreamProgress → List ℕ → Type 0) (c : StreamProgress) (d : Due) (last : Bool) (item bytes : List ℕ) → length item ≡ 9 + get_or item 0 0 → IsBytes item → IsEntry c item → eqb (left_after c item) 0 ≡ last
+    → RestOfTail Behind (behind_entry c d item) c.form last bytes → RestOfEntries Behind c (item ++ bytes)
+entry_back Behind c d true item bytes len all is test r =
     let b = block_in c.page_size item in
-    let spelled : item ++ bytes ≡ (entry c.page_size b ++ []) ++ bytes =
-    ap (λ (x : List ℕ). x ++ bytes) (entry_bytes c item len all is) ∙ sym (append_assoc (entry c.page_size b) [] bytes) in
+    let none : left_after c item ≡ 0 = eqb-true _ _ test in
+    let spelled : item ++ bytes ≡ (entry c.page_size b ++ (r.tail ++ [])) ++ r.more =
+    ap (λ (x : List ℕ). x ++ bytes) (entry_bytes c item len all is) ∙ ap (λ (x : List ℕ). entry c.page_size b ++ x) r.has_bytes ∙ sym (regroup_entry (entry c.page_size b) r.tail [] r.more) in
+    let left : RestOfBody Behind (record c { due = d; left = Some 0; blocks = c.blocks ++ b ∷ [] }) r.more =
+    subst (λ (x : ℕ). RestOfBody Behind (record c { due = d; left = Some x; blocks = c.blocks ++ b ∷ [] }) r.more) none (r.rest (ap Some none)) in
     record {
       blocks = b ∷ [];
-      tail = bytes;
+      tails = r.tail ∷ [];
+      tail = r.more;
       has_bytes = spelled;
       are_blocks = (is.has_id, is.is_new, is.has_pages, tt);
       has_some = omega arith;
       has_few = omega (arith, is.has_few);
       has_sum = omega (arith, is.has_length, is.has_room, none);
-      rest = r;
+      has_tails = refl;
+      are_tails = (r.is_tail, tt);
+      rest = body_at Behind (record c { left = Some 0; blocks = c.blocks ++ b ∷ [] }) d RecordHead r.more left;
     }
-
--- an entry in front of others
-pub entry_back : (Behind : StreamProgress → List ℕ → Type 0) (c : StreamProgress) (item bytes : List ℕ) → length item ≡ 9 + get_or item 0 0 → IsBytes item → IsEntry c item
-    → RestOfEntries Behind (record c { due = ListEntry; left = Some (left_after c item); blocks = c.blocks ++ block_in c.page_size item ∷ [] }) bytes → RestOfEntries Behind c (item ++ bytes)
-entry_back Behind c item bytes len all is r =
+entry_back Behind c d false item bytes len all is test r =
     let b = block_in c.page_size item in
-    let others = flat_map (entry c.page_size) r.blocks in
-    let spelled : item ++ bytes ≡ (entry c.page_size b ++ others) ++ r.tail =
-    ap (λ (x : List ℕ). x ++ bytes) (entry_bytes c item len all is) ∙ ap (λ (x : List ℕ). entry c.page_size b ++ x) r.has_bytes ∙ sym (append_assoc (entry c.page_size b) others r.tail) in
+    let q : RestOfEntries Behind (behind_entry c d item) r.more = r.rest in
+    let others = entries c.page_size q.blocks q.tails in
+    let spelled : item ++ bytes ≡ (entry c.page_size b ++ (r.tail ++ others)) ++ q.tail =
+    ap (λ (x : List ℕ). x ++ bytes) (entry_bytes c item len all is) ∙ ap (λ (x : List ℕ). entry c.page_size b ++ x) (r.has_bytes ∙ ap (λ (x : List ℕ). r.tail ++ x) q.has_bytes)
+    ∙ sym (regroup_entry (entry c.page_size b) r.tail others q.tail) in
     record {
-      blocks = b ∷ r.blocks;
-      tail = r.tail;
+      blocks = b ∷ q.blocks;
+      tails = r.tail ∷ q.tails;
+      tail = q.tail;
       has_bytes = spelled;
-      are_blocks = (is.has_id, is.is_new, is.has_pages, r.are_blocks);
+      are_blocks = (is.has_id, is.is_new, is.has_pages, q.are_blocks);
       has_some = omega arith;
-      has_few = omega (arith, r.has_few, length-append c.blocks (b ∷ []));
-      has_sum = omega (arith, is.has_length, is.has_room, r.has_sum);
-      rest = subst (λ (x : List Block). RestOfBody Behind (record c { due = RecordHead; left = Some 0; blocks = x }) r.tail) (append_assoc c.blocks (b ∷ []) r.blocks) r.rest;
+      has_few = omega (arith, q.has_few, length-append c.blocks (b ∷ []));
+      has_sum = omega (arith, is.has_length, is.has_room, q.has_sum);
+      has_tails = omega (arith, q.has_tails);
+      are_tails = (r.is_tail, q.are_tails);
+      rest = subst (λ (x : List Block). RestOfBody Behind (record c { due = RecordHead; left = Some 0; blocks = x }) q.tail) (append_assoc c.blocks (b ∷ []) q.blocks) q.rest;
     }
 
 -- ---- the head of the size list
@@ -148,6 +204,7 @@ pub list_back : (Behind : StreamProgress → List ℕ → Type 0) (c : StreamPro
     → RestOfEntries Behind (record c { due = ListEntry; left = Some (page * c.page_size) }) bytes → RestOfList Behind c (item ++ bytes)
 list_back Behind c page item bytes head small r = record {
   blocks = r.blocks;
+  tails = r.tails;
   tail = r.tail;
   has_bytes = ap (λ (x : List ℕ). x ++ bytes) (head ∙ ap (λ (n : ℕ). be64 (n + flags_of SizeList)) (sym r.has_sum))
       ∙ ap (λ (x : List ℕ). be64 (sum_of c.page_size r.blocks + flags_of SizeList) ++ x) r.has_bytes;
@@ -155,5 +212,7 @@ list_back Behind c page item bytes head small r = record {
   has_some = r.has_some;
   has_few = r.has_few;
   has_limit = omega (arith, small, r.has_sum);
+  has_tails = r.has_tails;
+  are_tails = r.are_tails;
   rest = r.rest;
 }

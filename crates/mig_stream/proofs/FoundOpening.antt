@@ -1,15 +1,17 @@
 -- What is left of a stream from the file header, the configuration or START on, if its items were
 -- read without a fault.
-use Rattle.std.proofs.Common.{◌≡◌, ℕ, ◌+◌, ◌^◌, ◌<◌, ◌≤◌, true, false, not, eqb, ltb, List, [], ◌∷◌, ◌++◌, length, get_or, Option, Some, None, refl, sym, ap, ◌∙◌, append_assoc, arith}
-use Rattle.std.specs.Prelude.{IfSome, slice_range}
+use Rattle.std.proofs.Common.{◌≡◌, ℕ, ◌+◌, ◌^◌, ◌<◌, ◌≤◌, Bool, true, false, not, cond, eqb, ltb, List, [], ◌∷◌, ◌++◌, length, get_or, Option, Some, None, refl, sym, ap, subst, ◌∙◌, append_assoc, arith}
+use Rattle.std.specs.Prelude.{IfSome, slice_range, ◌&&◌, ◌||◌}
 use Rattle.std.specs.Int.{w32, to_be_bytes}
-use Rattle.std.specs.List.{flat_map, AllByRecursion}
+use Rattle.std.specs.List.{flat_map, list_any, AllByRecursion}
 use Rattle.std.specs.Str.{bytes_eq}
 use Rattle.std.proofs.lemmas.Slice.Eq.{bytes_eq-Decides}
 use Rattle.std.proofs.lemmas.Bool.{not-false, eqb-true, ltb-false}
 use Rattle.mig_stream.specs.declared.item.Before.TheVariants as before
 use Rattle.mig_stream.specs.declared.item.Section.TheVariants.{Start}
 use Rattle.mig_stream.specs.declared.item.Subsection.{Subsection}
+use Rattle.mig_stream.specs.declared.item.EntryForm.{EntryForm}
+use Rattle.mig_stream.specs.declared.item.EntryForm.TheVariants.{Addressed, Sized}
 use Rattle.mig_stream.specs.declared.item.Due.{Due}
 use Rattle.mig_stream.specs.declared.item.Due.TheVariants.{FileHeader, TypeByte, ConfigLength, ConfigName, StartHead, RecordHead}
 use Rattle.mig_stream.specs.declared.fault.StreamFault.TheVariants as fault
@@ -17,13 +19,14 @@ use Rattle.mig_stream.specs.Fields.{be32, counted, be32_at}
 use Rattle.mig_stream.specs.Format.{magic, version, section_type, command_type, subsection_type, configuration_type, ram_name, ram_instance, ram_version, most_name_bytes}
 use Rattle.mig_stream.specs.Progress.{StreamProgress}
 use Rattle.mig_mem.specs.First.{first_of}
-use Rattle.mig_stream.specs.Items.{faults, is_machine}
-use Rattle.mig_stream.specs.Machine.{Command, command_bytes, command, IsCommand, SubsectionBody, kind_of, body_bytes, IsCapability, IsSubsectionBody, subsection_head, subsection, Configuration, configured, IsConfiguration}
+use Rattle.mig_stream.specs.Items.{faults, is_machine, is_addressed}
+use Rattle.mig_stream.specs.Machine.{Command, command_bytes, command, IsCommand, is_advise, ignore_shared_in, names_shared, ignores_shared, SubsectionBody, kind_of, body_bytes, IsCapability, IsSubsectionBody, subsection_head, subsection, Configuration, configured, IsConfiguration}
 use Rattle.mig_stream.specs.Text.{file_header, start_head}
 use Rattle.mig_stream.proofs.FoundFields.{IsBytes, passed, be32_found}
 use Rattle.mig_stream.proofs.FoundParts.{be32_small, header_found, start_found}
 use Rattle.mig_stream.proofs.FoundList.{RestOfList}
 use Rattle.mig_stream.proofs.FoundTail.{Behind}
+use Rattle.mig_stream.proofs.Tails.{twice, fits_apart}
 
 -- START's head is left, and then its size list. Its type byte may have been read: `front` is what
 -- was read of it.
@@ -41,7 +44,8 @@ pub record RestOfCommands (to c : StreamProgress) (bytes : List ℕ) : Type 0 wh
   pub has_bytes : bytes ≡ flat_map command commands ++ tail
   pub are_commands : AllByRecursion IsCommand commands
   pub in_frame : is_machine c.frame ≡ false → commands ≡ []
-  pub rest : RestOfStart [] to c tail
+  pub is_one_form : is_addressed c.form ≡ true → list_any is_advise commands ≡ false
+  pub rest : RestOfStart [] to (record c { form = cond (list_any is_advise commands) Sized c.form }) tail
 
 -- Subsections of the configuration are left, then COMMANDs, and START.
 pub record RestOfConfigured (to c : StreamProgress) (bytes : List ℕ) : Type 0 where
@@ -50,7 +54,7 @@ pub record RestOfConfigured (to c : StreamProgress) (bytes : List ℕ) : Type 0 
   pub has_bytes : bytes ≡ flat_map subsection subsections ++ tail
   pub are_bodies : AllByRecursion (IsSubsectionBody c.page_size) subsections
   pub in_frame : is_machine c.frame ≡ false → subsections ≡ []
-  pub rest : RestOfCommands to c tail
+  pub rest : RestOfCommands to (record c { form = cond (list_any names_shared subsections) Addressed c.form }) tail
 
 -- The name of a configuration is left, and then START.
 pub record RestOfConfigName (to c : StreamProgress) (len : ℕ) (bytes : List ℕ) : Type 0 where
@@ -75,7 +79,7 @@ pub record RestOfOpening (to c : StreamProgress) (bytes : List ℕ) : Type 0 whe
   pub has_bytes : bytes ≡ configured machine ++ tail
   pub has_machine : IfSome machine (IsConfiguration c.page_size)
   pub in_frame : is_machine c.frame ≡ false → IfSome machine (λ x. x.subsections ≡ [])
-  pub rest : RestOfCommands to c tail
+  pub rest : RestOfCommands to (record c { form = cond (ignores_shared machine) Addressed c.form }) tail
 
 -- The complete stream is left.
 pub record RestOfFile (to c : StreamProgress) (bytes : List ℕ) : Type 0 where
@@ -113,24 +117,38 @@ start_type_back to c bytes r = record { id = r.id; tail = r.tail; has_bytes = r.
 
 -- START may stand where COMMANDs may
 pub no_commands_back : (to c : StreamProgress) (bytes : List ℕ) → RestOfStart [] to c bytes → RestOfCommands to c bytes
-no_commands_back to c bytes r = record { commands = []; tail = bytes; has_bytes = refl; are_commands = tt; in_frame = λ ram. refl; rest = r }
+no_commands_back to c bytes r = record { commands = []; tail = bytes; has_bytes = refl; are_commands = tt; in_frame = λ ram. refl; is_one_form = λ addressed. refl; rest = r }
 
 pub start_at : (front : List ℕ) (to c : StreamProgress) (d : Due) (bytes : List ℕ) → RestOfStart front to (record c { due = d }) bytes → RestOfStart front to c bytes
 start_at front to c d bytes r = record { id = r.id; tail = r.tail; has_bytes = r.has_bytes; has_id = r.has_id; rest = r.rest }
 
 pub commands_at : (to c : StreamProgress) (d : Due) (bytes : List ℕ) → RestOfCommands to (record c { due = d }) bytes → RestOfCommands to c bytes
-commands_at to c d bytes r = record { commands = r.commands; tail = r.tail; has_bytes = r.has_bytes; are_commands = r.are_commands; in_frame = r.in_frame; rest = start_at [] to c d r.tail r.rest }
+commands_at to c d bytes r = record {
+  commands = r.commands;
+  tail = r.tail;
+  has_bytes = r.has_bytes;
+  are_commands = r.are_commands;
+  in_frame = r.in_frame;
+  is_one_form = r.is_one_form;
+  rest = start_at [] to (record c { form = cond (list_any is_advise r.commands) Sized c.form }) d r.tail r.rest;
+}
 
 -- a COMMAND in front of others
-pub command_back : (to c : StreamProgress) (x : Command) (tail bytes : List ℕ) → is_machine c.frame ≡ true → IsCommand x → bytes ≡ command_bytes x ++ tail → RestOfCommands to c tail → RestOfCommands to c (command_type ∷ bytes)
-command_back to c x tail bytes machine is e q = record {
-  commands = x ∷ q.commands;
-  tail = q.tail;
-  has_bytes = ap (λ (y : List ℕ). command_type ∷ y) (e ∙ ap (λ (y : List ℕ). command_bytes x ++ y) q.has_bytes) ∙ sym (append_assoc (command x) (flat_map command q.commands) q.tail);
-  are_commands = (is, q.are_commands);
-  in_frame = λ ram. absurd (let clash : true ≡ false = sym machine ∙ ram in cc);
-  rest = q.rest;
-}
+pub command_back : (to c : StreamProgress) (x : Command) (tail bytes : List ℕ) → is_machine c.frame ≡ true → IsCommand x → (is_addressed c.form && is_advise x) ≡ false → bytes ≡ command_bytes x ++ tail
+    → RestOfCommands to (record c { form = cond (is_advise x) Sized c.form }) tail → RestOfCommands to c (command_type ∷ bytes)
+command_back to c x tail bytes machine is fits e q =
+    let others : Bool = list_any is_advise q.commands in
+    record {
+      commands = x ∷ q.commands;
+      tail = q.tail;
+      has_bytes = ap (λ (y : List ℕ). command_type ∷ y) (e ∙ ap (λ (y : List ℕ). command_bytes x ++ y) q.has_bytes) ∙ sym (append_assoc (command x) (flat_map command q.commands) q.tail);
+      are_commands = (is, q.are_commands);
+      in_frame = λ ram. absurd (let clash : true ≡ false = sym machine ∙ ram in cc);
+      is_one_form = λ addressed.
+          let isnt : is_advise x ≡ false = fits_apart (is_addressed c.form) (is_advise x) fits addressed in
+          ap (λ (b : Bool). b || others) isnt ∙ q.is_one_form (ap (λ (b : Bool). is_addressed (cond b Sized c.form)) isnt ∙ addressed);
+      rest = subst (λ (form : EntryForm). RestOfStart [] to (record c { form = form }) q.tail) (twice (is_advise x) others Sized c.form) q.rest;
+    }
 
 -- ---- configurations
 
@@ -139,7 +157,14 @@ pub no_subsections_back : (to c : StreamProgress) (bytes : List ℕ) → RestOfC
 no_subsections_back to c bytes r = record { subsections = []; tail = bytes; has_bytes = refl; are_bodies = tt; in_frame = λ ram. refl; rest = r }
 
 pub configured_at : (to c : StreamProgress) (d : Due) (bytes : List ℕ) → RestOfConfigured to (record c { due = d }) bytes → RestOfConfigured to c bytes
-configured_at to c d bytes r = record { subsections = r.subsections; tail = r.tail; has_bytes = r.has_bytes; are_bodies = r.are_bodies; in_frame = r.in_frame; rest = commands_at to c d r.tail r.rest }
+configured_at to c d bytes r = record {
+  subsections = r.subsections;
+  tail = r.tail;
+  has_bytes = r.has_bytes;
+  are_bodies = r.are_bodies;
+  in_frame = r.in_frame;
+  rest = commands_at to (record c { form = cond (list_any names_shared r.subsections) Addressed c.form }) d r.tail r.rest;
+}
 
 -- what a subsection holds, in front of others
 pub record RestOfBodyOf (to c : StreamProgress) (kind : Subsection) (bytes : List ℕ) : Type 0 where
@@ -148,7 +173,7 @@ pub record RestOfBodyOf (to c : StreamProgress) (kind : Subsection) (bytes : Lis
   pub tail : List ℕ
   pub has_bytes : bytes ≡ body_bytes held ++ tail
   pub is_body : IsSubsectionBody c.page_size held
-  pub rest : RestOfConfigured to c tail
+  pub rest : RestOfConfigured to (record c { form = cond (names_shared held) Addressed c.form }) tail
 
 -- a subsection after its type byte
 pub record RestOfSubsection (to c : StreamProgress) (bytes : List ℕ) : Type 0 where
@@ -156,10 +181,10 @@ pub record RestOfSubsection (to c : StreamProgress) (bytes : List ℕ) : Type 0 
   pub tail : List ℕ
   pub has_bytes : bytes ≡ subsection_head (kind_of held) ++ body_bytes held ++ tail
   pub is_body : IsSubsectionBody c.page_size held
-  pub rest : RestOfConfigured to c tail
+  pub rest : RestOfConfigured to (record c { form = cond (names_shared held) Addressed c.form }) tail
 
 pub subsection_at : (to c : StreamProgress) (d : Due) (bytes : List ℕ) → RestOfSubsection to (record c { due = d }) bytes → RestOfSubsection to c bytes
-subsection_at to c d bytes r = record { held = r.held; tail = r.tail; has_bytes = r.has_bytes; is_body = r.is_body; rest = configured_at to c d r.tail r.rest }
+subsection_at to c d bytes r = record { held = r.held; tail = r.tail; has_bytes = r.has_bytes; is_body = r.is_body; rest = configured_at to (record c { form = cond (names_shared r.held) Addressed c.form }) d r.tail r.rest }
 
 -- the names of this many capabilities
 pub record RestOfNames (to c : StreamProgress) (n : ℕ) (bytes : List ℕ) : Type 0 where
@@ -168,7 +193,7 @@ pub record RestOfNames (to c : StreamProgress) (n : ℕ) (bytes : List ℕ) : Ty
   pub tail : List ℕ
   pub has_bytes : bytes ≡ flat_map counted names ++ tail
   pub are_capabilities : AllByRecursion IsCapability names
-  pub rest : RestOfConfigured to c tail
+  pub rest : RestOfConfigured to (record c { form = cond (ignore_shared_in names) Addressed c.form }) tail
 
 -- a subsection in front of others
 pub subsection_back : (to c : StreamProgress) (bytes : List ℕ) → is_machine c.frame ≡ true → RestOfSubsection to c bytes → RestOfConfigured to c (subsection_type ∷ bytes)
@@ -182,7 +207,7 @@ subsection_back to c bytes machine r =
           ∙ regroup_subsection (subsection_head (kind_of h)) (body_bytes h) (flat_map subsection q.subsections) q.tail subsection_type;
       are_bodies = (r.is_body, q.are_bodies);
       in_frame = λ ram. absurd (let clash : true ≡ false = sym machine ∙ ram in cc);
-      rest = q.rest;
+      rest = subst (λ (form : EntryForm). RestOfCommands to (record c { form = form }) q.tail) (twice (names_shared h) (list_any names_shared q.subsections) Addressed c.form) q.rest;
     }
   where
     regroup_subsection : (head held others tail : List ℕ) (kind : ℕ) → kind ∷ ((head ++ held) ++ (others ++ tail)) ≡ ((kind ∷ (head ++ held)) ++ others) ++ tail
@@ -220,7 +245,7 @@ configuration_back to c bytes r =
           ∙ regroup_configuration (be32 (length r.name)) r.name (flat_map subsection q.subsections) q.tail configuration_type;
       has_machine = record { has_name = r.has_length; are_bodies = q.are_bodies };
       in_frame = q.in_frame;
-      rest = commands_at to c (TypeByte before.Configuration) q.tail q.rest;
+      rest = commands_at to (record c { form = cond (list_any names_shared q.subsections) Addressed c.form }) (TypeByte before.Configuration) q.tail q.rest;
     }
   where
     regroup_configuration : (len name others tail : List ℕ) (kind : ℕ) → kind ∷ (len ++ (name ++ (others ++ tail))) ≡ ((kind ∷ (len ++ name)) ++ others) ++ tail

@@ -3,7 +3,7 @@
 use Rattle.std.proofs.Common.{◌≡◌, ℕ, ◌+◌, ◌-◌, ◌^◌, ◌<◌, ◌≤◌, List, ◌∷◌, ◌++◌, length, get_or, drop, refl, sym, ap, ◌∙◌, inl, inr, arith}
 use Rattle.std.specs.Prelude.{slice_range}
 use Rattle.std.specs.Int.{w32, w64, to_be_bytes, from_be_bytes}
-use Rattle.std.proofs.lemmas.List.{append-nil, length-take-le, length-drop, get_or-take, get_or-drop, get_or_past, drop_more, drop_all}
+use Rattle.std.proofs.lemmas.List.{append-nil, length-take-le, length-drop, get_or-take, get_or-drop, get_or_past, drop_more, drop_all, take_all}
 use Rattle.std.proofs.lemmas.List.Folds.{drop_split}
 use Rattle.std.proofs.lemmas.Nat.{be_bytes_4, be_bytes_8}
 use Rattle.std.proofs.lemmas.Bool.{cases_lt}
@@ -16,7 +16,7 @@ use Rattle.mig_stream.proofs.FoundFields.{IsBytes}
 -- ---- parts of an item
 
 -- how long a part is
-length_slice : (item : List ℕ) (at n : ℕ) → at + n ≤ length item → length (slice_range item at (at + n)) ≡ n
+pub length_slice : (item : List ℕ) (at n : ℕ) → at + n ≤ length item → length (slice_range item at (at + n)) ≡ n
 length_slice item at n le = length-take-le (at + n - at) (drop at item) (omega (arith, length-drop at item)) ∙ omega arith
 
 -- a part of bytes is bytes
@@ -45,6 +45,17 @@ small_number bytes all = omega (arith, all 0, all 1, all 2, all 3)
 pub be32_small : (item : List ℕ) → 4 ≤ length item → IsBytes item → be32_at 0 item < 2 ^ 32
 unfolding be32_at
 be32_small item le all = small_number (slice_range item 0 4) (bytes_of_slice item 0 4 le all)
+
+-- a number of eight bytes whose first is 0 is below 2^56
+small_rest : (bytes : List ℕ) → IsBytes bytes → get_or bytes 0 0 ≡ 0 → from_be_bytes w64 bytes < 2 ^ 56
+small_rest bytes all none = omega (arith, none, all 1, all 2, all 3, all 4, all 5, all 6, all 7)
+
+pub be64_small : (item : List ℕ) → length item ≡ 8 → IsBytes item → get_or item 0 0 ≡ 0 → be64_at 0 item < 2 ^ 56
+unfolding be64_at
+be64_small item len all none =
+    let is : from_be_bytes w64 (slice_range item 0 8) ≡ from_be_bytes w64 item = ap (from_be_bytes w64) (take_all 8 item (omega arith)) in
+    let small : from_be_bytes w64 item < 2 ^ 56 = small_rest item all none in
+    omega (arith, is, small)
 
 -- what is left of an item from a place on, before and after a number
 be32_next : (item : List ℕ) (at : ℕ) → at + 4 ≤ length item → IsBytes item → drop at item ≡ be32 (be32_at at item) ++ drop (at + 4) item

@@ -1,20 +1,20 @@
 -- What an item that is passed over is, if its tests have found no fault.
 use Rattle.std.proofs.Common.{◌≡◌, ℕ, ◌+◌, ◌*◌, ◌/◌, ◌%◌, ◌^◌, ◌<◌, Bool, true, false, not, cond, eqb, List, [], ◌∷◌, ◌++◌, length, get_or, Option, Some, None, refl, sym, ap, subst, ◌∙◌, arith}
-use Rattle.std.specs.Prelude.{is_none, ◌||◌}
+use Rattle.std.specs.Prelude.{is_none, ◌||◌, ◌&&◌}
 use Rattle.std.specs.Str.{bytes_eq}
-use Rattle.std.specs.List.{list_any}
 use Rattle.std.proofs.lemmas.Slice.Eq.{bytes_eq-Decides}
-use Rattle.std.proofs.lemmas.Bool.{not-false, eqb-true}
+use Rattle.std.proofs.lemmas.Bool.{not-false, eqb-true, or_parts}
 use Rattle.mig_stream.specs.declared.item.Before.{Before}
 use Rattle.mig_stream.specs.declared.item.Subsection.{Subsection}
 use Rattle.mig_stream.specs.declared.item.Subsection.TheVariants as kinds
+use Rattle.mig_stream.specs.declared.item.EntryForm.{EntryForm}
 use Rattle.mig_stream.specs.declared.item.PassedItem.TheVariants as pass
 use Rattle.mig_stream.specs.declared.fault.StreamFault.TheVariants as fault
 use Rattle.mig_stream.specs.Fields.{be16, be32, counted, be16_at, be32_at}
-use Rattle.mig_stream.specs.Format.{subsection_name, subsection_version, layout_capabilities}
+use Rattle.mig_stream.specs.Format.{subsection_name, subsection_version, mapped_ram}
 use Rattle.mig_mem.specs.First.{first_of}
-use Rattle.mig_stream.specs.Items.{id_in, subsection_of, is_passed_command, subsection_faults, passed_faults}
-use Rattle.mig_stream.specs.Machine.{Command, command_bytes, IsCommand, IsCapability, subsection_head}
+use Rattle.mig_stream.specs.Items.{id_in, subsection_of, is_passed_command, allows_postcopy, is_before_start, advises, is_addressed, subsection_faults, passed_faults}
+use Rattle.mig_stream.specs.Machine.{Command, command_bytes, IsCommand, is_advise, IsCapability, subsection_head}
 use Rattle.mig_stream.proofs.FoundFields.{IsBytes, passed, counted_found}
 use Rattle.mig_stream.proofs.FoundParts.{head_named}
 
@@ -27,26 +27,34 @@ be16_found a b fits_a fits_b =
     let low : (a * 0x100 + b) % 0x100 ≡ b = omega (arith, fits_a, fits_b) in
     ap (λ (x : ℕ). x ∷ (a * 0x100 + b) % 0x100 ∷ []) high ∙ ap (λ (x : ℕ). a ∷ x ∷ []) low
 
--- a COMMAND that is spelled by an item
-pub record CommandIn (item : List ℕ) : Type 0 where
+-- a COMMAND that is spelled by an item, and fits the form of the size list
+pub record CommandIn (form : EntryForm) (b : Before) (item : List ℕ) : Type 0 where
   pub command_is : Command
   pub has_bytes : item ≡ command_bytes command_is
   pub is_command : IsCommand command_is
+  pub is_told : advises b item ≡ (is_before_start b && is_advise command_is)
+  pub fits : (is_addressed form && (is_before_start b && is_advise command_is)) ≡ false
 
-pub command_found : (p : ℕ) (b : Before) (item : List ℕ) → length item ≡ 4 + be16_at 2 item → IsBytes item → first_of (passed_faults p (pass.Command b) item) ≡ None → CommandIn item
-command_found p before [] len all free = absurd (omega (arith, len))
-command_found p before (a ∷ []) len all free = absurd (omega (arith, len))
-command_found p before (a ∷ b ∷ []) len all free = absurd (omega (arith, len))
-command_found p before (a ∷ b ∷ x ∷ []) len all free = absurd (omega (arith, len))
-command_found p before (a ∷ b ∷ x ∷ y ∷ carried) len all free =
+pub command_found : (p : ℕ) (form : EntryForm) (b : Before) (item : List ℕ) → length item ≡ 4 + be16_at 2 item → IsBytes item → first_of (passed_faults p form (pass.Command b) item) ≡ None → CommandIn form b item
+command_found p form before [] len all free = absurd (omega (arith, len))
+command_found p form before (a ∷ []) len all free = absurd (omega (arith, len))
+command_found p form before (a ∷ b ∷ []) len all free = absurd (omega (arith, len))
+command_found p form before (a ∷ b ∷ x ∷ []) len all free = absurd (omega (arith, len))
+command_found p form before (a ∷ b ∷ x ∷ y ∷ carried) len all free =
+    let item : List ℕ = a ∷ b ∷ x ∷ y ∷ carried in
     let known : Bool = is_passed_command (a * 0x100 + b) in
     let n : length carried ≡ x * 0x100 + y = omega (arith, len) in
     let first : be16 (a * 0x100 + b) ≡ a ∷ b ∷ [] = be16_found a b (all 0) (all 1) in
     let second : be16 (length carried) ≡ x ∷ y ∷ [] = ap be16 n ∙ be16_found x y (all 2) (all 3) in
+    let told : advises before item ≡ (is_before_start before && allows_postcopy (a * 0x100 + b) (length carried)) =
+    ap (λ (k : ℕ). is_before_start before && allows_postcopy (a * 0x100 + b) k) (sym n) in
+    let tests = or_parts (not known) (is_addressed form && advises before item) (passed (not known || (is_addressed form && advises before item)) fault.Command [] free).0 in
     record {
       command_is = record { number = a * 0x100 + b; carried = carried };
       has_bytes = sym (ap (λ (u : List ℕ). u ++ be16 (length carried) ++ carried) first ∙ ap (λ (u : List ℕ). (a ∷ b ∷ []) ++ u ++ carried) second);
-      is_command = record { has_number = not-false known (passed (not known) fault.Command [] free).0; has_length = omega (arith, n, all 2, all 3) };
+      is_command = record { has_number = not-false known tests.0; has_length = omega (arith, n, all 2, all 3) };
+      is_told = told;
+      fits = ap (λ (t : Bool). is_addressed form && t) (sym told) ∙ tests.1;
     }
 
 -- ---- subsections
@@ -90,17 +98,17 @@ head_found item len all free =
     }
 
 -- the bits of a page's offset, which are those of the page size
-pub bits_found : (p : ℕ) (item : List ℕ) → first_of (passed_faults p (pass.SubsectionBody kinds.PageBits) item) ≡ None → 2 ^ be32_at 0 item ≡ p
-bits_found p item free = let same : Bool = eqb (2 ^ be32_at 0 item) p in eqb-true _ _ (not-false same (passed (not same) fault.PageBits [] free).0)
+pub bits_found : (p : ℕ) (form : EntryForm) (item : List ℕ) → first_of (passed_faults p form (pass.SubsectionBody kinds.PageBits) item) ≡ None → 2 ^ be32_at 0 item ≡ p
+bits_found p form item free = let same : Bool = eqb (2 ^ be32_at 0 item) p in eqb-true _ _ (not-false same (passed (not same) fault.PageBits [] free).0)
 
 -- ---- capabilities
 
-pub capability_found : (p n : ℕ) (item : List ℕ) → length item ≡ 1 + get_or item 0 0 → IsBytes item → first_of (passed_faults p (pass.Capability n) item) ≡ None → (item ≡ counted (id_in item)) × IsCapability (id_in item)
-capability_found p n item len all free =
+pub capability_found : (p : ℕ) (form : EntryForm) (n : ℕ) (item : List ℕ) → length item ≡ 1 + get_or item 0 0 → IsBytes item → first_of (passed_faults p form (pass.Capability n) item) ≡ None → (item ≡ counted (id_in item)) × IsCapability (id_in item)
+capability_found p form n item len all free =
     let is : item ≡ counted (id_in item) = counted_found item len in (
       is,
       record {
         has_length = subst (λ (x : ℕ). x < 256) (ap (λ (x : List ℕ). get_or x 0 0) is) (all 0);
-        keeps_layout = (passed (list_any (λ name. bytes_eq (id_in item) name) layout_capabilities) fault.Capability [] free).0;
+        isnt_mapped = (passed (bytes_eq (id_in item) mapped_ram) fault.Capability [] free).0;
       },
     )

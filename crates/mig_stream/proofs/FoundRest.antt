@@ -1,19 +1,21 @@
 -- What is left of a stream from each kind of item on.
-use Rattle.std.proofs.Common.{◌≡◌, ℕ, ◌+◌, false, List, [], ◌∷◌, ◌++◌, Some, None}
+use Rattle.std.proofs.Common.{◌≡◌, ℕ, ◌+◌, false, cond, List, [], ◌∷◌, ◌++◌, Some, None}
+use Rattle.std.specs.Prelude.{◌&&◌}
 use Rattle.mig_stream.specs.declared.item.Before.{Before}
 use Rattle.mig_stream.specs.declared.item.Before.TheVariants as before
 use Rattle.mig_stream.specs.declared.item.Section.TheVariants as section
+use Rattle.mig_stream.specs.declared.item.EntryForm.TheVariants.{Addressed, Sized}
 use Rattle.mig_stream.specs.declared.item.PassedItem.{PassedItem}
 use Rattle.mig_stream.specs.declared.item.PassedItem.TheVariants as pass
 use Rattle.mig_stream.specs.declared.item.Due.{Due}
-use Rattle.mig_stream.specs.declared.item.Due.TheVariants.{FileHeader, TypeByte, ConfigLength, ConfigName, StartHead, SectionHead, RecordHead, ListEntry, BlockName, Content, Footer, Passed, Nothing}
+use Rattle.mig_stream.specs.declared.item.Due.TheVariants.{FileHeader, TypeByte, ConfigLength, ConfigName, StartHead, SectionHead, RecordHead, ListEntry, PageSize, BlockName, Content, Footer, Passed, Nothing}
 use Rattle.mig_stream.specs.Format.{section_type}
-use Rattle.mig_stream.specs.Items.{is_machine}
-use Rattle.mig_stream.specs.Machine.{Command, command_bytes, IsCommand}
+use Rattle.mig_stream.specs.Items.{is_machine, is_before_start, is_addressed}
+use Rattle.mig_stream.specs.Machine.{Command, command_bytes, IsCommand, is_advise}
 use Rattle.mig_stream.specs.Progress.{StreamProgress, whole_table}
 use Rattle.mig_stream.proofs.FoundPages.{RestOfBody, RestOfPage, RestOfName}
 use Rattle.mig_stream.proofs.FoundSections.{RestOfFooter, RestOfSection}
-use Rattle.mig_stream.proofs.FoundList.{RestOfEntries, RestOfList}
+use Rattle.mig_stream.proofs.FoundList.{RestOfEntries, RestOfTail, RestOfList}
 use Rattle.mig_stream.proofs.FoundTail.{RestOfEnd, RestOfParts, Behind}
 use Rattle.mig_stream.proofs.FoundOpening.{RestOfStart, RestOfCommands, RestOfConfigured, RestOfBodyOf, RestOfSubsection, RestOfNames, RestOfConfigName, RestOfConfigLength, RestOfOpening, RestOfFile}
 
@@ -31,7 +33,8 @@ pub record RestOfCommand (to c : StreamProgress) (b : Before) (bytes : List ℕ)
   pub tail : List ℕ
   pub has_bytes : bytes ≡ command_bytes command_is ++ tail
   pub is_command : IsCommand command_is
-  pub rest : RestAtType to (record c { due = TypeByte b }) b tail
+  pub fits : (is_addressed c.form && (is_before_start b && is_advise command_is)) ≡ false
+  pub rest : RestAtType to (record c { due = TypeByte b; form = cond (is_before_start b && is_advise command_is) Sized c.form }) b tail
 
 -- an item that is passed over, and what stands after it
 abbrev pub RestAtPassed : StreamProgress → StreamProgress → PassedItem → List ℕ → Type 0
@@ -39,6 +42,7 @@ RestAtPassed to c (pass.Command b) bytes = RestOfCommand to c b bytes
 RestAtPassed to c pass.SubsectionHead bytes = c.left ≡ None → RestOfSubsection to c bytes
 RestAtPassed to c (pass.SubsectionBody kind) bytes = c.left ≡ None → RestOfBodyOf to c kind bytes
 RestAtPassed to c (pass.Capability others) bytes = c.left ≡ None → RestOfNames to c (others + 1) bytes
+RestAtPassed to c (pass.Address last) bytes = RestOfTail (Behind to) c Addressed last bytes
 
 -- Each kind says what of the size list must have been read before it: nothing, or all of it.
 abbrev pub RestAt : StreamProgress → StreamProgress → Due → List ℕ → Type 0
@@ -50,6 +54,7 @@ RestAt to c StartHead bytes = c.left ≡ None → c.section ≡ section.Start �
 RestAt to c SectionHead bytes = c.left ≡ Some 0 → RestOfSection (Behind to) c bytes
 RestAt to c RecordHead bytes = (c.left ≡ None → RestOfList (Behind to) c bytes) × (c.left ≡ Some 0 → RestOfBody (Behind to) c bytes)
 RestAt to c ListEntry bytes = RestOfEntries (Behind to) c bytes
+RestAt to c (PageSize last) bytes = RestOfTail (Behind to) c Sized last bytes
 RestAt to c (BlockName f page) bytes = c.left ≡ Some 0 → RestOfName (Behind to) c f page bytes
 RestAt to c (Content f place) bytes = c.left ≡ Some 0 → RestOfPage (Behind to) c f place bytes
 RestAt to c Footer bytes = c.left ≡ Some 0 → RestOfFooter (Behind to) c bytes

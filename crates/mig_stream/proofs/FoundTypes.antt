@@ -5,6 +5,7 @@ use Rattle.std.proofs.lemmas.Bool.{not-false, eqb-true, or_cases, and_parts}
 use Rattle.mig_stream.specs.declared.item.Before.{Before}
 use Rattle.mig_stream.specs.declared.item.Before.TheVariants as before
 use Rattle.mig_stream.specs.declared.item.Section.TheVariants as section
+use Rattle.mig_stream.specs.declared.item.EntryForm.TheVariants.{Sized}
 use Rattle.mig_stream.specs.declared.item.PassedItem.TheVariants as pass
 use Rattle.mig_stream.specs.declared.item.Due.TheVariants.{TypeByte, Passed}
 use Rattle.mig_stream.specs.declared.fault.StreamFault.TheVariants as fault
@@ -12,9 +13,10 @@ use Rattle.mig_stream.specs.Format.{end_byte, section_type, command_type, subsec
 use Rattle.mig_stream.specs.Progress.{StreamProgress}
 use Rattle.mig_mem.specs.First.{first_of}
 use Rattle.mig_stream.specs.Items.{is_single, is_allowed, is_machine, may_pass, is_passed, behind_command, passed_by, faults, after_type, after_type_byte}
+use Rattle.mig_stream.specs.Machine.{is_advise}
 use Rattle.mig_stream.proofs.FoundFields.{passed}
 use Rattle.mig_stream.proofs.FoundTail.{ending, part_back, last_back, parts_at, command_back, no_tail_found}
-use Rattle.mig_stream.proofs.FoundOpening.{start_type_back, no_commands_back, commands_at, no_subsections_back, subsection_at, subsection_back, configuration_back, no_configuration_back}
+use Rattle.mig_stream.proofs.FoundOpening.{RestOfCommands, start_type_back, no_commands_back, commands_at, no_subsections_back, subsection_at, subsection_back, configuration_back, no_configuration_back}
 use Rattle.mig_stream.proofs.FoundOpening as opening
 use Rattle.mig_stream.proofs.FoundRest.{RestOfCommand, RestAt, RestAtType, RestFrom}
 
@@ -79,15 +81,20 @@ byte_back to c before.LastFooter byte bytes ok free r =
 
 -- ---- a byte that is passed over
 
+-- what follows a COMMAND before START
+early_rest : (to c : StreamProgress) (bytes : List ℕ) → (r : RestOfCommand to (record c { due = Passed (pass.Command before.Command) }) before.Command bytes) → c.left ≡ None
+    → RestOfCommands to (record c { form = cond (is_advise r.command_is) Sized c.form }) r.tail
+early_rest to c bytes r none = commands_at to (record c { form = cond (is_advise r.command_is) Sized c.form }) (TypeByte before.Command) r.tail (r.rest none)
+
 -- that of a COMMAND, in front of the COMMAND
 command_type_back : (to c : StreamProgress) (b : Before) (bytes : List ℕ) → may_pass b command_type ≡ true → is_machine c.frame ≡ true → RestOfCommand to (record c { due = Passed (pass.Command (behind_command b)) }) (behind_command b) bytes
     → RestAtType to c b (command_type ∷ bytes)
 command_type_back to c before.FileHeader bytes may machine r =
-    λ none. no_configuration_back to c (command_type ∷ bytes) (opening.command_back to c r.command_is r.tail bytes machine r.is_command r.has_bytes (commands_at to c (TypeByte before.Command) r.tail (r.rest none)))
+    λ none. no_configuration_back to c (command_type ∷ bytes) (opening.command_back to c r.command_is r.tail bytes machine r.is_command r.fits r.has_bytes (early_rest to c bytes r none))
 command_type_back to c before.Configuration bytes may machine r =
-    λ none. no_subsections_back to c (command_type ∷ bytes) (opening.command_back to c r.command_is r.tail bytes machine r.is_command r.has_bytes (commands_at to c (TypeByte before.Command) r.tail (r.rest none)))
+    λ none. no_subsections_back to c (command_type ∷ bytes) (opening.command_back to c r.command_is r.tail bytes machine r.is_command r.fits r.has_bytes (early_rest to c bytes r none))
 command_type_back to c before.Command bytes may machine r =
-    λ none. opening.command_back to c r.command_is r.tail bytes machine r.is_command r.has_bytes (commands_at to c (TypeByte before.Command) r.tail (r.rest none))
+    λ none. opening.command_back to c r.command_is r.tail bytes machine r.is_command r.fits r.has_bytes (early_rest to c bytes r none)
 command_type_back to c before.Footer bytes may machine r =
     λ used. command_back to c r.command_is r.tail bytes machine r.is_command r.has_bytes (parts_at to c (TypeByte before.Footer) r.tail (r.rest used))
 command_type_back to c before.LastFooter bytes may machine r = absurd cc

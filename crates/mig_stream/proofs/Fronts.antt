@@ -1,16 +1,17 @@
 -- Items one after another.
-use Rattle.std.proofs.Common.{◌≡◌, ◌≢◌, ℕ, ◌+◌, ◌<◌, ◌≤◌, List, [], ◌∷◌, ◌++◌, length, get_or, take, drop, None, Some, refl, sym, ap, subst, ◌∙◌, append_assoc, arith}
+use Rattle.std.proofs.Common.{◌≡◌, ◌≢◌, ℕ, ◌+◌, ◌<◌, ◌≤◌, true, false, cond, eqb, List, [], ◌∷◌, ◌++◌, length, get_or, take, drop, None, Some, refl, sym, ap, subst, ◌∙◌, append_assoc, arith}
 use Rattle.std.specs.List.{concat}
 use Rattle.std.proofs.lemmas.List.{append-nil, length-take, get_or-take, take-append-drop, length-append, get_or_append_left}
 use Rattle.std.proofs.lemmas.List.Folds.{concat-append}
+use Rattle.std.proofs.lemmas.Bool.{cond_both}
 use Rattle.mig_stream.specs.declared.fault.StreamFault.{StreamFault}
 use Rattle.mig_stream.specs.declared.item.StreamState.TheVariants.{Bad}
 use Rattle.mig_stream.specs.declared.item.Filling.TheVariants.{Zero, Normal}
 use Rattle.mig_stream.specs.declared.item.PassedItem.{PassedItem}
-use Rattle.mig_stream.specs.declared.item.PassedItem.TheVariants.{Command, SubsectionHead, SubsectionBody, Capability}
+use Rattle.mig_stream.specs.declared.item.PassedItem.TheVariants.{Command, SubsectionHead, SubsectionBody, Capability, Address}
 use Rattle.mig_stream.specs.declared.item.Subsection.TheVariants.{PageBits, Uuid, Capabilities}
 use Rattle.mig_stream.specs.declared.item.Due.{Due}
-use Rattle.mig_stream.specs.declared.item.Due.TheVariants.{FileHeader, TypeByte, ConfigLength, ConfigName, StartHead, SectionHead, RecordHead, ListEntry, BlockName, Content, Footer, Passed, Nothing}
+use Rattle.mig_stream.specs.declared.item.Due.TheVariants.{FileHeader, TypeByte, ConfigLength, ConfigName, StartHead, SectionHead, RecordHead, ListEntry, PageSize, BlockName, Content, Footer, Passed, Nothing}
 use Rattle.mig_stream.specs.Fields.{be16_at}
 use Rattle.mig_stream.specs.Progress.{StreamProgress}
 use Rattle.mig_stream.specs.Items.{passed_size, size, first_fault, after}
@@ -26,6 +27,7 @@ passed-take (SubsectionBody PageBits) bytes le = refl
 passed-take (SubsectionBody Uuid) bytes le = refl
 passed-take (SubsectionBody Capabilities) bytes le = refl
 passed-take (Capability others) bytes le = ap (λ (n : ℕ). 1 + n) (get_or-take (1 + get_or bytes 0 0) bytes 0 0 (omega arith))
+passed-take (Address last) bytes le = refl
 
 passed-append : (passed : PassedItem) (item more : List ℕ) → length item ≡ passed_size passed item → passed_size passed (item ++ more) ≡ length item
 passed-append (Command before) item more w = omega (arith, w, get_or_append_left item more 0 2 (omega arith), get_or_append_left item more 0 3 (omega arith))
@@ -34,6 +36,14 @@ passed-append (SubsectionBody PageBits) item more w = sym w
 passed-append (SubsectionBody Uuid) item more w = sym w
 passed-append (SubsectionBody Capabilities) item more w = sym w
 passed-append (Capability others) item more w = ap (λ (n : ℕ). 1 + n) (get_or_append_left item more 0 0 (omega arith)) ∙ sym w
+passed-append (Address last) item more w = sym w
+
+-- the length of a page size, or of the entry that is there, by its first byte
+abbrev pub sized : ℕ → ℕ
+sized n = cond (eqb n 0) 8 (9 + n)
+
+pub sized_some : (n : ℕ) → 8 ≤ sized n
+sized_some n = cond_both (eqb n 0) 8 (9 + n) (λ (x : ℕ). 8 ≤ x) (λ _. omega arith) (λ _. omega arith)
 
 -- the length of an item follows from the bytes that it has itself
 pub size-take : (p : ℕ) (d : Due) (bytes : List ℕ) → size p d bytes ≤ length bytes → size p d (take (size p d bytes) bytes) ≡ size p d bytes
@@ -45,6 +55,11 @@ size-take p StartHead bytes le = ap (λ (n : ℕ). 13 + n) (get_or-take (13 + ge
 size-take p SectionHead bytes le = refl
 size-take p RecordHead bytes le = refl
 size-take p ListEntry bytes le = ap (λ (n : ℕ). 9 + n) (get_or-take (9 + get_or bytes 0 0) bytes 0 0 (omega arith))
+size-take p (PageSize true) bytes le = refl
+size-take p (PageSize false) bytes le =
+    let n : ℕ = get_or bytes 0 0 in
+    let some : 8 ≤ sized n = sized_some n in
+    ap sized (get_or-take (sized n) bytes 0 0 (omega (arith, some)))
 size-take p (BlockName f page) bytes le = ap (λ (n : ℕ). 1 + n) (get_or-take (1 + get_or bytes 0 0) bytes 0 0 (omega arith))
 size-take p (Content Zero place) bytes le = refl
 size-take p (Content Normal place) bytes le = refl
@@ -68,6 +83,12 @@ size-append p StartHead item more w = ap (λ (n : ℕ). 13 + n) (get_or_append_l
 size-append p SectionHead item more w = sym w
 size-append p RecordHead item more w = sym w
 size-append p ListEntry item more w = ap (λ (n : ℕ). 9 + n) (get_or_append_left item more 0 0 (omega arith)) ∙ sym w
+size-append p (PageSize true) item more w = sym w
+size-append p (PageSize false) item more w =
+    let n : ℕ = get_or item 0 0 in
+    let whole : length item ≡ sized n = w in
+    let some : 8 ≤ sized n = sized_some n in
+    ap sized (get_or_append_left item more 0 0 (omega (arith, whole, some))) ∙ sym w
 size-append p (BlockName f page) item more w = ap (λ (n : ℕ). 1 + n) (get_or_append_left item more 0 0 (omega arith)) ∙ sym w
 size-append p (Content Zero place) item more w = sym w
 size-append p (Content Normal place) item more w = sym w

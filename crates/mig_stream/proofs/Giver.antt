@@ -13,18 +13,19 @@ use Rattle.mig_stream.specs.declared.item.Mode.{Mode}
 use Rattle.mig_stream.specs.declared.item.Mode.TheVariants.{Single, Main, MainBySection, MainAsShown}
 use Rattle.mig_stream.specs.declared.item.Filling.TheVariants.{Zero, Normal}
 use Rattle.mig_stream.specs.declared.item.Due.{Due}
-use Rattle.mig_stream.specs.declared.item.Due.TheVariants.{FileHeader, TypeByte, ConfigLength, ConfigName, StartHead, SectionHead, RecordHead, ListEntry, BlockName, Content, Footer, Passed, Nothing}
+use Rattle.mig_stream.specs.declared.item.Due.TheVariants.{FileHeader, TypeByte, ConfigLength, ConfigName, StartHead, SectionHead, RecordHead, ListEntry, PageSize, BlockName, Content, Footer, Passed, Nothing}
 use Rattle.mig_stream.specs.declared.item.RecordKind.{RecordKind}
 use Rattle.mig_stream.specs.declared.item.RecordKind.TheVariants.{SizeList, Named, Continued, EndOfSection, Flush}
 use Rattle.mig_stream.specs.declared.item.StreamState.{StreamState}
 use Rattle.mig_stream.specs.declared.item.StreamState.TheVariants.{Reading, Closed, Bad}
 use Rattle.mig_stream.specs.declared.item.Before.{Before}
+use Rattle.mig_stream.specs.declared.fault.StreamFault.{StreamFault}
 use Rattle.mig_stream.specs.declared.fault.StreamFault.TheVariants as fault
 use Rattle.mig_stream.specs.Fields.{be32_at}
 use Rattle.mig_stream.specs.Format.{end_byte, footer_type}
 use Rattle.mig_stream.specs.PageRecord.{PageRecord}
 use Rattle.mig_stream.specs.Progress.{StreamProgress, start, is_used_up, table_of, whole_table}
-use Rattle.mig_stream.specs.Items.{is_single, less_room, is_allowed, is_passed, closes, passed_by, after_type_byte, kind_faults, head_faults, faults, after_type, after_kind, after_head, end_round, open_records, whole_rounds, end_section, after_item, after, eos_records, eos_rounds, end_records, is_start, has_none, flush_mode, flush_ends, flush_rounds, flush_records}
+use Rattle.mig_stream.specs.Items.{is_single, is_page_size, less_room, is_allowed, is_passed, closes, passed_by, after_type_byte, kind_faults, head_faults, faults, after_type, after_kind, after_head, after_record, after_entry, end_round, open_records, whole_rounds, end_section, after_item, after, eos_records, eos_rounds, end_records, is_start, has_none, flush_mode, flush_ends, flush_rounds, flush_records}
 use Rattle.mig_stream.specs.Later.{is_open}
 use Rattle.mig_stream.specs.Reading.{Settings, AreFaultless, after_all, Front, Ends, Reads, StreamReading, IsReading}
 use Rattle.mig_stream.specs.Taking.{HasTakenTo}
@@ -80,6 +81,8 @@ faults-open b c StartHead item single = refl
 faults-open b c SectionHead item single = refl
 faults-open b c RecordHead item single = head_faults-open b c _ _ _
 faults-open b c ListEntry item single = refl
+faults-open b c (PageSize true) item single = ap (λ (t : List (Bool × StreamFault)). cond (is_page_size item) [] t) (head_faults-open b c _ _ _)
+faults-open b c (PageSize false) item single = refl
 faults-open b c (BlockName f page) item single = refl
 faults-open b c (Content Zero place) item single = refl
 faults-open b c (Content Normal place) item single = refl
@@ -126,14 +129,15 @@ end_records-open b c =
     ∙ ap (λ (x : List (List PageRecord)). record (end_records c) { records = records_behind b (eos_rounds c.mode c.rounds c.records) (eos_records c.mode c.records); rounds = x }) (eos_rounds-open b c.mode c.rounds c.records)
 
 -- in a single stream, were it allowed there, a FLUSH would end a round
-single_flush : (c : StreamProgress) → c.mode ≡ Single → flush_records c ≡ end_round c
+single_flush : (c : StreamProgress) → c.mode ≡ Single → flush_records c ≡ record (end_round c) { due = RecordHead }
 single_flush c single =
     let none : Bool = has_none c.records in
-    ap (λ (m : Mode). record c { mode = flush_mode m (is_start c.section) none; room = c.waiting; records = []; rounds = flush_rounds (flush_ends m (is_start c.section) none) c.rounds c.records }) single
-    ∙ ap (λ (m : Mode). record (end_round c) { mode = m }) (sym single)
+    ap (λ (m : Mode). record c { mode = flush_mode m (is_start c.section) none; due = RecordHead; room = c.waiting; records = []; rounds = flush_rounds (flush_ends m (is_start c.section) none) c.rounds c.records }) single
+    ∙ ap (λ (m : Mode). record (end_round c) { mode = m; due = RecordHead }) (sym single)
 
 flush_records-open : (b : List PageRecord) (c : StreamProgress) → c.mode ≡ Single → flush_records (with_open b c) ≡ with_open b (flush_records c)
-flush_records-open b c single = single_flush (with_open b c) single ∙ end_round-open b c ∙ ap (with_open b) (sym (single_flush c single))
+flush_records-open b c single =
+    single_flush (with_open b c) single ∙ ap (λ (x : StreamProgress). record x { due = RecordHead }) (end_round-open b c) ∙ ap (with_open b) (sym (single_flush c single))
 
 after_kind-open : (b : List PageRecord) (c : StreamProgress) (k : RecordKind) (page : ℕ) → c.mode ≡ Single → after_kind (with_open b c) k page ≡ with_open b (after_kind c k page)
 after_kind-open b c SizeList page single = refl
@@ -191,6 +195,10 @@ after_item-open b c StartHead item single = refl
 after_item-open b c SectionHead item single = refl
 after_item-open b c RecordHead item single = after_head-open b c _ _ single
 after_item-open b c ListEntry item single = refl
+after_item-open b c (PageSize true) item single =
+    ap (λ (x : StreamProgress). cond (is_page_size item) (with_open b (record c { due = RecordHead })) x) (after_head-open b c _ _ single)
+    ∙ sym (choice (with_open b) (is_page_size item) (record c { due = RecordHead }) (after_record c item))
+after_item-open b c (PageSize false) item single = sym (choice (with_open b) (is_page_size item) (record c { due = ListEntry }) (after_entry c item))
 after_item-open b c (BlockName f page) item single = refl
 after_item-open b c (Content Zero place) item single = with_record-open b c (record { place = place; content = None })
 after_item-open b c (Content Normal place) item single = with_record-open b c (record { place = place; content = Some item })

@@ -6,15 +6,16 @@ use Rattle.mig_stream.specs.declared.item.Mode.TheVariants.{Single, Main, MainBy
 use Rattle.mig_stream.specs.declared.item.Filling.TheVariants.{Zero, Normal}
 use Rattle.mig_stream.specs.declared.item.Before.{Before}
 use Rattle.mig_stream.specs.declared.item.Due.{Due}
-use Rattle.mig_stream.specs.declared.item.Due.TheVariants.{FileHeader, TypeByte, ConfigLength, ConfigName, StartHead, SectionHead, RecordHead, ListEntry, BlockName, Content, Footer, Passed, Nothing}
+use Rattle.mig_stream.specs.declared.item.Due.TheVariants.{FileHeader, TypeByte, ConfigLength, ConfigName, StartHead, SectionHead, RecordHead, ListEntry, PageSize, BlockName, Content, Footer, Passed, Nothing}
 use Rattle.mig_stream.specs.declared.item.RecordKind.{RecordKind}
 use Rattle.mig_stream.specs.declared.item.RecordKind.TheVariants.{SizeList, Named, Continued, EndOfSection, Flush}
 use Rattle.mig_stream.specs.declared.item.StreamState.{StreamState}
 use Rattle.mig_stream.specs.declared.item.StreamState.TheVariants.{Reading, Closed, Bad}
+use Rattle.mig_stream.specs.declared.fault.StreamFault.{StreamFault}
 use Rattle.mig_stream.specs.PageRecord.{PageRecord}
 use Rattle.mig_stream.specs.Progress.{StreamProgress}
 use Rattle.mig_mem.specs.First.{first_of}
-use Rattle.mig_stream.specs.Items.{is_passed, passed_by, after_type_byte, kind_faults, head_faults, faults, after_type, after_kind, after_head, is_start, has_none, flush_ends, flush_rounds, flush_records, whole_rounds, end_section, after_item, after, eos_rounds, end_records}
+use Rattle.mig_stream.specs.Items.{is_page_size, is_passed, passed_by, after_type_byte, kind_faults, head_faults, faults, after_type, after_kind, after_head, after_record, after_entry, is_start, has_none, flush_ends, flush_rounds, flush_records, whole_rounds, end_section, after_item, after, eos_rounds, end_records}
 use Rattle.mig_stream.specs.Reading.{AreFaultless, after_all, Front, Ends, Reads}
 use Rattle.mig_stream.specs.Reader.{with_taken}
 use Rattle.mig_stream.proofs.Fronts.{Front-append}
@@ -41,6 +42,8 @@ faults-taken g c StartHead item = refl
 faults-taken g c SectionHead item = refl
 faults-taken g c RecordHead item = head_faults-taken g c _ _ _
 faults-taken g c ListEntry item = refl
+faults-taken g c (PageSize true) item = ap (λ (t : List (Bool × StreamFault)). cond (is_page_size item) [] t) (head_faults-taken g c _ _ _)
+faults-taken g c (PageSize false) item = refl
 faults-taken g c (BlockName f page) item = refl
 faults-taken g c (Content Zero place) item = refl
 faults-taken g c (Content Normal place) item = refl
@@ -101,6 +104,10 @@ after_item-taken g c StartHead item = refl
 after_item-taken g c SectionHead item = refl
 after_item-taken g c RecordHead item = after_head-taken g c _ _
 after_item-taken g c ListEntry item = refl
+after_item-taken g c (PageSize true) item =
+    ap (λ (x : StreamProgress). cond (is_page_size item) (with_taken g (record c { due = RecordHead })) x) (after_head-taken g c _ _)
+    ∙ sym (choice (with_taken g) (is_page_size item) (record c { due = RecordHead }) (after_record c item))
+after_item-taken g c (PageSize false) item = sym (choice (with_taken g) (is_page_size item) (record c { due = ListEntry }) (after_entry c item))
 after_item-taken g c (BlockName f page) item = refl
 after_item-taken g c (Content Zero place) item = refl
 after_item-taken g c (Content Normal place) item = refl

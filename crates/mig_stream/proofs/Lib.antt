@@ -7,6 +7,8 @@ pub mod SectionRounds
 pub mod WrittenText
 pub mod WrittenPages
 pub mod Exists
+pub mod Tails
+pub mod NoPageSize
 pub mod SpelledItems
 pub mod SpelledRecords
 pub mod SpelledList

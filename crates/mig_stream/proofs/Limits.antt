@@ -1,5 +1,5 @@
 -- What a reading keeps to: few rounds, none before the table, and the page size.
-use Rattle.std.proofs.Common.{◌≡◌, eqb, ℕ, ◌+◌, ◌-◌, ◌≤◌, ◌==◌, Bool, true, false, cond, List, [], ◌∷◌, length, Option, Some, None, refl, sym, ap, subst, ◌∙◌, arith}
+use Rattle.std.proofs.Common.{◌≡◌, eqb, ℕ, ◌+◌, ◌-◌, ◌≤◌, ◌==◌, Bool, true, false, List, [], ◌∷◌, length, Option, Some, None, refl, sym, ap, subst, ◌∙◌, arith}
 use Rattle.std.specs.Prelude.{is_none, is_some, slice_index, ⊤}
 use Rattle.std.specs.Bool.{then_some}
 use Rattle.std.specs.List.{concat}
@@ -15,11 +15,13 @@ use Rattle.mig_stream.specs.declared.item.Filling.{Filling}
 use Rattle.mig_stream.specs.declared.item.Filling.TheVariants.{Zero, Normal}
 use Rattle.mig_stream.specs.declared.item.Before.{Before}
 use Rattle.mig_stream.specs.declared.item.PassedItem.{PassedItem}
-use Rattle.mig_stream.specs.declared.item.PassedItem.TheVariants.{Command, SubsectionHead, SubsectionBody, Capability}
+use Rattle.mig_stream.specs.declared.item.PassedItem.TheVariants.{Command, SubsectionHead, SubsectionBody, Capability, Address}
 use Rattle.mig_stream.specs.declared.item.Subsection.{Subsection}
 use Rattle.mig_stream.specs.declared.item.Subsection.TheVariants.{PageBits, Uuid, Capabilities}
+use Rattle.mig_stream.specs.declared.item.EntryForm.{EntryForm}
+use Rattle.mig_stream.specs.declared.item.EntryForm.TheVariants.{Plain, Addressed, Sized}
 use Rattle.mig_stream.specs.declared.item.Due.{Due}
-use Rattle.mig_stream.specs.declared.item.Due.TheVariants.{FileHeader, TypeByte, ConfigLength, ConfigName, StartHead, SectionHead, RecordHead, ListEntry, BlockName, Content, Footer, Passed, Nothing}
+use Rattle.mig_stream.specs.declared.item.Due.TheVariants.{FileHeader, TypeByte, ConfigLength, ConfigName, StartHead, SectionHead, RecordHead, ListEntry, PageSize, BlockName, Content, Footer, Passed, Nothing}
 use Rattle.mig_stream.specs.declared.item.RecordKind.{RecordKind}
 use Rattle.mig_stream.specs.declared.item.RecordKind.TheVariants.{SizeList, Named, Continued, EndOfSection, Flush}
 use Rattle.mig_stream.specs.declared.fault.StreamFault.{StreamFault}
@@ -27,10 +29,10 @@ use Rattle.mig_stream.specs.Fields.{be32_at}
 use Rattle.mig_stream.specs.PageRecord.{PageRecord}
 use Rattle.mig_stream.specs.Progress.{StreamProgress, start, is_used_up, table_of, whole_table}
 use Rattle.mig_mem.specs.First.{first_of}
-use Rattle.mig_stream.specs.Items.{id_in, is_passed, passed_by, subsection_of, body_of, capabilities_due, behind_passed, after_type_byte, size, length_in, kind_faults, head_faults, faults, after_type, after_kind, after_head, whole_rounds, after_item, after, eos_rounds, is_start, has_none, flush_ends, flush_rounds}
+use Rattle.mig_stream.specs.Items.{id_in, is_passed, passed_by, subsection_of, body_of, capabilities_due, entry_due, behind_passed, after_type_byte, size, length_in, is_page_size, kind_faults, head_faults, record_faults, faults, after_type, after_kind, after_head, after_entry, whole_rounds, after_item, after, eos_rounds, is_start, has_none, flush_ends, flush_rounds}
 use Rattle.mig_stream.specs.Reading.{AreFaultless, after_all, Front}
 use Rattle.mig_stream.specs.Law.{ReadingsKeepLimits}
-use Rattle.mig_stream.proofs.Steps.{passed, IsLater-front}
+use Rattle.mig_stream.proofs.Steps.{passed, not_size, IsLater-front}
 
 -- ---- no more rounds than bytes
 
@@ -82,6 +84,8 @@ few_item c StartHead item whole = omega arith
 few_item c SectionHead item whole = omega arith
 few_item c RecordHead item whole = few_head c _ _ (length item) (omega arith)
 few_item c ListEntry item whole = omega arith
+few_item c (PageSize true) item whole = cond_both (is_page_size item) _ _ (HasFew c.rounds (length item)) (λ _. omega arith) (λ _. few_head c _ _ (length item) (omega (arith, whole)))
+few_item c (PageSize false) item whole = cond_both (is_page_size item) _ _ (HasFew c.rounds (length item)) (λ _. omega arith) (λ _. omega arith)
 few_item c (BlockName filling page) item whole = omega arith
 few_item c (Content Zero place) item whole = omega arith
 few_item c (Content Normal place) item whole = omega arith
@@ -96,16 +100,19 @@ few_all c (item ∷ items) free =
 
 -- ---- no round and no record before the table
 
--- Before the size list neither a footer is due nor a part of a page record, and in it each item is
--- an entry.
+-- Before the size list neither a footer is due nor a part of a page record. In it each item is an
+-- entry, or follows one that isn't the last.
 abbrev IsNoFooter : Due → Type 0
 IsNoFooter Footer = ⊥
+IsNoFooter (PageSize last) = ⊥
 IsNoFooter (BlockName filling page) = ⊥
 IsNoFooter (Content filling place) = ⊥
 IsNoFooter d = ⊤
 
 abbrev IsEntry : Due → Type 0
 IsEntry ListEntry = ⊤
+IsEntry (PageSize false) = ⊤
+IsEntry (Passed (Address false)) = ⊤
 IsEntry d = ⊥
 
 abbrev MayBeDue : Option ℕ → Due → Type 0
@@ -154,6 +161,8 @@ passed_no_footer (SubsectionBody PageBits) item = tt
 passed_no_footer (SubsectionBody Uuid) item = tt
 passed_no_footer (SubsectionBody Capabilities) item = capabilities_no_footer (be32_at 0 item)
 passed_no_footer (Capability others) item = capabilities_no_footer others
+passed_no_footer (Address true) item = tt
+passed_no_footer (Address false) item = tt
 
 -- after the size list's head no record head is due before the list is used up
 no_head : (left : Option ℕ) → is_none left ≡ false → MayBeDue left RecordHead → ⊥
@@ -192,9 +201,27 @@ left_before : (left : Option ℕ) (n : ℕ) → (unwrap_or left 0 - n == 0) ≡ 
 left_before None n open_ = refl
 left_before (Some k) n open_ = false_from_ne_true (eqb k 0) (λ e. eqb-false (k - n) 0 open_ (omega (arith, eqb-true k 0 e)))
 
-entry_follows : (b : Bool) → b ≡ false → IsEntry (cond b RecordHead ListEntry)
-entry_follows true open_ = absurd cc
-entry_follows false open_ = tt
+entry_follows : (form : EntryForm) (last : Bool) → last ≡ false → IsEntry (entry_due form last)
+entry_follows form true open_ = absurd cc
+entry_follows Plain false open_ = tt
+entry_follows Addressed false open_ = tt
+entry_follows Sized false open_ = tt
+
+may_list : (left : Option ℕ) → MayBeDue left ListEntry
+may_list None = tt
+may_list (Some n) = tt
+
+waits_entry : (c : StreamProgress) (d : Due) (item : List ℕ) → Waits c d → IsWaiting (after_entry c item)
+waits_entry c d item w =
+    λ open_. ((w (left_before c.left (length_in item) open_)).0, (w (left_before c.left (length_in item) open_)).1, entry_follows c.form (unwrap_or c.left 0 - length_in item == 0) open_)
+
+-- no page size is due of the last entry, before the list is used up
+no_size : (left : Option ℕ) → MayBeDue left (PageSize true) → ⊥
+no_size None h = h
+no_size (Some n) h = h
+
+waits_sized : (c : StreamProgress) (d : Due) → Waits c (PageSize true) → Waits c d
+waits_sized c d w = λ open_. absurd (no_size c.left (w open_).2)
 
 no_footer : (left : Option ℕ) → MayBeDue left Footer → ⊥
 no_footer None h = h
@@ -216,13 +243,21 @@ waits_item c (ConfigName len) item v w free = waits_on c (ConfigName len) _ (λ 
 waits_item c StartHead item v w free = waits_on c StartHead RecordHead (λ h. h) tt w
 waits_item c SectionHead item v w free = waits_on c SectionHead RecordHead (λ h. h) tt w
 waits_item c RecordHead item v w free = waits_head c _ _ _ w free
-waits_item c ListEntry item v w free =
-    λ open_. ((w (left_before c.left (length_in item) open_)).0, (w (left_before c.left (length_in item) open_)).1, entry_follows (unwrap_or c.left 0 - length_in item == 0) open_)
+waits_item c ListEntry item v w free = waits_entry c ListEntry item w
+waits_item c (PageSize true) item v w free =
+    cond_both (is_page_size item) _ _ IsWaiting (λ _. waits_sized c RecordHead w) (λ isnt. waits_head c _ _ _ (waits_sized c RecordHead w) (not_size (is_page_size item) (record_faults c item) isnt free))
+waits_item c (PageSize false) item v w free =
+    cond_both (is_page_size item) _ _ IsWaiting (λ _ open_. ((w open_).0, (w open_).1, may_list c.left)) (λ _. waits_entry c (PageSize false) item w)
 waits_item c (BlockName filling page) item v w free = λ open_. absurd (no_name c.left filling page (w open_).2)
 waits_item c (Content Zero place) item v w free = λ open_. absurd (no_content c.left Zero place (w open_).2)
 waits_item c (Content Normal place) item v w free = λ open_. absurd (no_content c.left Normal place (w open_).2)
 waits_item c Footer item v w free = λ open_. absurd (no_footer c.left (w open_).2)
-waits_item c (Passed passed) item v w free = waits_on c (Passed passed) _ (λ h. h) (passed_no_footer passed item) w
+waits_item c (Passed (Command before)) item v w free = waits_on c (Passed (Command before)) _ (λ h. h) (passed_no_footer (Command before) item) w
+waits_item c (Passed SubsectionHead) item v w free = waits_on c (Passed SubsectionHead) _ (λ h. h) (passed_no_footer SubsectionHead item) w
+waits_item c (Passed (SubsectionBody kind)) item v w free = waits_on c (Passed (SubsectionBody kind)) _ (λ h. h) (passed_no_footer (SubsectionBody kind) item) w
+waits_item c (Passed (Capability others)) item v w free = waits_on c (Passed (Capability others)) _ (λ h. h) (passed_no_footer (Capability others) item) w
+waits_item c (Passed (Address true)) item v w free = waits_on c (Passed (Address true)) _ (λ h. h) tt w
+waits_item c (Passed (Address false)) item v w free = λ open_. ((w open_).0, (w open_).1, may_list c.left)
 waits_item c Nothing item v w free = v
 
 waits_all : (c : StreamProgress) (items : List (List ℕ)) → IsWaiting c → AreFaultless c items → IsWaiting (after_all c items)

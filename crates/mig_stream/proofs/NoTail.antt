@@ -10,9 +10,11 @@ use Rattle.mig_stream.specs.declared.item.Filling.TheVariants.{Zero, Normal}
 use Rattle.mig_stream.specs.declared.item.Before.{Before}
 use Rattle.mig_stream.specs.declared.item.Subsection.TheVariants.{PageBits, Uuid, Capabilities}
 use Rattle.mig_stream.specs.declared.item.PassedItem.{PassedItem}
-use Rattle.mig_stream.specs.declared.item.PassedItem.TheVariants.{Command, SubsectionHead, SubsectionBody, Capability}
+use Rattle.mig_stream.specs.declared.item.PassedItem.TheVariants.{Command, SubsectionHead, SubsectionBody, Capability, Address}
+use Rattle.mig_stream.specs.declared.item.EntryForm.{EntryForm}
+use Rattle.mig_stream.specs.declared.item.EntryForm.TheVariants.{Plain, Addressed, Sized}
 use Rattle.mig_stream.specs.declared.item.Due.{Due}
-use Rattle.mig_stream.specs.declared.item.Due.TheVariants.{FileHeader, TypeByte, ConfigLength, ConfigName, StartHead, SectionHead, RecordHead, ListEntry, BlockName, Content, Footer, Passed, Nothing}
+use Rattle.mig_stream.specs.declared.item.Due.TheVariants.{FileHeader, TypeByte, ConfigLength, ConfigName, StartHead, SectionHead, RecordHead, ListEntry, PageSize, BlockName, Content, Footer, Passed, Nothing}
 use Rattle.mig_stream.specs.declared.item.RecordKind.{RecordKind}
 use Rattle.mig_stream.specs.declared.item.RecordKind.TheVariants.{SizeList, Named, Continued, EndOfSection, Flush}
 use Rattle.mig_stream.specs.declared.item.StreamState.{StreamState}
@@ -23,7 +25,7 @@ use Rattle.mig_stream.specs.Fields.{be32_at}
 use Rattle.mig_stream.specs.Format.{end_byte}
 use Rattle.mig_stream.specs.PageRecord.{PageRecord}
 use Rattle.mig_stream.specs.Progress.{StreamProgress}
-use Rattle.mig_stream.specs.Items.{length_in, is_single, has_tail, is_passed, closes, passed_faults, head_faults, faults, after_type, after_type_byte, after_head, behind_passed, open_records, end_section, eos_records, after_item, after}
+use Rattle.mig_stream.specs.Items.{length_in, is_page_size, is_single, has_tail, is_passed, passed_by, closes, passed_faults, head_faults, record_faults, entry_faults, faults, after_type, after_type_byte, after_head, entry_due, behind_passed, open_records, end_section, eos_records, after_item, after}
 use Rattle.mig_stream.specs.Later.{is_open}
 use Rattle.mig_stream.specs.Reading.{AreFaultless, after_all, Ends}
 use Rattle.mig_stream.specs.Flushed.{from, SectionsHaveNoTail}
@@ -35,6 +37,8 @@ use Rattle.mig_stream.proofs.Steps.{IsLater-front}
 abbrev IsEmpty : Due → List PageRecord → Type 0
 IsEmpty RecordHead records = ⊤
 IsEmpty ListEntry records = ⊤
+IsEmpty (PageSize last) records = ⊤
+IsEmpty (Passed (Address last)) records = ⊤
 IsEmpty (BlockName f page) records = ⊤
 IsEmpty (Content f place) records = ⊤
 IsEmpty d records = records ≡ []
@@ -48,10 +52,15 @@ no_records StartHead = refl
 no_records SectionHead = refl
 no_records RecordHead = tt
 no_records ListEntry = tt
+no_records (PageSize last) = tt
 no_records (BlockName f page) = tt
 no_records (Content f place) = tt
 no_records Footer = refl
-no_records (Passed passed) = refl
+no_records (Passed (Command before)) = refl
+no_records (Passed SubsectionHead) = refl
+no_records (Passed (SubsectionBody kind)) = refl
+no_records (Passed (Capability others)) = refl
+no_records (Passed (Address last)) = tt
 no_records Nothing = refl
 
 empty_due : (d : Due) (records : List PageRecord) → records ≡ [] → IsEmpty d records
@@ -68,7 +77,22 @@ type_empty c b e =
     cond_both (eqb b 3) _ _ StaysEmpty (λ _. e) (λ _. e))))
 
 type_byte_empty : (c : StreamProgress) (before : Before) (b : ℕ) → c.records ≡ [] → StaysEmpty (after_type_byte c before b)
-type_byte_empty c before b e = cond_both (is_passed c.frame before b) _ _ StaysEmpty (λ _. e) (λ _. type_empty c b e)
+type_byte_empty c before b e = cond_both (is_passed c.frame before b) _ _ StaysEmpty (λ _. empty_due (Passed (passed_by before b)) c.records e) (λ _. type_empty c b e)
+
+-- after the guest address of a block stands another entry, or a record
+passed_empty : (c : StreamProgress) (passed : PassedItem) (item : List ℕ) → IsEmpty (Passed passed) c.records → IsEmpty (behind_passed passed item) c.records
+passed_empty c (Command before) item h = empty_due (behind_passed (Command before) item) c.records h
+passed_empty c SubsectionHead item h = empty_due (behind_passed SubsectionHead item) c.records h
+passed_empty c (SubsectionBody kind) item h = empty_due (behind_passed (SubsectionBody kind) item) c.records h
+passed_empty c (Capability others) item h = empty_due (behind_passed (Capability others) item) c.records h
+passed_empty c (Address true) item h = tt
+passed_empty c (Address false) item h = tt
+
+entry_empty : (form : EntryForm) (last : Bool) (records : List PageRecord) → IsEmpty (entry_due form last) records
+entry_empty Plain true records = tt
+entry_empty Plain false records = tt
+entry_empty Addressed last records = tt
+entry_empty Sized last records = tt
 
 head_empty : (c : StreamProgress) (k : Option RecordKind) (page : ℕ) → c.mode ≡ MainBySection → StaysEmpty c → StaysEmpty (after_head c k page)
 head_empty c None page by e = e
@@ -76,7 +100,7 @@ head_empty c (Some SizeList) page by e = tt
 head_empty c (Some (Named f)) page by e = tt
 head_empty c (Some (Continued f)) page by e = tt
 head_empty c (Some EndOfSection) page by e = ap (λ (m : Mode). eos_records m c.records) by
-head_empty c (Some Flush) page by e = no_records c.due
+head_empty c (Some Flush) page by e = tt
 
 item_empty : (c : StreamProgress) (d : Due) (item : List ℕ) → c.mode ≡ MainBySection → StaysEmpty c → IsEmpty d c.records → StaysEmpty (after_item c d item)
 item_empty c FileHeader item by e h = h
@@ -86,12 +110,15 @@ item_empty c (ConfigName n) item by e h = h
 item_empty c StartHead item by e h = tt
 item_empty c SectionHead item by e h = tt
 item_empty c RecordHead item by e h = head_empty c _ _ by e
-item_empty c ListEntry item by e h = cond_both (unwrap_or c.left 0 - length_in item == 0) RecordHead ListEntry (λ (d : Due). IsEmpty d c.records) (λ _. tt) (λ _. tt)
+item_empty c ListEntry item by e h = entry_empty c.form (unwrap_or c.left 0 - length_in item == 0) c.records
+item_empty c (PageSize true) item by e h = cond_both (is_page_size item) _ _ StaysEmpty (λ _. tt) (λ _. head_empty c _ _ by e)
+item_empty c (PageSize false) item by e h =
+    cond_both (is_page_size item) _ _ StaysEmpty (λ _. tt) (λ _. entry_empty c.form (unwrap_or c.left 0 - length_in item == 0) c.records)
 item_empty c (BlockName f page) item by e h = tt
 item_empty c (Content Zero place) item by e h = tt
 item_empty c (Content Normal place) item by e h = tt
 item_empty c Footer item by e h = empty_due (end_section c).due (end_section c).records (ap (λ (m : Mode). open_records m c.records) by ∙ h)
-item_empty c (Passed passed) item by e h = empty_due (behind_passed passed item) c.records h
+item_empty c (Passed passed) item by e h = passed_empty c passed item h
 item_empty c Nothing item by e h = e
 
 all_empty : (c : StreamProgress) (items : List (List ℕ)) → c.mode ≡ MainBySection → StaysEmpty c → AreFaultless c items → StaysEmpty (after_all c items)
@@ -135,13 +162,17 @@ head_others c flags (Some (Continued f)) page = ((λ e. absurd cc), ((λ e. absu
 head_others c flags (Some EndOfSection) page = ((λ e. absurd cc), ((λ e. absurd cc), tt))
 head_others c flags (Some Flush) page = ((λ e. absurd cc), ((λ e. absurd cc), ((λ e. absurd cc), tt)))
 
-passed_others : (p : ℕ) (passed : PassedItem) (item : List ℕ) → AreOthers (passed_faults p passed item)
-passed_others p (Command before) item = ((λ e. absurd cc), tt)
-passed_others p SubsectionHead item = ((λ e. absurd cc), tt)
-passed_others p (SubsectionBody PageBits) item = ((λ e. absurd cc), tt)
-passed_others p (SubsectionBody Uuid) item = tt
-passed_others p (SubsectionBody Capabilities) item = tt
-passed_others p (Capability others) item = ((λ e. absurd cc), tt)
+entry_others : (c : StreamProgress) (item : List ℕ) → AreOthers (entry_faults c item)
+entry_others c item = ((λ e. absurd cc), ((λ e. absurd cc), ((λ e. absurd cc), ((λ e. absurd cc), ((λ e. absurd cc), tt)))))
+
+passed_others : (p : ℕ) (form : EntryForm) (passed : PassedItem) (item : List ℕ) → AreOthers (passed_faults p form passed item)
+passed_others p form (Command before) item = ((λ e. absurd cc), tt)
+passed_others p form SubsectionHead item = ((λ e. absurd cc), tt)
+passed_others p form (SubsectionBody PageBits) item = ((λ e. absurd cc), tt)
+passed_others p form (SubsectionBody Uuid) item = tt
+passed_others p form (SubsectionBody Capabilities) item = tt
+passed_others p form (Capability others) item = ((λ e. absurd cc), tt)
+passed_others p form (Address last) item = tt
 
 item_fault : (c : StreamProgress) (d : Due) (item : List ℕ) → IsEmpty d c.records → first_of (faults c d item) ≡ Some fault.Tail → ⊥
 item_fault c FileHeader item h e = other_fault (faults c FileHeader item) ((λ e. absurd cc), ((λ e. absurd cc), tt)) e
@@ -151,12 +182,14 @@ item_fault c (ConfigName n) item h e = absurd cc
 item_fault c StartHead item h e = other_fault (faults c StartHead item) ((λ e. absurd cc), ((λ e. absurd cc), ((λ e. absurd cc), tt))) e
 item_fault c SectionHead item h e = other_fault (faults c SectionHead item) ((λ e. absurd cc), tt) e
 item_fault c RecordHead item h e = other_fault (faults c RecordHead item) (head_others c _ _ _) e
-item_fault c ListEntry item h e = other_fault (faults c ListEntry item) ((λ e. absurd cc), ((λ e. absurd cc), ((λ e. absurd cc), ((λ e. absurd cc), ((λ e. absurd cc), tt))))) e
+item_fault c ListEntry item h e = other_fault (faults c ListEntry item) (entry_others c item) e
+item_fault c (PageSize true) item h e = other_fault (faults c (PageSize true) item) (cond_both (is_page_size item) [] (record_faults c item) AreOthers (λ _. tt) (λ _. head_others c _ _ _)) e
+item_fault c (PageSize false) item h e = other_fault (faults c (PageSize false) item) (cond_both (is_page_size item) [] (entry_faults c item) AreOthers (λ _. tt) (λ _. entry_others c item)) e
 item_fault c (BlockName f page) item h e = other_fault (faults c (BlockName f page) item) ((λ e. absurd cc), ((λ e. absurd cc), tt)) e
 item_fault c (Content Zero place) item h e = other_fault (faults c (Content Zero place) item) ((λ e. absurd cc), tt) e
 item_fault c (Content Normal place) item h e = absurd cc
 item_fault c Footer item h e = tail_last _ (closes c.frame c.section) fault.Footer c h (λ e. absurd cc) e
-item_fault c (Passed passed) item h e = other_fault (passed_faults c.page_size passed item) (passed_others c.page_size passed item) e
+item_fault c (Passed passed) item h e = other_fault (passed_faults c.page_size c.form passed item) (passed_others c.page_size c.form passed item) e
 item_fault c Nothing item h e = absurd cc
 
 pub sections_have_no_tail : SectionsHaveNoTail

@@ -15,11 +15,13 @@ use Rattle.mig_stream.specs.declared.item.Mode.TheVariants.{Single, Main, MainBy
 use Rattle.mig_stream.specs.declared.item.Filling.TheVariants.{Zero, Normal}
 use Rattle.mig_stream.specs.declared.item.Before.{Before}
 use Rattle.mig_stream.specs.declared.item.PassedItem.{PassedItem}
-use Rattle.mig_stream.specs.declared.item.PassedItem.TheVariants.{Command, SubsectionHead, SubsectionBody, Capability}
+use Rattle.mig_stream.specs.declared.item.PassedItem.TheVariants.{Command, SubsectionHead, SubsectionBody, Capability, Address}
 use Rattle.mig_stream.specs.declared.item.Subsection.{Subsection}
 use Rattle.mig_stream.specs.declared.item.Subsection.TheVariants.{PageBits, Uuid, Capabilities}
+use Rattle.mig_stream.specs.declared.item.EntryForm.{EntryForm}
+use Rattle.mig_stream.specs.declared.item.EntryForm.TheVariants.{Plain, Addressed, Sized}
 use Rattle.mig_stream.specs.declared.item.Due.{Due}
-use Rattle.mig_stream.specs.declared.item.Due.TheVariants.{FileHeader, TypeByte, ConfigLength, ConfigName, StartHead, SectionHead, RecordHead, ListEntry, BlockName, Content, Footer, Passed, Nothing}
+use Rattle.mig_stream.specs.declared.item.Due.TheVariants.{FileHeader, TypeByte, ConfigLength, ConfigName, StartHead, SectionHead, RecordHead, ListEntry, PageSize, BlockName, Content, Footer, Passed, Nothing}
 use Rattle.mig_stream.specs.declared.item.RecordKind.{RecordKind}
 use Rattle.mig_stream.specs.declared.item.RecordKind.TheVariants.{SizeList, Named, Continued, EndOfSection, Flush}
 use Rattle.mig_stream.specs.declared.fault.StreamFault.{StreamFault}
@@ -28,9 +30,9 @@ use Rattle.mig_stream.specs.Fields.{be32_at}
 use Rattle.mig_stream.specs.PageRecord.{PageRecord}
 use Rattle.mig_stream.specs.Progress.{StreamProgress, start}
 use Rattle.mig_mem.specs.First.{first_of}
-use Rattle.mig_stream.specs.Items.{is_passed, closes, subsection_of, body_of, capabilities_due, behind_passed, behind_footer, after_type_byte, id_in, length_in, has_page, is_full, kind_faults, head_faults, faults, after_type, after_kind, after_head, open_records, whole_rounds, after_item, after, eos_records, eos_rounds, is_start, has_none, flush_ends, flush_rounds}
+use Rattle.mig_stream.specs.Items.{is_passed, closes, subsection_of, body_of, capabilities_due, entry_due, behind_passed, behind_footer, after_type_byte, id_in, length_in, is_page_size, has_page, is_full, kind_faults, head_faults, record_faults, faults, after_type, after_kind, after_head, after_entry, open_records, whole_rounds, after_item, after, eos_records, eos_rounds, is_start, has_none, flush_ends, flush_rounds}
 use Rattle.mig_stream.specs.Reading.{AreFaultless, after_all, Front}
-use Rattle.mig_stream.proofs.Steps.{passed}
+use Rattle.mig_stream.proofs.Steps.{passed, not_size}
 
 -- these blocks have the page
 record HasPage (blocks : List Block) (p : Place) : Type 0 where
@@ -101,6 +103,14 @@ passed_in blocks (SubsectionBody PageBits) item = tt
 passed_in blocks (SubsectionBody Uuid) item = tt
 passed_in blocks (SubsectionBody Capabilities) item = capabilities_in blocks (be32_at 0 item)
 passed_in blocks (Capability others) item = capabilities_in blocks others
+passed_in blocks (Address true) item = tt
+passed_in blocks (Address false) item = tt
+
+entry_in : (blocks : List Block) (form : EntryForm) (last : Bool) → DueIn blocks (entry_due form last)
+entry_in blocks Plain true = tt
+entry_in blocks Plain false = tt
+entry_in blocks Addressed last = tt
+entry_in blocks Sized last = tt
 
 footer_in : (blocks : List Block) (frame : Frame) (kind : Section) → DueIn blocks (behind_footer frame kind)
 footer_in blocks frame kind = cond_both (closes frame kind) _ _ (DueIn blocks) (λ _. tt) (λ _. tt)
@@ -133,7 +143,7 @@ placed_kind c (Continued f) page v d free =
     record { due = judged c.blocks c.named page three.0; records = v.records; rounds = v.rounds }
 placed_kind c EndOfSection page v d free = record { due = tt; records = eos_in c.mode c.blocks c.records v.records; rounds = eos_whole_in c.mode c.blocks c.rounds c.records v.rounds v.records }
 placed_kind c Flush page v d free = record {
-  due = d;
+  due = tt;
   records = All-nil (λ r. HasPage c.blocks r.place);
   rounds = flush_in (flush_ends c.mode (is_start c.section) (has_none c.records)) c.blocks c.rounds c.records v.rounds v.records;
 }
@@ -154,6 +164,13 @@ whole_in Main blocks rounds records all last = all
 whole_in MainBySection blocks rounds records all last = all
 whole_in MainAsShown blocks rounds records all last = all
 
+placed_entry : (c : StreamProgress) (item : List ℕ) → Placed c → Placed (after_entry c item)
+placed_entry c item v = record {
+  due = entry_in (after_entry c item).blocks c.form (unwrap_or c.left 0 - length_in item == 0);
+  records = more_in c.blocks _ c.records v.records;
+  rounds = λ i r lt. more_in c.blocks _ (get_or c.rounds i r) (v.rounds i r lt);
+}
+
 placed_item : (c : StreamProgress) (d : Due) (item : List ℕ) → Placed c → DueIn c.blocks d → first_of (faults c d item) ≡ None → Placed (after_item c d item)
 placed_item c FileHeader item v d free = record { due = tt; records = v.records; rounds = v.rounds }
 placed_item c (TypeByte b) item v d free = placed_type_byte c b (slice_index item 0) v
@@ -162,11 +179,11 @@ placed_item c (ConfigName n) item v d free = record { due = tt; records = v.reco
 placed_item c StartHead item v d free = record { due = tt; records = v.records; rounds = v.rounds }
 placed_item c SectionHead item v d free = record { due = tt; records = v.records; rounds = v.rounds }
 placed_item c RecordHead item v d free = placed_head c _ _ _ v v.due free
-placed_item c ListEntry item v d free = record {
-  due = cond_both (unwrap_or c.left 0 - length_in item == 0) RecordHead ListEntry (DueIn (after_item c ListEntry item).blocks) (λ _. tt) (λ _. tt);
-  records = more_in c.blocks _ c.records v.records;
-  rounds = λ i r lt. more_in c.blocks _ (get_or c.rounds i r) (v.rounds i r lt);
-}
+placed_item c ListEntry item v d free = placed_entry c item v
+placed_item c (PageSize true) item v d free =
+    cond_both (is_page_size item) _ _ Placed (λ _. record { due = tt; records = v.records; rounds = v.rounds })
+    (λ isnt. placed_head c _ _ _ v v.due (not_size (is_page_size item) (record_faults c item) isnt free))
+placed_item c (PageSize false) item v d free = cond_both (is_page_size item) _ _ Placed (λ _. record { due = tt; records = v.records; rounds = v.rounds }) (λ _. placed_entry c item v)
 placed_item c (BlockName f page) item v d free =
     let named : Option ℕ = block_of c.blocks (id_in item) in
     let one = passed (is_none named) fault.UnknownBlock ((not (has_page c.blocks named page), fault.OffsetOut) ∷ []) free in

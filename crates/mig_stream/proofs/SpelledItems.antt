@@ -49,7 +49,7 @@ unfolding be32_at
 be32_footer n small = from_be_bytes-to_be_bytes_4 n small
 
 -- eight bytes that spell a number, alone
-be64_back : (n : ℕ) → n < 2 ^ 64 → be64_at 0 (be64 n) ≡ n
+pub be64_back : (n : ℕ) → n < 2 ^ 64 → be64_at 0 (be64 n) ≡ n
 unfolding be64_at
 be64_back n small = from_be_bytes-to_be_bytes_8 n small
 

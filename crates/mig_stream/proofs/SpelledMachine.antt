@@ -1,7 +1,7 @@
 -- A machine's complete stream is read as it is spelled.
 use Rattle.std.proofs.Common.{◌≡◌, ◌⊎◌, ℕ, ◌^◌, ◌<◌, Bool, cond, true, false, List, [], ◌∷◌, ◌++◌, length, Option, Some, None, refl, sym, ap, subst, ◌∙◌, append_assoc, inl, inr}
 use Rattle.std.specs.Prelude.{is_none, not, ◌==◌, ◌&&◌, IfSome}
-use Rattle.std.specs.List.{flat_map, AllByRecursion}
+use Rattle.std.specs.List.{flat_map, list_any, AllByRecursion}
 use Rattle.mig_mem.specs.RamTable.{RamTable, IsTable}
 use Rattle.mig_stream.specs.declared.item.Frame.TheVariants.{Machine}
 use Rattle.mig_stream.specs.declared.item.Mode.{Mode}
@@ -9,14 +9,15 @@ use Rattle.mig_stream.specs.declared.item.Mode.TheVariants.{Single, Main, MainBy
 use Rattle.mig_stream.specs.declared.item.Section.TheVariants as sections
 use Rattle.mig_stream.specs.declared.item.Before.{Before}
 use Rattle.mig_stream.specs.declared.item.Before.TheVariants as before
+use Rattle.mig_stream.specs.declared.item.EntryForm.TheVariants.{Addressed, Sized}
 use Rattle.mig_stream.specs.declared.item.Due.TheVariants.{FileHeader, TypeByte, RecordHead, StartHead, Nothing}
 use Rattle.mig_stream.specs.Format.{section_type}
 use Rattle.mig_stream.specs.PageRecord.{PageRecord}
 use Rattle.mig_stream.specs.Progress.{StreamProgress, start, table_of}
-use Rattle.mig_stream.specs.Items.{is_single, open_records, is_allowed, is_machine, may_pass, has_tail, end_records}
+use Rattle.mig_stream.specs.Items.{is_single, open_records, is_allowed, is_machine, is_addressed, may_pass, has_tail, end_records}
 use Rattle.mig_stream.specs.Reading.{settings, in_frame, Front, IsReading}
-use Rattle.mig_stream.specs.Text.{Record, Follow, HasNoFlush, all_records, body, section, file_header, start_head, size_list}
-use Rattle.mig_stream.specs.Machine.{Command, command, IsCommand, Configuration, configured, IsConfiguration, PartOrCommand, PartOf, CommandOf, part_or_command, IsPartOrCommand, parts_of, IsMachineText}
+use Rattle.mig_stream.specs.Text.{Record, Follow, HasNoFlush, all_records, body, section, file_header, start_head}
+use Rattle.mig_stream.specs.Machine.{Command, command, IsCommand, is_advise, Configuration, configured, IsConfiguration, ignores_shared, form_of, tailed_list, PartOrCommand, PartOf, CommandOf, part_or_command, IsPartOrCommand, parts_of, IsMachineText}
 use Rattle.mig_stream.specs.Law.{closed}
 use Rattle.mig_stream.proofs.Fronts.{Front-none, Front-append}
 use Rattle.mig_stream.proofs.After.{unlimited, after_records, after_body, mode_behind, records_behind, FlushesFit, HasNoTail}
@@ -24,9 +25,10 @@ use Rattle.mig_stream.proofs.Modes.{single_kept}
 use Rattle.mig_stream.proofs.SectionRounds.{rounds_read}
 use Rattle.mig_stream.proofs.SpelledItems.{type_front, section_front, header_front, configuration_front, start_front}
 use Rattle.mig_stream.proofs.SpelledRecords.{body_front}
-use Rattle.mig_stream.proofs.SpelledList.{list_front}
+use Rattle.mig_stream.proofs.SpelledList.{tailed_front}
 use Rattle.mig_stream.proofs.SpelledSections.{FlushesFit-first, FlushesFit-rest, Follow-first, Follow-rest, at_end, part_front}
-use Rattle.mig_stream.proofs.SpelledPassed.{command_front, behind_commands, commands_front, subsections_front}
+use Rattle.mig_stream.proofs.SpelledPassed.{late_command_front, IsOpening, behind_commands, commands_front, subsections_front}
+use Rattle.mig_stream.proofs.Tails.{addressed_told}
 
 -- ---- what stands before START
 
@@ -36,13 +38,17 @@ before_commands None = before.FileHeader
 before_commands (Some x) = before.Configuration
 
 configured_front : (c : StreamProgress) (o : Option Configuration) → is_machine c.frame ≡ true → IfSome o (IsConfiguration c.page_size)
-    → Front (record c { due = TypeByte before.FileHeader }) (configured o) (record c { due = TypeByte (before_commands o) })
+    → Front (record c { due = TypeByte before.FileHeader }) (configured o) (record c { due = TypeByte (before_commands o); form = cond (ignores_shared o) Addressed c.form })
 configured_front c None machine is = Front-none (record c { due = TypeByte before.FileHeader })
 configured_front c (Some x) machine is = Front-append _ _ _ _ _ (configuration_front c (Some x.name) is.has_name) (subsections_front c x.subsections machine is.are_bodies)
 
 may_command : (o : Option Configuration) → may_pass (before_commands o) 8 ≡ true
 may_command None = refl
 may_command (Some x) = refl
+
+opens : (o : Option Configuration) → IsOpening (before_commands o)
+opens None = refl
+opens (Some x) = refl
 
 -- START may stand there
 abbrev MayStart : Before → Type 0
@@ -58,14 +64,18 @@ may_start (Some x) [] = (refl, refl)
 may_start None (x ∷ xs) = start_behind xs
 may_start (Some y) (x ∷ xs) = start_behind xs
 
-opening_front : (c : StreamProgress) (o : Option Configuration) (xs : List Command) (id : ℕ) → is_machine c.frame ≡ true → IfSome o (IsConfiguration c.page_size) → AllByRecursion IsCommand xs → id < 2 ^ 32
-    → Front (record c { due = FileHeader }) (file_header ++ configured o ++ flat_map command xs ++ start_head id) (record c { due = RecordHead; section = sections.Start; section_id = id })
-opening_front c o xs id machine is are small =
-    let d : StreamProgress = record c { section = sections.Start } in
+opening_front : (c : StreamProgress) (o : Option Configuration) (xs : List Command) (id : ℕ) → is_machine c.frame ≡ true → IfSome o (IsConfiguration c.page_size) → AllByRecursion IsCommand xs
+    → (is_addressed (cond (ignores_shared o) Addressed c.form) ≡ true → list_any is_advise xs ≡ false) → id < 2 ^ 32
+    → Front (record c { due = FileHeader }) (file_header ++ configured o ++ flat_map command xs ++ start_head id)
+    (record c { due = RecordHead; section = sections.Start; section_id = id; form = cond (list_any is_advise xs) Sized (cond (ignores_shared o) Addressed c.form) })
+opening_front c o xs id machine is are one small =
+    let named : StreamProgress = record c { form = cond (ignores_shared o) Addressed c.form } in
+    let told : StreamProgress = record named { form = cond (list_any is_advise xs) Sized named.form } in
+    let d : StreamProgress = record told { section = sections.Start } in
     let b : Before = behind_commands (before_commands o) xs in
     let may : MayStart b = may_start o xs in
-    let first : Front (record c { due = TypeByte b }) (section_type sections.Start ∷ []) (record d { due = StartHead }) = type_front c b (section_type sections.Start) may.0 may.1 refl in
-    let passed : Front (record c { due = TypeByte (before_commands o) }) (flat_map command xs) (record c { due = TypeByte b }) = commands_front c (before_commands o) xs machine (may_command o) are in
+    let first : Front (record told { due = TypeByte b }) (section_type sections.Start ∷ []) (record d { due = StartHead }) = type_front told b (section_type sections.Start) may.0 may.1 refl in
+    let passed : Front (record named { due = TypeByte (before_commands o) }) (flat_map command xs) (record told { due = TypeByte b }) = commands_front named (before_commands o) xs machine (may_command o) (opens o) are one in
     Front-append _ _ _ _ _ (Front-append _ _ _ _ _ (Front-append _ _ _ _ _ (header_front c) (configured_front c o machine is)) passed) (Front-append _ _ _ _ _ first (start_front d id small))
 
 -- ---- what stands after START's footer
@@ -107,7 +117,7 @@ others_front c (CommandOf x ∷ others) last machine may is small begun flushes 
     let bytes = append_assoc (command x) (flat_map (part_or_command (table_of u) u.section_id) others) end in
     let there : StreamProgress = at_end u (parts_of others ++ last ∷ []) in
     subst (λ (z : List ℕ). Front (record u { due = TypeByte before.Footer }) z there) (sym bytes)
-    (Front-append _ _ _ _ _ (command_front u before.Footer x machine refl may.0) (others_front u others last machine may.1 is small begun flushes follow none))
+    (Front-append _ _ _ _ _ (late_command_front u x machine may.0) (others_front u others last machine may.1 is small begun flushes follow none))
 others_front c (PartOf records ∷ others) last machine may is small begun flushes follow none =
     let u : StreamProgress = unlimited c in
     let more : List Record = all_records (parts_of others) ++ last in
@@ -137,19 +147,19 @@ machine_is_read mode limit text rest table rounds is =
     let told = rounds_read mode (is.first ∷ others) rounds is.has_rounds in
     let follow : Follow table None (is.first ++ behind) = subst (Follow table None) (append_assoc is.first (all_records (parts_of is.others)) is.last) is.follow in
     let from : StreamProgress = start Machine mode table.page_size limit None in
-    let begun : StreamProgress = record from { due = RecordHead; section_id = is.id } in
+    let begun : StreamProgress = record from { due = RecordHead; section_id = is.id; form = form_of is.machine is.commands } in
     let listed : StreamProgress = record begun { left = Some 0; blocks = table.blocks } in
     let first : StreamProgress = after_body listed is.first in
-    let opening = opening_front from is.machine is.commands is.id refl is.has_machine is.are_commands is.has_id in
-    let list = list_front begun table is.has_table is.has_limit in
+    let opening = opening_front from is.machine is.commands is.id refl is.has_machine is.are_commands (λ e. is.is_one_form (addressed_told (ignores_shared is.machine) e)) is.has_id in
     let fit : FlushesFit (is_single first.mode) others =
     subst (λ (single : Bool). FlushesFit single others) (sym (single_kept mode true [] is.first)) (FlushesFit-rest (is_single mode) is.first others told.0) in
     let start_body = body_front listed is.first is.has_table is.has_id refl (FlushesFit-first (is_single mode) is.first others told.0) (Follow-first table None is.first behind follow) refl in
     let end = others_front first is.others is.last refl is.are_others is.has_table is.has_id refl fit (Follow-rest table None is.first behind follow) told.1 in
-    let spelled = is.is_spelled ∙ regroup file_header (configured is.machine) (flat_map command is.commands) (start_head is.id) (size_list table) (body table is.id is.first) (flat_map (part_or_command table is.id) is.others)
+    let spelled = is.is_spelled ∙ regroup file_header (configured is.machine) (flat_map command is.commands) (start_head is.id) (tailed_list table is.tails) (body table is.id is.first) (flat_map (part_or_command table is.id) is.others)
     (section table sections.End is.id is.last) in
     let to : StreamProgress = at_end first others in
-    let leads : Front from text to = subst (λ (x : List ℕ). Front from x to) (sym spelled) (Front-append _ _ _ _ _ opening (Front-append _ _ _ _ _ list (Front-append _ _ _ _ _ start_body end))) in
+    let list = tailed_front begun to table is.tails _ is.has_table is.has_limit is.has_tails is.are_tails refl (Front-append _ _ _ _ _ start_body end) in
+    let leads : Front from text to = subst (λ (x : List ℕ). Front from x to) (sym spelled) (Front-append _ _ _ _ _ opening list) in
     record {
       to = to;
       rest = rest;

@@ -1,28 +1,32 @@
 -- What is passed over is read as it is spelled: COMMANDs, and the subsections of the configuration.
 use Rattle.std.proofs.Common.{◌≡◌, ℕ, ◌+◌, ◌-◌, ◌^◌, ◌<◌, Bool, true, false, cond, eqb, List, [], ◌∷◌, length, take, Option, Some, None, refl, sym, ap, subst, ◌∙◌, arith}
 use Rattle.std.specs.Prelude.{not, ◌&&◌, ◌||◌}
-use Rattle.std.specs.List.{flat_map, AllByRecursion}
+use Rattle.std.specs.List.{flat_map, list_any, AllByRecursion}
+use Rattle.std.specs.Str.{bytes_eq}
 use Rattle.std.proofs.lemmas.List.{append-nil, take_at}
 use Rattle.std.proofs.lemmas.Nat.{from_be_bytes-to_be_bytes_4}
-use Rattle.std.proofs.lemmas.Bool.{eq-eqb, ne_eqb}
+use Rattle.std.proofs.lemmas.Bool.{eq-eqb, ne_eqb, and_right}
 use Rattle.mig_stream.specs.declared.item.Before.{Before}
 use Rattle.mig_stream.specs.declared.item.Before.TheVariants as before
 use Rattle.mig_stream.specs.declared.item.Subsection.{Subsection}
 use Rattle.mig_stream.specs.declared.item.Subsection.TheVariants as kind
+use Rattle.mig_stream.specs.declared.item.EntryForm.{EntryForm}
+use Rattle.mig_stream.specs.declared.item.EntryForm.TheVariants.{Addressed, Sized}
 use Rattle.mig_stream.specs.declared.item.PassedItem.TheVariants as item
 use Rattle.mig_stream.specs.declared.item.Due.{Due}
 use Rattle.mig_stream.specs.declared.item.Due.TheVariants.{TypeByte, Passed}
 use Rattle.mig_stream.specs.declared.fault.StreamFault.{StreamFault}
 use Rattle.mig_stream.specs.declared.fault.StreamFault.TheVariants as fault
 use Rattle.mig_stream.specs.Fields.{be32, counted, be16_at, be32_at}
-use Rattle.mig_stream.specs.Format.{command_type, subsection_type, subsection_name, subsection_version}
+use Rattle.mig_stream.specs.Format.{command_type, subsection_type, subsection_name, subsection_version, ignore_shared}
 use Rattle.mig_stream.specs.Progress.{StreamProgress}
 use Rattle.mig_mem.specs.First.{first_of}
-use Rattle.mig_stream.specs.Items.{is_allowed, has_tail, id_in, subsection_of, is_machine, may_pass, is_passed, passed_by, behind_command, body_of, capabilities_due, after_type, first_fault, after}
+use Rattle.mig_stream.specs.Items.{is_allowed, has_tail, id_in, subsection_of, is_machine, may_pass, is_passed, is_passed_command, allows_postcopy, is_before_start, advises, is_addressed, passed_by, behind_command, body_of, capabilities_due, after_type, first_fault, after}
 use Rattle.mig_stream.specs.Reading.{Front}
-use Rattle.mig_stream.specs.Machine.{Command, command_bytes, command, IsCommand, SubsectionBody, PageBits, Uuid, Capabilities, kind_of, body_bytes, IsCapability, IsSubsectionBody, subsection_head, subsection}
+use Rattle.mig_stream.specs.Machine.{Command, command_bytes, command, IsCommand, is_advise, SubsectionBody, PageBits, Uuid, Capabilities, kind_of, body_bytes, IsCapability, IsSubsectionBody, subsection_head, subsection, ignore_shared_in, names_shared}
 use Rattle.mig_stream.proofs.Fronts.{Front-none, Front-append}
 use Rattle.mig_stream.proofs.SpelledItems.{item_front}
+use Rattle.mig_stream.proofs.Tails.{twice, first_fits, others_fit}
 
 two_free : (a b : Bool) (f g : StreamFault) → a ≡ false → b ≡ false → first_of ((a, f) ∷ (b, g) ∷ []) ≡ None
 two_free a b f g x y = rw (x, y) refl
@@ -43,17 +47,33 @@ passed_type_front c b byte machine may other =
     subst (λ (x : StreamProgress). Front d (byte ∷ []) x) new (item_front d (byte ∷ []) (λ e. absurd cc) refl free)
 
 -- a COMMAND after its type byte
-command_bytes_front : (c : StreamProgress) (b : Before) (x : Command) → IsCommand x → Front (record c { due = Passed (item.Command b) }) (command_bytes x) (record c { due = TypeByte b })
-command_bytes_front c b x is =
-    let whole : length (command_bytes x) ≡ 4 + be16_at 2 (command_bytes x) = omega (arith, is.has_length) in
-    let number : be16_at 0 (command_bytes x) ≡ x.number = omega arith in
-    let free : first_fault (record c { due = Passed (item.Command b) }) (command_bytes x) ≡ None = rw (number, is.has_number) refl in
-    item_front (record c { due = Passed (item.Command b) }) (command_bytes x) (λ e. absurd cc) whole free
+command_bytes_front : (c : StreamProgress) (b : Before) (x : Command) → IsCommand x → (is_addressed c.form && (is_before_start b && is_advise x)) ≡ false
+    → Front (record c { due = Passed (item.Command b) }) (command_bytes x) (record c { due = TypeByte b; form = cond (is_before_start b && is_advise x) Sized c.form })
+command_bytes_front c b x is fits =
+    let d : StreamProgress = record c { due = Passed (item.Command b) } in
+    let bytes : List ℕ = command_bytes x in
+    let whole : length bytes ≡ 4 + be16_at 2 bytes = omega (arith, is.has_length) in
+    let number : be16_at 0 bytes ≡ x.number = omega arith in
+    let len : be16_at 2 bytes ≡ length x.carried = omega (arith, is.has_length) in
+    let advise : advises b bytes ≡ (is_before_start b && is_advise x) =
+    ap (λ (n : ℕ). is_before_start b && allows_postcopy n (be16_at 2 bytes)) number ∙ ap (λ (n : ℕ). is_before_start b && allows_postcopy x.number n) len in
+    let test : (not (is_passed_command (be16_at 0 bytes)) || (is_addressed c.form && advises b bytes)) ≡ false =
+    ap (λ (n : ℕ). not (is_passed_command n) || (is_addressed c.form && advises b bytes)) number
+    ∙ ap (λ (known : Bool). not known || (is_addressed c.form && advises b bytes)) is.has_number
+    ∙ ap (λ (a : Bool). is_addressed c.form && a) advise ∙ fits in
+    let free : first_fault d bytes ≡ None = ap (λ (t : Bool). first_of ((t, fault.Command) ∷ [])) test in
+    let new : after d bytes ≡ record c { due = TypeByte b; form = cond (is_before_start b && is_advise x) Sized c.form } = ap (λ (a : Bool). record c { due = TypeByte b; form = cond a Sized c.form }) advise in
+    subst (λ (y : StreamProgress). Front d bytes y) new (item_front d bytes (λ e. absurd cc) whole free)
 
 -- a COMMAND, if one may stand
-pub command_front : (c : StreamProgress) (b : Before) (x : Command) → is_machine c.frame ≡ true → may_pass b command_type ≡ true → IsCommand x
-    → Front (record c { due = TypeByte b }) (command x) (record c { due = TypeByte (behind_command b) })
-command_front c b x machine may is = Front-append _ _ _ _ _ (passed_type_front c b command_type machine may refl) (command_bytes_front c (behind_command b) x is)
+command_front : (c : StreamProgress) (b : Before) (x : Command) → is_machine c.frame ≡ true → may_pass b command_type ≡ true → IsCommand x
+    → (is_addressed c.form && (is_before_start (behind_command b) && is_advise x)) ≡ false
+    → Front (record c { due = TypeByte b }) (command x) (record c { due = TypeByte (behind_command b); form = cond (is_before_start (behind_command b) && is_advise x) Sized c.form })
+command_front c b x machine may is fits = Front-append _ _ _ _ _ (passed_type_front c b command_type machine may refl) (command_bytes_front c (behind_command b) x is fits)
+
+-- a COMMAND after a footer
+pub late_command_front : (c : StreamProgress) (x : Command) → is_machine c.frame ≡ true → IsCommand x → Front (record c { due = TypeByte before.Footer }) (command x) (record c { due = TypeByte before.Footer })
+late_command_front c x machine is = command_front c before.Footer x machine refl is (and_right (is_addressed c.form) false refl)
 
 -- where the next type byte stands after COMMANDs
 abbrev pub behind_commands : Before → List Command → Before
@@ -67,11 +87,31 @@ may_command before.Command may = refl
 may_command before.Footer may = refl
 may_command before.LastFooter may = may
 
-pub commands_front : (c : StreamProgress) (b : Before) (xs : List Command) → is_machine c.frame ≡ true → may_pass b command_type ≡ true → AllByRecursion IsCommand xs
-    → Front (record c { due = TypeByte b }) (flat_map command xs) (record c { due = TypeByte (behind_commands b xs) })
-commands_front c b [] machine may is = Front-none (record c { due = TypeByte b })
-commands_front c b (x ∷ xs) machine may is =
-    Front-append _ _ _ _ _ (command_front c b x machine may is.0) (commands_front c (behind_command b) xs machine (may_command b may) is.1)
+-- START is still to come
+abbrev pub IsOpening : Before → Type 0
+IsOpening b = is_before_start (behind_command b) ≡ true
+
+opening_stays : (b : Before) → IsOpening b → IsOpening (behind_command b)
+opening_stays before.FileHeader is = refl
+opening_stays before.Configuration is = refl
+opening_stays before.Command is = refl
+opening_stays before.Footer is = absurd cc
+opening_stays before.LastFooter is = absurd cc
+
+pub commands_front : (c : StreamProgress) (b : Before) (xs : List Command) → is_machine c.frame ≡ true → may_pass b command_type ≡ true → IsOpening b → AllByRecursion IsCommand xs
+    → (is_addressed c.form ≡ true → list_any is_advise xs ≡ false)
+    → Front (record c { due = TypeByte b }) (flat_map command xs) (record c { due = TypeByte (behind_commands b xs); form = cond (list_any is_advise xs) Sized c.form })
+commands_front c b [] machine may opening is one = Front-none (record c { due = TypeByte b })
+commands_front c b (x ∷ xs) machine may opening is one =
+    let a : Bool = is_advise x in
+    let others : Bool = list_any is_advise xs in
+    let d : StreamProgress = record c { form = cond a Sized c.form } in
+    let first : Front (record c { due = TypeByte b }) (command x) (record d { due = TypeByte (behind_command b) }) =
+    subst (λ (early : Bool). Front (record c { due = TypeByte b }) (command x) (record c { due = TypeByte (behind_command b); form = cond (early && a) Sized c.form })) opening
+    (command_front c b x machine may is.0 (first_fits (is_addressed c.form) a others (is_before_start (behind_command b)) one)) in
+    let rest = commands_front d (behind_command b) xs machine (may_command b may) (opening_stays b opening) is.1 (others_fit c.form a others one) in
+    subst (λ (form : EntryForm). Front (record c { due = TypeByte b }) (flat_map command (x ∷ xs)) (record c { due = TypeByte (behind_commands b (x ∷ xs)); form = form })) (twice a others Sized c.form)
+    (Front-append _ _ _ _ _ first rest)
 
 -- ---- subsections
 
@@ -105,25 +145,32 @@ head_front c kind =
     subst (λ (x : StreamProgress). Front d (subsection_head kind) x) new (item_front d (subsection_head kind) (λ e. absurd cc) (head_whole kind) (rw (name_told kind, version_told kind) refl))
 
 -- the names of capabilities
-names_front : (c : StreamProgress) (names : List (List ℕ)) → AllByRecursion IsCapability names → Front (record c { due = capabilities_due (length names) }) (flat_map counted names) (record c { due = TypeByte before.Configuration })
+names_front : (c : StreamProgress) (names : List (List ℕ)) → AllByRecursion IsCapability names
+    → Front (record c { due = capabilities_due (length names) }) (flat_map counted names) (record c { due = TypeByte before.Configuration; form = cond (ignore_shared_in names) Addressed c.form })
 names_front c [] is = Front-none (record c { due = TypeByte before.Configuration })
 names_front c (name ∷ names) is =
     let n : ℕ = length names in
+    let shared : Bool = bytes_eq name ignore_shared in
+    let after_name : StreamProgress = record c { form = cond shared Addressed c.form } in
     let some : eqb (length (name ∷ names)) 0 ≡ false = ne_eqb _ _ (λ e. omega (arith, e)) in
     let cut : 1 + length name - 1 ≡ length name = omega arith in
     let own : id_in (counted name) ≡ name = ap (λ (k : ℕ). take k name) cut ∙ ap (take (length name)) (sym (append-nil name)) ∙ take_at name [] (length name) refl in
-    let free : first_fault (record c { due = Passed (item.Capability n) }) (counted name) ≡ None = rw (own, is.0.keeps_layout) refl in
-    let one : Front (record c { due = Passed (item.Capability n) }) (counted name) (record c { due = capabilities_due n }) =
-    item_front (record c { due = Passed (item.Capability n) }) (counted name) (λ e. absurd cc) (omega arith) free in
+    let d : StreamProgress = record c { due = Passed (item.Capability n) } in
+    let free : first_fault d (counted name) ≡ None = rw (own, is.0.isnt_mapped) refl in
+    let new : after d (counted name) ≡ record after_name { due = capabilities_due n } = ap (λ (id : List ℕ). record c { due = capabilities_due n; form = cond (bytes_eq id ignore_shared) Addressed c.form }) own in
+    let one : Front d (counted name) (record after_name { due = capabilities_due n }) =
+    subst (λ (x : StreamProgress). Front d (counted name) x) new (item_front d (counted name) (λ e. absurd cc) (omega arith) free) in
     let less : length (name ∷ names) - 1 ≡ n = omega arith in
     let same : capabilities_due (length (name ∷ names)) ≡ Passed (item.Capability n) =
     ap (λ (x : Bool). cond x (TypeByte before.Configuration) (Passed (item.Capability (length (name ∷ names) - 1)))) some ∙ ap (λ (k : ℕ). Passed (item.Capability k)) less in
-    let first : Front (record c { due = capabilities_due (length (name ∷ names)) }) (counted name) (record c { due = capabilities_due n }) =
-    subst (λ (d : Due). Front (record c { due = d }) (counted name) (record c { due = capabilities_due n })) (sym same) one in
-    Front-append _ _ _ _ _ first (names_front c names is.1)
+    let first : Front (record c { due = capabilities_due (length (name ∷ names)) }) (counted name) (record after_name { due = capabilities_due n }) =
+    subst (λ (x : Due). Front (record c { due = x }) (counted name) (record after_name { due = capabilities_due n })) (sym same) one in
+    subst (λ (form : EntryForm). Front (record c { due = capabilities_due (length (name ∷ names)) }) (flat_map counted (name ∷ names)) (record c { due = TypeByte before.Configuration; form = form }))
+    (twice shared (ignore_shared_in names) Addressed c.form) (Front-append _ _ _ _ _ first (names_front after_name names is.1))
 
 -- what a subsection holds
-held_front : (c : StreamProgress) (h : SubsectionBody) → IsSubsectionBody c.page_size h → Front (record c { due = Passed (item.SubsectionBody (kind_of h)) }) (body_bytes h) (record c { due = TypeByte before.Configuration })
+held_front : (c : StreamProgress) (h : SubsectionBody) → IsSubsectionBody c.page_size h
+    → Front (record c { due = Passed (item.SubsectionBody (kind_of h)) }) (body_bytes h) (record c { due = TypeByte before.Configuration; form = cond (names_shared h) Addressed c.form })
 held_front c (PageBits bits) is =
     let same : 2 ^ be32_at 0 (be32 bits) ≡ c.page_size = ap (λ (n : ℕ). 2 ^ n) (be32_back bits is.0) ∙ is.1 in
     let free : first_fault (record c { due = Passed (item.SubsectionBody kind.PageBits) }) (be32 bits) ≡ None = rw (eq-eqb _ _ same) refl in
@@ -136,11 +183,15 @@ held_front c (Capabilities names) is =
     Front-append _ _ _ _ _ count (names_front c names is.1)
 
 -- a subsection, after the configuration
-subsection_front : (c : StreamProgress) (h : SubsectionBody) → is_machine c.frame ≡ true → IsSubsectionBody c.page_size h → Front (record c { due = TypeByte before.Configuration }) (subsection h) (record c { due = TypeByte before.Configuration })
+subsection_front : (c : StreamProgress) (h : SubsectionBody) → is_machine c.frame ≡ true → IsSubsectionBody c.page_size h
+    → Front (record c { due = TypeByte before.Configuration }) (subsection h) (record c { due = TypeByte before.Configuration; form = cond (names_shared h) Addressed c.form })
 subsection_front c h machine is =
     Front-append _ _ _ _ _ (passed_type_front c before.Configuration subsection_type machine refl refl) (Front-append _ _ _ _ _ (head_front c (kind_of h)) (held_front c h is))
 
 pub subsections_front : (c : StreamProgress) (hs : List SubsectionBody) → is_machine c.frame ≡ true → AllByRecursion (IsSubsectionBody c.page_size) hs
-    → Front (record c { due = TypeByte before.Configuration }) (flat_map subsection hs) (record c { due = TypeByte before.Configuration })
+    → Front (record c { due = TypeByte before.Configuration }) (flat_map subsection hs) (record c { due = TypeByte before.Configuration; form = cond (list_any names_shared hs) Addressed c.form })
 subsections_front c [] machine is = Front-none (record c { due = TypeByte before.Configuration })
-subsections_front c (h ∷ hs) machine is = Front-append _ _ _ _ _ (subsection_front c h machine is.0) (subsections_front c hs machine is.1)
+subsections_front c (h ∷ hs) machine is =
+    let d : StreamProgress = record c { form = cond (names_shared h) Addressed c.form } in
+    subst (λ (form : EntryForm). Front (record c { due = TypeByte before.Configuration }) (flat_map subsection (h ∷ hs)) (record c { due = TypeByte before.Configuration; form = form }))
+    (twice (names_shared h) (list_any names_shared hs) Addressed c.form) (Front-append _ _ _ _ _ (subsection_front c h machine is.0) (subsections_front d hs machine is.1))

@@ -50,16 +50,17 @@ text_is_read mode limit text table rounds is =
     let listed : StreamProgress = record begun { left = Some 0; blocks = table.blocks } in
     let first : StreamProgress = after_body listed is.first in
     let opening = opening_front from is.name is.id is.has_name is.has_id in
-    let list = list_front begun table is.has_table is.has_limit in
     let fit : FlushesFit (is_single first.mode) others =
     subst (λ (single : Bool). FlushesFit single others) (sym (single_kept mode true [] is.first)) (FlushesFit-rest (is_single mode) is.first others told.0) in
     let start_body = body_front listed is.first is.has_table is.has_id refl (FlushesFit-first (is_single mode) is.first others told.0) (Follow-first table None is.first behind follow) refl in
     let end = sections_front first is.parts is.last refl is.has_table is.has_id refl fit (Follow-rest table None is.first behind follow) told.1 in
     let parts : List ℕ = flat_map (section table sections.Part is.id) is.parts in
+    let to : StreamProgress = at_end first others in
+    let list = list_front begun to table _ is.has_table is.has_limit refl (Front-append _ _ _ _ _ start_body end) in
     let spelled = is.is_spelled ∙ regroup file_header (configuration is.name) (start_head is.id) (size_list table) (body table is.id is.first) parts (section table sections.End is.id is.last) (end_byte ∷ []) in
     record {
-      to = at_end first others;
-      leads = subst (λ (x : List ℕ). Front from x (at_end first others)) (sym spelled) (Front-append _ _ _ _ _ opening (Front-append _ _ _ _ _ list (Front-append _ _ _ _ _ start_body end)));
+      to = to;
+      leads = subst (λ (x : List ℕ). Front from x to) (sym spelled) (Front-append _ _ _ _ _ opening list);
       is_closed = refl;
       has_table = refl;
       has_rounds = told.2;

@@ -1,5 +1,5 @@
 -- What items leave as it was.
-use Rattle.std.proofs.Common.{◌≡◌, ◌≢◌, eqb, ℕ, ◌*◌, ◌%◌, ◌≤◌, Bool, true, false, not, nat_lt, nat_le, ◌||◌, ◌==◌, List, [], ◌∷◌, ◌++◌, length, Option, Some, None, refl, sym, ap, subst, ◌∙◌, inl, inr, append_assoc, arith}
+use Rattle.std.proofs.Common.{◌≡◌, ◌≢◌, eqb, ℕ, ◌*◌, ◌%◌, ◌≤◌, Bool, true, false, cond, not, nat_lt, nat_le, ◌||◌, ◌==◌, List, [], ◌∷◌, ◌++◌, length, Option, Some, None, refl, sym, ap, subst, ◌∙◌, inl, inr, append_assoc, arith}
 use Rattle.std.specs.Prelude.{is_some, slice_index}
 use Rattle.std.specs.Option.{unwrap_or}
 use Rattle.std.proofs.lemmas.List.{append-nil}
@@ -10,7 +10,7 @@ use Rattle.mig_stream.specs.declared.item.Mode.TheVariants.{Single, Main, MainBy
 use Rattle.mig_stream.specs.declared.item.Filling.TheVariants.{Zero, Normal}
 use Rattle.mig_stream.specs.declared.item.Before.{Before}
 use Rattle.mig_stream.specs.declared.item.Due.{Due}
-use Rattle.mig_stream.specs.declared.item.Due.TheVariants.{FileHeader, TypeByte, ConfigLength, ConfigName, StartHead, SectionHead, RecordHead, ListEntry, BlockName, Content, Footer, Passed, Nothing}
+use Rattle.mig_stream.specs.declared.item.Due.TheVariants.{FileHeader, TypeByte, ConfigLength, ConfigName, StartHead, SectionHead, RecordHead, ListEntry, PageSize, BlockName, Content, Footer, Passed, Nothing}
 use Rattle.mig_stream.specs.declared.item.RecordKind.{RecordKind}
 use Rattle.mig_stream.specs.declared.item.RecordKind.TheVariants.{SizeList, Named, Continued, EndOfSection, Flush}
 use Rattle.mig_stream.specs.declared.fault.StreamFault.{StreamFault}
@@ -18,7 +18,7 @@ use Rattle.mig_stream.specs.declared.fault.StreamFault.TheVariants as fault
 use Rattle.mig_stream.specs.PageRecord.{PageRecord}
 use Rattle.mig_stream.specs.Progress.{StreamProgress, is_used_up}
 use Rattle.mig_mem.specs.First.{first_of}
-use Rattle.mig_stream.specs.Items.{id_in, length_in, is_single, is_start, has_none, flush_mode, flush_ends, flush_rounds, flush_records, eos_mode, is_passed, after_type_byte, head_faults, faults, first_fault, after_type, after_kind, after_head, open_records, whole_rounds, end_section, after_item, after, eos_records, eos_rounds, end_records}
+use Rattle.mig_stream.specs.Items.{id_in, length_in, is_page_size, record_faults, entry_faults, is_single, is_start, has_none, flush_mode, flush_ends, flush_rounds, flush_records, eos_mode, is_passed, after_type_byte, head_faults, faults, first_fault, after_type, after_kind, after_head, open_records, whole_rounds, end_section, after_item, after, eos_records, eos_rounds, end_records}
 use Rattle.mig_stream.specs.Reading.{AreFaultless, after_all, Front}
 use Rattle.mig_stream.specs.Later.{HasGrown, is_open, IsLater}
 
@@ -143,6 +143,10 @@ item_step c StartHead item = record { frame = refl; mode = same refl; page_size 
 item_step c SectionHead item = record { frame = refl; mode = same refl; page_size = refl; limit = refl; waiting = refl; change = none refl refl refl }
 item_step c RecordHead item = head_step c _ _
 item_step c ListEntry item = record { frame = refl; mode = same refl; page_size = refl; limit = refl; waiting = refl; change = block _ refl refl refl }
+item_step c (PageSize true) item = cond_both (is_page_size item) _ _ (Step c) (λ _. record { frame = refl; mode = same refl; page_size = refl; limit = refl; waiting = refl; change = none refl refl refl }) (λ _. head_step c _ _)
+item_step c (PageSize false) item =
+    cond_both (is_page_size item) _ _ (Step c) (λ _. record { frame = refl; mode = same refl; page_size = refl; limit = refl; waiting = refl; change = none refl refl refl })
+    (λ _. record { frame = refl; mode = same refl; page_size = refl; limit = refl; waiting = refl; change = block _ refl refl refl })
 item_step c (BlockName f page) item = record { frame = refl; mode = same refl; page_size = refl; limit = refl; waiting = refl; change = none refl refl refl }
 item_step c (Content Zero place) item = record { frame = refl; mode = same refl; page_size = refl; limit = refl; waiting = refl; change = one _ refl refl refl }
 item_step c (Content Normal place) item = record { frame = refl; mode = same refl; page_size = refl; limit = refl; waiting = refl; change = one _ refl refl refl }
@@ -168,6 +172,10 @@ blocks_by mid new (whole b r) = ([], b ∙ sym (append-nil mid.blocks))
 pub passed : (b : Bool) (f : StreamFault) (more : List (Bool × StreamFault)) → first_of ((b, f) ∷ more) ≡ None → (b ≡ false) × (first_of more ≡ None)
 passed true f more e = absurd cc
 passed false f more e = (refl, e)
+
+-- where bytes aren't a page size, the tests are those of what stands there
+pub not_size : (b : Bool) (tests : List (Bool × StreamFault)) → b ≡ false → first_of (cond b [] tests) ≡ None → first_of tests ≡ None
+not_size b tests isnt free = sym (ap (λ (x : Bool). first_of (cond x [] tests)) isnt) ∙ free
 
 used_up : (o : Option ℕ) → is_used_up o ≡ true → o ≡ Some 0
 used_up None e = absurd cc
@@ -219,6 +227,11 @@ no_entry a b d n m left nothing free =
     first_false true y e = absurd cc
     first_false false y e = refl
 
+entry_entries : {X : Type 0} (c : StreamProgress) (item : List ℕ) → c.left ≡ Some 0 → first_of (entry_faults c item) ≡ None → X
+entry_entries {X} c item e free =
+    absurd (no_entry (nat_le max_blocks (length c.blocks)) (not (is_id (id_in item))) (is_some (block_of c.blocks (id_in item))) (length_in item) (length_in item % c.page_size) (unwrap_or c.left 0)
+    (ap (λ (o : Option ℕ). unwrap_or o 0) e) free)
+
 item_entries : (c : StreamProgress) (d : Due) (item : List ℕ) → c.left ≡ Some 0 → first_of (faults c d item) ≡ None → SameEntries c (after_item c d item)
 item_entries c FileHeader item e free = (refl, refl)
 item_entries c (TypeByte b) item e free = type_byte_entries c b (slice_index item 0)
@@ -227,9 +240,11 @@ item_entries c (ConfigName n) item e free = (refl, refl)
 item_entries c StartHead item e free = (refl, refl)
 item_entries c SectionHead item e free = (refl, refl)
 item_entries c RecordHead item e free = head_entries c _ _ _ e free
-item_entries c ListEntry item e free =
-    absurd (no_entry (nat_le max_blocks (length c.blocks)) (not (is_id (id_in item))) (is_some (block_of c.blocks (id_in item))) (length_in item) (length_in item % c.page_size) (unwrap_or c.left 0)
-    (ap (λ (o : Option ℕ). unwrap_or o 0) e) free)
+item_entries c ListEntry item e free = entry_entries c item e free
+item_entries c (PageSize true) item e free =
+    cond_both (is_page_size item) _ _ (SameEntries c) (λ _. (refl, refl)) (λ isnt. head_entries c _ _ _ e (not_size (is_page_size item) (record_faults c item) isnt free))
+item_entries c (PageSize false) item e free =
+    cond_both (is_page_size item) _ _ (SameEntries c) (λ _. (refl, refl)) (λ isnt. entry_entries c item e (not_size (is_page_size item) (entry_faults c item) isnt free))
 item_entries c (BlockName f page) item e free = (refl, refl)
 item_entries c (Content Zero place) item e free = (refl, refl)
 item_entries c (Content Normal place) item e free = (refl, refl)

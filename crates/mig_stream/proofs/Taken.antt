@@ -1,11 +1,11 @@
 -- The content of a page that a paused stream's caller has.
-use Rattle.std.proofs.Common.{ℕ, ◌≡◌, ◌+◌, ◌-◌, ◌^◌, ◌<◌, List, [], ◌∷◌, ◌++◌, length, Option, Some, None, refl, sym, ap, subst, ◌∙◌, arith}
+use Rattle.std.proofs.Common.{ℕ, ◌≡◌, ◌+◌, ◌-◌, ◌^◌, List, [], ◌∷◌, ◌++◌, length, Option, Some, None, refl, sym, ap, subst, ◌∙◌, arith}
 use Rattle.std.specs.Prelude.{IfSome, min}
 use Rattle.std.proofs.lemmas.List.{append-nil}
 use Rattle.mig_mem.specs.declared.place.Place.{Place}
 use Rattle.mig_stream.specs.declared.item.Filling.TheVariants.{Zero, Normal}
 use Rattle.mig_stream.specs.declared.item.Due.{Due}
-use Rattle.mig_stream.specs.declared.item.Due.TheVariants.{FileHeader, TypeByte, ConfigLength, ConfigName, StartHead, SectionHead, RecordHead, ListEntry, BlockName, Content, Footer, Passed, Nothing}
+use Rattle.mig_stream.specs.declared.item.Due.TheVariants.{FileHeader, TypeByte, ConfigLength, ConfigName, StartHead, SectionHead, RecordHead, ListEntry, PageSize, BlockName, Content, Footer, Passed, Nothing}
 use Rattle.mig_stream.specs.declared.item.StreamState.TheVariants.{Reading}
 use Rattle.mig_stream.specs.PageRecord.{PageRecord, page_record}
 use Rattle.mig_stream.specs.Progress.{StreamProgress}
@@ -33,6 +33,7 @@ due_page p place is = go p.pending p.progress.due is
     in_due SectionHead e = absurd cc
     in_due RecordHead e = absurd cc
     in_due ListEntry e = absurd cc
+    in_due (PageSize last) e = absurd cc
     in_due (BlockName f page) e = absurd cc
     in_due Footer e = absurd cc
     in_due (Passed passed) e = absurd cc

@@ -7,6 +7,7 @@ use Rattle.mig_stream.specs.declared.progress.Checkpoint.{Checkpoint}
 use Rattle.mig_stream.specs.declared.item.Frame.{Frame}
 use Rattle.mig_stream.specs.declared.item.Mode.{Mode}
 use Rattle.mig_stream.specs.declared.item.Section.{Section}
+use Rattle.mig_stream.specs.declared.item.EntryForm.{EntryForm}
 use Rattle.mig_stream.specs.declared.item.Due.{Due}
 use Rattle.mig_stream.specs.PageRecord.{PageRecord}
 use Rattle.mig_stream.specs.Progress.{StreamProgress, is_used_up}
@@ -52,18 +53,19 @@ were_listed checkpoint now e w same_size same_limit same_left same_blocks =
 
 -- what was read to there, field by field
 pub is_back : (c now new : StreamProgress) (checkpoint : Checkpoint) → checkpoint ≡ checkpoint_of c → IsLater c now → new.frame ≡ now.frame → new.mode ≡ checkpoint.mode → new.page_size ≡ now.page_size → new.limit ≡ now.limit → new.waiting ≡ now.waiting
-    → new.due ≡ checkpoint.due → new.section ≡ checkpoint.section → new.section_id ≡ checkpoint.section_id → new.left ≡ checkpoint.left → new.named ≡ checkpoint.named → new.room ≡ checkpoint.room
+    → new.due ≡ checkpoint.due → new.section ≡ checkpoint.section → new.section_id ≡ checkpoint.section_id → new.form ≡ checkpoint.form → new.left ≡ checkpoint.left → new.named ≡ checkpoint.named → new.room ≡ checkpoint.room
     → new.blocks ≡ take checkpoint.blocks now.blocks → new.records ≡ c.records → new.rounds ≡ c.rounds → new ≡ c
-is_back c now new checkpoint is l frame mode page_size limit waiting due section section_id left named room blocks records rounds =
+is_back c now new checkpoint is l frame mode page_size limit waiting due section section_id form left named room blocks records rounds =
     let back : take checkpoint.blocks now.blocks ≡ c.blocks = ap (λ (m : Checkpoint). take m.blocks now.blocks) is ∙ same_entries c now l in
     ap (λ (x : Frame). record new { frame = x }) (frame ∙ l.same_frame)
     ∙ ap (λ (x : Mode). record new { frame = c.frame; mode = x }) (mode ∙ ap (λ (m : Checkpoint). m.mode) is)
     ∙ ap (λ (x : ℕ). record new { frame = c.frame; mode = c.mode; page_size = x }) (page_size ∙ l.same_page_size)
     ∙ ap (λ (x : ℕ). record new { frame = c.frame; mode = c.mode; page_size = c.page_size; limit = x }) (limit ∙ l.same_limit)
     ∙ ap (λ (x : Option ℕ). record new { frame = c.frame; mode = c.mode; page_size = c.page_size; limit = c.limit; waiting = x }) (waiting ∙ l.same_waiting)
-    ∙ ap (λ (x : Due). record c { due = x; section = new.section; section_id = new.section_id; left = new.left; named = new.named; room = new.room; blocks = new.blocks; records = new.records; rounds = new.rounds }) (due ∙ ap (λ (m : Checkpoint). m.due) is)
-    ∙ ap (λ (x : Section). record c { section = x; section_id = new.section_id; left = new.left; named = new.named; room = new.room; blocks = new.blocks; records = new.records; rounds = new.rounds }) (section ∙ ap (λ (m : Checkpoint). m.section) is)
-    ∙ ap (λ (x : ℕ). record c { section_id = x; left = new.left; named = new.named; room = new.room; blocks = new.blocks; records = new.records; rounds = new.rounds }) (section_id ∙ ap (λ (m : Checkpoint). m.section_id) is)
+    ∙ ap (λ (x : Due). record c { due = x; section = new.section; section_id = new.section_id; form = new.form; left = new.left; named = new.named; room = new.room; blocks = new.blocks; records = new.records; rounds = new.rounds }) (due ∙ ap (λ (m : Checkpoint). m.due) is)
+    ∙ ap (λ (x : Section). record c { section = x; section_id = new.section_id; form = new.form; left = new.left; named = new.named; room = new.room; blocks = new.blocks; records = new.records; rounds = new.rounds }) (section ∙ ap (λ (m : Checkpoint). m.section) is)
+    ∙ ap (λ (x : ℕ). record c { section_id = x; form = new.form; left = new.left; named = new.named; room = new.room; blocks = new.blocks; records = new.records; rounds = new.rounds }) (section_id ∙ ap (λ (m : Checkpoint). m.section_id) is)
+    ∙ ap (λ (x : EntryForm). record c { form = x; left = new.left; named = new.named; room = new.room; blocks = new.blocks; records = new.records; rounds = new.rounds }) (form ∙ ap (λ (m : Checkpoint). m.form) is)
     ∙ ap (λ (x : Option ℕ). record c { left = x; named = new.named; room = new.room; blocks = new.blocks; records = new.records; rounds = new.rounds }) (left ∙ ap (λ (m : Checkpoint). m.left) is)
     ∙ ap (λ (x : Option ℕ). record c { named = x; room = new.room; blocks = new.blocks; records = new.records; rounds = new.rounds }) (named ∙ ap (λ (m : Checkpoint). m.named) is)
     ∙ ap (λ (x : Option ℕ). record c { room = x; blocks = new.blocks; records = new.records; rounds = new.rounds }) (room ∙ ap (λ (m : Checkpoint). m.room) is)

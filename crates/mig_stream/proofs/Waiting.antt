@@ -9,7 +9,7 @@ use Rattle.mig_stream.specs.declared.item.Mode.TheVariants.{Single, Main, MainBy
 use Rattle.mig_stream.specs.declared.item.Filling.TheVariants.{Zero, Normal}
 use Rattle.mig_stream.specs.declared.item.Before.{Before}
 use Rattle.mig_stream.specs.declared.item.Due.{Due}
-use Rattle.mig_stream.specs.declared.item.Due.TheVariants.{FileHeader, TypeByte, ConfigLength, ConfigName, StartHead, SectionHead, RecordHead, ListEntry, BlockName, Content, Footer, Passed, Nothing}
+use Rattle.mig_stream.specs.declared.item.Due.TheVariants.{FileHeader, TypeByte, ConfigLength, ConfigName, StartHead, SectionHead, RecordHead, ListEntry, PageSize, BlockName, Content, Footer, Passed, Nothing}
 use Rattle.mig_stream.specs.declared.item.RecordKind.{RecordKind}
 use Rattle.mig_stream.specs.declared.item.RecordKind.TheVariants.{SizeList, Named, Continued, EndOfSection, Flush}
 use Rattle.mig_stream.specs.declared.item.StreamState.{StreamState}
@@ -17,7 +17,7 @@ use Rattle.mig_stream.specs.declared.giving.Given.{Given}
 use Rattle.mig_stream.specs.declared.giving.Given.TheVariants.{Records, Section, End}
 use Rattle.mig_stream.specs.PageRecord.{PageRecord}
 use Rattle.mig_stream.specs.Progress.{StreamProgress}
-use Rattle.mig_stream.specs.Items.{is_passed, after_type_byte, size, after_type, after_head, open_records, whole_rounds, after_item, after, eos_records, eos_rounds, is_start, has_none, flush_ends, flush_rounds}
+use Rattle.mig_stream.specs.Items.{is_page_size, is_passed, after_type_byte, size, after_type, after_head, open_records, whole_rounds, after_item, after, eos_records, eos_rounds, is_start, has_none, flush_ends, flush_rounds}
 use Rattle.mig_stream.specs.Reading.{AreFaultless, after_all, Front}
 use Rattle.mig_stream.specs.Taking.{HasTakenTo}
 use Rattle.mig_stream.specs.Giving.{Giver, waiting_in, to_go, left, LeavesLess}
@@ -72,6 +72,8 @@ few_item c StartHead item some whole = omega arith
 few_item c SectionHead item some whole = omega arith
 few_item c RecordHead item some whole = few_head c _ _ (length item) (omega arith)
 few_item c ListEntry item some whole = omega arith
+few_item c (PageSize true) item some whole = cond_both (is_page_size item) _ _ (HasFew (waiting_in c) (length item)) (λ _. omega arith) (λ _. few_head c _ _ (length item) (omega (arith, whole)))
+few_item c (PageSize false) item some whole = cond_both (is_page_size item) _ _ (HasFew (waiting_in c) (length item)) (λ _. omega arith) (λ _. omega arith)
 few_item c (BlockName filling page) item some whole = omega arith
 few_item c (Content Zero place) item some whole = omega (arith, whole, length-append c.records (record { place = place; content = None } ∷ []))
 few_item c (Content Normal place) item some whole = omega (arith, some, whole, length-append c.records (record { place = place; content = Some item } ∷ []))

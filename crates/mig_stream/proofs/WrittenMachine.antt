@@ -5,13 +5,16 @@ use Rattle.mig_mem.specs.RamTable.{RamTable, IsTable}
 use Rattle.mig_stream.specs.declared.item.Mode.{Mode}
 use Rattle.mig_stream.specs.declared.item.Mode.TheVariants.{Single, Main}
 use Rattle.mig_stream.specs.declared.item.Section.TheVariants as sections
+use Rattle.mig_stream.specs.declared.item.EntryForm.{EntryForm}
+use Rattle.mig_stream.specs.declared.item.EntryForm.TheVariants.{Plain}
 use Rattle.mig_stream.specs.Format.{most_name_bytes}
 use Rattle.mig_stream.specs.PageRecord.{PageRecord}
 use Rattle.mig_stream.specs.Text.{Record, Follow, all_records, AreRounds, section, body, file_header, configuration, start_head, size_list, total_bytes}
-use Rattle.mig_stream.specs.Machine.{Configuration, configured, IsConfiguration, PartOf, part_or_command, IsPartOrCommand, parts_of, IsMachineText}
+use Rattle.mig_stream.specs.Machine.{Configuration, configured, IsConfiguration, form_of, IsTail, PartOf, part_or_command, IsPartOrCommand, parts_of, IsMachineText}
 use Rattle.mig_stream.specs.Written.{Part, RoundPart, FlushPart, written_id, written_record, written_parts, opening}
 use Rattle.mig_stream.specs.MachineWritten.{machine_written, MachineSinglesAreTexts, MachineMainsAreTexts}
 use Rattle.mig_stream.specs.Writer.{Writer, HasDrained}
+use Rattle.mig_stream.proofs.Tails.{no_tails, no_tails_length, no_tails_plain, no_tails_list}
 use Rattle.mig_stream.proofs.WrittenText.{parts_records, parts_spelled, single_parts, main_parts}
 
 -- PARTs alone
@@ -40,6 +43,11 @@ named_is : (p : ℕ) (name : Option (List ℕ)) → IfSome name (λ bytes. lengt
 named_is p None is = tt
 named_is p (Some name) is = record { has_name = is; are_bodies = tt }
 
+-- and nothing follows the entries
+named_form : (name : Option (List ℕ)) → Plain ≡ form_of (named name) []
+named_form None = refl
+named_form (Some name) = refl
+
 -- a writer's stream keeps what the same parts have as a stream of RAM alone
 from_text : (mode : Mode) (limit : ℕ) (name : Option (List ℕ)) (table : RamTable) (parts : List Part) (rounds : List (List PageRecord)) → IfSome name (λ bytes. length bytes ≤ most_name_bytes)
     → IsTable table → total_bytes table ≤ limit → Follow table None (all_records (parts_records None parts) ++ []) → AreRounds mode ([] ∷ parts_records None parts ++ [] ∷ []) rounds
@@ -50,20 +58,26 @@ from_text mode limit name table parts rounds short is most follow are =
     let parts_are : written_parts table None parts ≡ flat_map (part_or_command table written_id) (map PartOf records) = parts_spelled table None parts ∙ each_part table written_id records in
     let spelled : machine_written name table parts ≡ back (configured (named name)) (flat_map (part_or_command table written_id) (map PartOf records)) =
     ap (λ (c : List ℕ). back c (written_parts table None parts)) (named_spelled name) ∙ ap (back (configured (named name))) parts_are in
+    let with_list : List ℕ → List ℕ → List ℕ =
+    λ c l. c ++ start_head written_id ++ l ++ body table written_id [] ++ flat_map (part_or_command table written_id) (map PartOf records) ++ section table sections.End written_id [] in
     record {
       id = written_id;
       machine = named name;
       commands = [];
+      tails = no_tails table.blocks;
       first = [];
       others = map PartOf records;
       last = [];
-      is_spelled = spelled ∙ ap (λ (c : List ℕ). c ++ start_head written_id ++ size_list table ++ body table written_id [] ++ flat_map (part_or_command table written_id) (map PartOf records) ++ section table sections.End written_id [])
-          (sym (append-nil (file_header ++ configured (named name))));
+      is_spelled = spelled ∙ ap (λ (c : List ℕ). with_list c (size_list table)) (sym (append-nil (file_header ++ configured (named name))))
+          ∙ ap (with_list (file_header ++ configured (named name) ++ [])) (sym (no_tails_list table));
       has_table = is;
       has_limit = most;
       has_id = small;
       has_machine = named_is table.page_size name short;
       are_commands = tt;
+      is_one_form = λ shared. refl;
+      has_tails = no_tails_length table.blocks;
+      are_tails = subst (λ (form : EntryForm). AllByRecursion (IsTail form) (no_tails table.blocks)) (named_form name) (no_tails_plain table.blocks);
       are_others = parts_stand records;
       follow = subst (λ (x : List (List Record)). Follow table None (all_records x ++ [])) (sym (parts_alone records)) follow;
       has_rounds = subst (λ (x : List (List Record)). AreRounds mode ([] ∷ x ++ [] ∷ []) rounds) (sym (parts_alone records)) are;

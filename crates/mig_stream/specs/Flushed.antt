@@ -1,10 +1,10 @@
 -- A main stream whose EOS ends a round too, beside the same stream with a FLUSH before each EOS.
-use Rattle.std.specs.Prelude.{◌≡◌, ◌≢◌, ℕ, ◌+◌, ◌*◌, ◌%◌, Bool, true, false, List, [], ◌∷◌, ◌++◌, length, Option, Some, None, ◌≤◌, ◌<◌, ◌^◌, All}
+use Rattle.std.specs.Prelude.{◌≡◌, ◌≢◌, ℕ, ◌+◌, ◌*◌, ◌%◌, Bool, true, false, not, ◌&&◌, List, [], ◌∷◌, ◌++◌, length, Option, Some, None, ◌≤◌, ◌<◌, ◌^◌, All}
 use Rattle.std.specs.List.{concat}
 use Rattle.mig_mem.specs.PageSize.{IsPageSize}
 use Rattle.mig_stream.specs.declared.item.Mode.TheVariants.{Main, MainBySection}
 use Rattle.mig_stream.specs.declared.item.Due.{Due}
-use Rattle.mig_stream.specs.declared.item.Due.TheVariants.{RecordHead}
+use Rattle.mig_stream.specs.declared.item.Due.TheVariants.{RecordHead, PageSize}
 use Rattle.mig_stream.specs.declared.item.RecordKind.{RecordKind}
 use Rattle.mig_stream.specs.declared.item.RecordKind.TheVariants.{SizeList, Named, Continued, EndOfSection, Flush}
 use Rattle.mig_stream.specs.declared.item.StreamState.TheVariants.{Closed, Bad}
@@ -12,7 +12,7 @@ use Rattle.mig_stream.specs.declared.fault.StreamFault.TheVariants.{Tail}
 use Rattle.mig_stream.specs.Fields.{be64, be64_at}
 use Rattle.mig_stream.specs.Format.{flags_of}
 use Rattle.mig_stream.specs.Progress.{StreamProgress, start}
-use Rattle.mig_stream.specs.Items.{record_kind, after}
+use Rattle.mig_stream.specs.Items.{is_page_size, record_kind, after}
 use Rattle.mig_stream.specs.Reading.{Settings, StreamReading, IsReading}
 use Rattle.mig_stream.specs.Reader.{IsValidUpTo}
 
@@ -27,6 +27,7 @@ is_eos_kind (Some Flush) = false
 -- the item is an EOS, if this kind of item is due
 abbrev pub is_eos : ℕ → Due → List ℕ → Bool
 is_eos page_size RecordHead item = is_eos_kind (record_kind (be64_at 0 item % page_size))
+is_eos page_size (PageSize true) item = not (is_page_size item) && is_eos_kind (record_kind (be64_at 0 item % page_size))
 is_eos page_size other item = false
 
 abbrev pub flush_before : Bool → List ℕ

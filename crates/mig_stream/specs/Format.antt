@@ -60,18 +60,35 @@ subsections = PageBits ∷ Uuid ∷ Capabilities ∷ []
 abbrev pub subsection_version : ℕ
 subsection_version = 1
 
--- The capabilities that change the layout of RAM's section, "x-ignore-shared" and "mapped-ram": the
--- only ones that QEMU writes.
-unfoldable pub layout_capabilities : List (List ℕ)
-layout_capabilities =
-    (0x78 ∷ 0x2D ∷ 0x69 ∷ 0x67 ∷ 0x6E ∷ 0x6F ∷ 0x72 ∷ 0x65 ∷ 0x2D ∷ 0x73 ∷ 0x68 ∷ 0x61 ∷ 0x72 ∷ 0x65 ∷ 0x64 ∷ [])
-    ∷ (0x6D ∷ 0x61 ∷ 0x70 ∷ 0x70 ∷ 0x65 ∷ 0x64 ∷ 0x2D ∷ 0x72 ∷ 0x61 ∷ 0x6D ∷ []) ∷ []
+-- The capabilities that change the layout of RAM's section, the only ones that QEMU writes
+-- (`should_validate_capability` in `migration/savevm.c`). With "x-ignore-shared" each entry of the
+-- size list has the guest address of its block too.
+unfoldable pub ignore_shared : List ℕ
+ignore_shared = 0x78 ∷ 0x2D ∷ 0x69 ∷ 0x67 ∷ 0x6E ∷ 0x6F ∷ 0x72 ∷ 0x65 ∷ 0x2D ∷ 0x73 ∷ 0x68 ∷ 0x61 ∷ 0x72 ∷ 0x65 ∷ 0x64 ∷ []
 
--- The COMMANDs that don't change how RAM's section is read: MIG_CMD_OPEN_RETURN_PATH, MIG_CMD_PING,
+-- With "mapped-ram" pages are at fixed places of a file. It isn't read.
+unfoldable pub mapped_ram : List ℕ
+mapped_ram = 0x6D ∷ 0x61 ∷ 0x70 ∷ 0x70 ∷ 0x65 ∷ 0x64 ∷ 0x2D ∷ 0x72 ∷ 0x61 ∷ 0x6D ∷ []
+
+-- MIG_CMD_POSTCOPY_ADVISE
+abbrev pub advise_command : ℕ
+advise_command = 3
+
+-- How many bytes of data it has if it allows postcopy of RAM: the page sizes of all blocks in one
+-- number, and the guest's page size (`qemu_savevm_send_postcopy_advise`). For dirty bitmaps alone
+-- it has none.
+abbrev pub advise_bytes : ℕ
+advise_bytes = 16
+
+-- Page sizes of a host, and so of its blocks, are multiples of this.
+abbrev pub least_page_size : ℕ
+least_page_size = 4096
+
+-- The COMMANDs that are passed over: MIG_CMD_OPEN_RETURN_PATH, MIG_CMD_PING,
 -- MIG_CMD_POSTCOPY_ADVISE, MIG_CMD_ENABLE_COLO and MIG_CMD_SWITCHOVER_START (`enum qemu_vm_cmd` in
 -- `migration/savevm.c`).
 abbrev pub passed_commands : List ℕ
-passed_commands = 1 ∷ 2 ∷ 3 ∷ 8 ∷ 11 ∷ []
+passed_commands = 1 ∷ 2 ∷ advise_command ∷ 8 ∷ 11 ∷ []
 
 -- RAM's section: "ram", its instance, and its version
 abbrev pub ram_name : List ℕ

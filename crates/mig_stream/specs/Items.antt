@@ -23,12 +23,14 @@ use Rattle.mig_stream.specs.declared.item.RecordKind.{RecordKind}
 use Rattle.mig_stream.specs.declared.item.RecordKind.TheVariants.{SizeList, Named, Continued, EndOfSection, Flush}
 use Rattle.mig_stream.specs.declared.item.Subsection.{Subsection}
 use Rattle.mig_stream.specs.declared.item.Subsection.TheVariants.{PageBits, Uuid, Capabilities}
+use Rattle.mig_stream.specs.declared.item.EntryForm.{EntryForm}
+use Rattle.mig_stream.specs.declared.item.EntryForm.TheVariants.{Plain, Addressed, Sized}
 use Rattle.mig_stream.specs.declared.item.PassedItem.{PassedItem}
-use Rattle.mig_stream.specs.declared.item.PassedItem.TheVariants.{Command, SubsectionHead, SubsectionBody, Capability}
+use Rattle.mig_stream.specs.declared.item.PassedItem.TheVariants.{Command, SubsectionHead, SubsectionBody, Capability, Address}
 use Rattle.mig_stream.specs.declared.item.Due.{Due}
-use Rattle.mig_stream.specs.declared.item.Due.TheVariants.{FileHeader, TypeByte, ConfigLength, ConfigName, StartHead, SectionHead, RecordHead, ListEntry, BlockName, Content, Footer, Passed, Nothing}
+use Rattle.mig_stream.specs.declared.item.Due.TheVariants.{FileHeader, TypeByte, ConfigLength, ConfigName, StartHead, SectionHead, RecordHead, ListEntry, PageSize, BlockName, Content, Footer, Passed, Nothing}
 use Rattle.mig_stream.specs.Fields.{be16_at, be32_at, be64_at}
-use Rattle.mig_stream.specs.Format.{magic, version, end_byte, section_type, subsection_type, command_type, configuration_type, footer_type, subsection_name, subsections, subsection_version, layout_capabilities, passed_commands, ram_name, ram_instance, ram_version, flags_of, record_kinds, most_name_bytes}
+use Rattle.mig_stream.specs.Format.{magic, version, end_byte, section_type, subsection_type, command_type, configuration_type, footer_type, subsection_name, subsections, subsection_version, ignore_shared, mapped_ram, advise_command, advise_bytes, least_page_size, passed_commands, ram_name, ram_instance, ram_version, flags_of, record_kinds, most_name_bytes}
 use Rattle.mig_stream.specs.PageRecord.{PageRecord}
 use Rattle.mig_stream.specs.Progress.{StreamProgress}
 
@@ -42,6 +44,7 @@ passed_size (SubsectionBody PageBits) bytes = 4
 passed_size (SubsectionBody Uuid) bytes = 16
 passed_size (SubsectionBody Capabilities) bytes = 4
 passed_size (Capability others) bytes = 1 + slice_index bytes 0
+passed_size (Address last) bytes = 8
 
 abbrev pub size : ℕ → Due → List ℕ → ℕ
 size page_size FileHeader bytes = 8
@@ -52,6 +55,8 @@ size page_size StartHead bytes = 13 + slice_index bytes 4
 size page_size SectionHead bytes = 4
 size page_size RecordHead bytes = 8
 size page_size ListEntry bytes = 9 + slice_index bytes 0
+size page_size (PageSize true) bytes = 8
+size page_size (PageSize false) bytes = if slice_index bytes 0 == 0 then 8 else 9 + slice_index bytes 0
 size page_size (BlockName filling page) bytes = 1 + slice_index bytes 0
 size page_size (Content Zero place) bytes = 1
 size page_size (Content Normal place) bytes = page_size
@@ -68,6 +73,11 @@ id_in item = slice_range item 1 (1 + slice_index item 0)
 -- the length of a block in an entry of the size list
 abbrev pub length_in : List ℕ → ℕ
 length_in item = be64_at (1 + slice_index item 0) item
+
+-- Where the page size of a block may be, these bytes are one. Nothing else begins so: an id's length
+-- isn't 0, and no record has flags 0.
+abbrev pub is_page_size : List ℕ → Bool
+is_page_size bytes = slice_index bytes 0 == 0 && (not (be64_at 0 bytes == 0) && be64_at 0 bytes % least_page_size == 0)
 
 -- the kind of a record by its flags
 abbrev pub record_kind : ℕ → Option RecordKind
@@ -122,23 +132,47 @@ closes frame section.End = is_machine frame
 abbrev pub has_tail : Bool → StreamProgress → Bool
 has_tail ends c = ends && not (is_single c.mode) && not (length c.records == 0)
 
--- a COMMAND with this number doesn't change how RAM's section is read
+-- a COMMAND with this number is passed over
 abbrev pub is_passed_command : ℕ → Bool
 is_passed_command number = list_any (λ known. number == known) passed_commands
+
+-- a COMMAND with this number, and with this many bytes of data, allows postcopy of RAM
+abbrev pub allows_postcopy : ℕ → ℕ → Bool
+allows_postcopy number len = number == advise_command && len == advise_bytes
+
+-- the COMMAND before this type byte is before START
+abbrev pub is_before_start : Before → Bool
+is_before_start before.FileHeader = false
+is_before_start before.Configuration = false
+is_before_start before.Command = true
+is_before_start before.Footer = false
+is_before_start before.LastFooter = false
+
+-- a COMMAND before START allows postcopy of RAM
+abbrev pub advises : Before → List ℕ → Bool
+advises before item = is_before_start before && allows_postcopy (be16_at 0 item) (be16_at 2 item)
+
+abbrev pub is_addressed : EntryForm → Bool
+is_addressed Plain = false
+is_addressed Addressed = true
+is_addressed Sized = false
 
 -- the test of a subsection's name and version
 abbrev pub subsection_faults : List ℕ → List (Bool × StreamFault)
 subsection_faults item =
     (is_none (subsection_of (id_in item)) || not (be32_at (1 + slice_index item 0) item == subsection_version), fault.Subsection) ∷ []
 
--- the tests of an item that is passed over, in a stream of this page size
-abbrev pub passed_faults : ℕ → PassedItem → List ℕ → List (Bool × StreamFault)
-passed_faults page_size (Command before) item = (not (is_passed_command (be16_at 0 item)), fault.Command) ∷ []
-passed_faults page_size SubsectionHead item = subsection_faults item
-passed_faults page_size (SubsectionBody PageBits) item = (not (2 ^ be32_at 0 item == page_size), fault.PageBits) ∷ []
-passed_faults page_size (SubsectionBody Uuid) item = []
-passed_faults page_size (SubsectionBody Capabilities) item = []
-passed_faults page_size (Capability others) item = (list_any (λ name. bytes_eq (id_in item) name) layout_capabilities, fault.Capability) ∷ []
+-- The tests of an item that is passed over, in a stream of this page size, whose size list has this
+-- form. Postcopy of RAM isn't allowed beside "x-ignore-shared".
+abbrev pub passed_faults : ℕ → EntryForm → PassedItem → List ℕ → List (Bool × StreamFault)
+passed_faults page_size form (Command before) item =
+    (not (is_passed_command (be16_at 0 item)) || (is_addressed form && advises before item), fault.Command) ∷ []
+passed_faults page_size form SubsectionHead item = subsection_faults item
+passed_faults page_size form (SubsectionBody PageBits) item = (not (2 ^ be32_at 0 item == page_size), fault.PageBits) ∷ []
+passed_faults page_size form (SubsectionBody Uuid) item = []
+passed_faults page_size form (SubsectionBody Capabilities) item = []
+passed_faults page_size form (Capability others) item = (bytes_eq (id_in item) mapped_ram, fault.Capability) ∷ []
+passed_faults page_size form (Address last) item = []
 
 -- the open round takes no more page records
 abbrev pub is_full : Option ℕ → Bool
@@ -170,6 +204,21 @@ abbrev pub head_faults : StreamProgress → ℕ → Option RecordKind → ℕ �
 head_faults c flags None page = (true, fault.Flags flags) ∷ []
 head_faults c flags (Some kind) page = kind_faults c kind page
 
+-- the tests of a record head
+abbrev pub record_faults : StreamProgress → List ℕ → List (Bool × StreamFault)
+record_faults c item =
+    let flags = be64_at 0 item % c.page_size in
+    head_faults c flags (record_kind flags) (be64_at 0 item / c.page_size)
+
+-- the tests of an entry of the size list
+abbrev pub entry_faults : StreamProgress → List ℕ → List (Bool × StreamFault)
+entry_faults c item =
+    (nat_le max_blocks (length c.blocks), fault.TooManyBlocks) ∷
+    (not (is_id (id_in item)), fault.Id) ∷
+    (is_some (block_of c.blocks (id_in item)), fault.IdTwice) ∷
+    (length_in item == 0 || not (length_in item % c.page_size == 0), fault.Length) ∷
+    (nat_lt (unwrap_or c.left 0) (length_in item), fault.SizeSum) ∷ []
+
 -- Each test of an item, with its fault if the test holds, in the order of the tests.
 abbrev pub faults : StreamProgress → Due → List ℕ → List (Bool × StreamFault)
 faults c FileHeader item =
@@ -187,15 +236,10 @@ faults c StartHead item =
     (not (be32_at (5 + len) item == ram_instance), fault.Instance) ∷
     (not (be32_at (9 + len) item == ram_version), fault.RamVersion) ∷ []
 faults c SectionHead item = (not (be32_at 0 item == c.section_id), fault.SectionId) ∷ []
-faults c RecordHead item =
-    let flags = be64_at 0 item % c.page_size in
-    head_faults c flags (record_kind flags) (be64_at 0 item / c.page_size)
-faults c ListEntry item =
-    (nat_le max_blocks (length c.blocks), fault.TooManyBlocks) ∷
-    (not (is_id (id_in item)), fault.Id) ∷
-    (is_some (block_of c.blocks (id_in item)), fault.IdTwice) ∷
-    (length_in item == 0 || not (length_in item % c.page_size == 0), fault.Length) ∷
-    (nat_lt (unwrap_or c.left 0) (length_in item), fault.SizeSum) ∷ []
+faults c RecordHead item = record_faults c item
+faults c ListEntry item = entry_faults c item
+faults c (PageSize true) item = if is_page_size item then [] else record_faults c item
+faults c (PageSize false) item = if is_page_size item then [] else entry_faults c item
 faults c (BlockName filling page) item =
     let named = block_of c.blocks (id_in item) in
     (is_none named, fault.UnknownBlock) ∷
@@ -205,7 +249,7 @@ faults c (Content Normal place) item = []
 faults c Footer item =
     (not (slice_index item 0 == footer_type && be32_at 1 item == c.section_id), fault.Footer) ∷
     (has_tail (closes c.frame c.section) c, fault.Tail) ∷ []
-faults c (Passed passed) item = passed_faults c.page_size passed item
+faults c (Passed passed) item = passed_faults c.page_size c.form passed item
 faults c Nothing item = []
 
 abbrev pub first_fault : StreamProgress → List ℕ → Option StreamFault
@@ -247,6 +291,17 @@ body_of (Some subsection) = Passed (SubsectionBody subsection)
 abbrev pub capabilities_due : ℕ → Due
 capabilities_due others = if others == 0 then TypeByte before.Configuration else Passed (Capability (others - 1))
 
+-- what is due after an entry of the size list and all that belongs to it, given whether it is the
+-- last entry
+abbrev pub list_due : Bool → Due
+list_due last = if last then RecordHead else ListEntry
+
+-- what is due after the length of the block in an entry of this form
+abbrev pub entry_due : EntryForm → Bool → Due
+entry_due Plain last = list_due last
+entry_due Addressed last = Passed (Address last)
+entry_due Sized last = PageSize last
+
 -- the item after one that is passed over
 abbrev pub behind_passed : PassedItem → List ℕ → Due
 behind_passed (Command before) item = TypeByte before
@@ -255,6 +310,15 @@ behind_passed (SubsectionBody PageBits) item = TypeByte before.Configuration
 behind_passed (SubsectionBody Uuid) item = TypeByte before.Configuration
 behind_passed (SubsectionBody Capabilities) item = capabilities_due (be32_at 0 item)
 behind_passed (Capability others) item = capabilities_due others
+behind_passed (Address last) item = list_due last
+
+-- the form of the size list after an item that is passed over
+abbrev pub passed_form : EntryForm → PassedItem → List ℕ → EntryForm
+passed_form form (Command before) item = if advises before item then Sized else form
+passed_form form SubsectionHead item = form
+passed_form form (SubsectionBody kind) item = form
+passed_form form (Capability others) item = if bytes_eq (id_in item) ignore_shared then Addressed else form
+passed_form form (Address last) item = form
 
 -- the records so far are a complete round
 abbrev pub end_round : StreamProgress → StreamProgress
@@ -296,6 +360,7 @@ flush_rounds false rounds records = rounds
 abbrev pub flush_records : StreamProgress → StreamProgress
 flush_records c = record c {
   mode = flush_mode c.mode (is_start c.section) (has_none c.records);
+  due = RecordHead;
   room = c.waiting;
   records = [];
   rounds = flush_rounds (flush_ends c.mode (is_start c.section) (has_none c.records)) c.rounds c.records;
@@ -347,6 +412,18 @@ after_kind c Flush page = flush_records c
 abbrev pub after_head : StreamProgress → Option RecordKind → ℕ → StreamProgress
 after_head c None page = c
 after_head c (Some kind) page = after_kind c kind page
+
+abbrev pub after_record : StreamProgress → List ℕ → StreamProgress
+after_record c item = after_head c (record_kind (be64_at 0 item % c.page_size)) (be64_at 0 item / c.page_size)
+
+abbrev pub after_entry : StreamProgress → List ℕ → StreamProgress
+after_entry c item =
+    let left = unwrap_or c.left 0 - length_in item in
+    record c {
+      due = entry_due c.form (left == 0);
+      left = Some left;
+      blocks = c.blocks ++ record { id = id_in item; pages = length_in item / c.page_size } ∷ [];
+    }
 
 -- with one more page record in the open round
 abbrev pub less_room : Option ℕ → Option ℕ
@@ -402,21 +479,17 @@ after_item c ConfigLength item =
 after_item c (ConfigName len) item = record c { due = TypeByte before.Configuration }
 after_item c StartHead item = record c { due = RecordHead; section_id = be32_at 0 item }
 after_item c SectionHead item = record c { due = RecordHead }
-after_item c RecordHead item = after_head c (record_kind (be64_at 0 item % c.page_size)) (be64_at 0 item / c.page_size)
-after_item c ListEntry item =
-    let left = unwrap_or c.left 0 - length_in item in
-    record c {
-      due = if left == 0 then RecordHead else ListEntry;
-      left = Some left;
-      blocks = c.blocks ++ record { id = id_in item; pages = length_in item / c.page_size } ∷ [];
-    }
+after_item c RecordHead item = after_record c item
+after_item c ListEntry item = after_entry c item
+after_item c (PageSize true) item = if is_page_size item then record c { due = RecordHead } else after_record c item
+after_item c (PageSize false) item = if is_page_size item then record c { due = ListEntry } else after_entry c item
 after_item c (BlockName filling page) item =
     let named = block_of c.blocks (id_in item) in
     record c { due = Content filling (place_at (unwrap_or named 0) page); named = named }
 after_item c (Content Zero place) item = with_record c place None
 after_item c (Content Normal place) item = with_record c place (Some item)
 after_item c Footer item = end_section c
-after_item c (Passed passed) item = record c { due = behind_passed passed item }
+after_item c (Passed passed) item = record c { due = behind_passed passed item; form = passed_form c.form passed item }
 after_item c Nothing item = c
 
 abbrev pub after : StreamProgress → List ℕ → StreamProgress

@@ -17,6 +17,7 @@ checkpoint_of c = record {
   due = c.due;
   section = c.section;
   section_id = c.section_id;
+  form = c.form;
   left = c.left;
   blocks = length c.blocks;
   named = c.named;

@@ -1,19 +1,22 @@
 -- Machines' streams, as QEMU writes them, up to the footer of RAM's END
 -- (`qemu_savevm_state_header`, `vmstate_configuration` and `qemu_savevm_command_send` in
 -- `migration/savevm.c`).
-use Rattle.std.specs.Prelude.{◌≡◌, ℕ, ◌<◌, ◌≤◌, ◌^◌, true, false, List, [], ◌∷◌, ◌++◌, length, Option, None, Some, IfSome, ⊤}
+use Rattle.std.specs.Prelude.{◌≡◌, ◌⊎◌, ℕ, ◌+◌, ◌%◌, ◌<◌, ◌≤◌, ◌^◌, Bool, true, false, if◌then◌else◌, List, [], ◌∷◌, ◌++◌, length, Option, None, Some, IfSome, ⊤}
 use Rattle.std.specs.List.{flat_map, list_any, AllByRecursion}
 use Rattle.std.specs.Str.{bytes_eq}
-use Rattle.mig_mem.specs.RamTable.{RamTable, IsTable}
+use Rattle.mig_mem.specs.RamTable.{Block, RamTable, IsTable}
 use Rattle.mig_stream.specs.declared.item.Mode.{Mode}
 use Rattle.mig_stream.specs.declared.item.Section.TheVariants.{Part, End}
 use Rattle.mig_stream.specs.declared.item.Subsection.{Subsection}
 use Rattle.mig_stream.specs.declared.item.Subsection.TheVariants as kind
-use Rattle.mig_stream.specs.Fields.{be16, be32, counted}
-use Rattle.mig_stream.specs.Format.{command_type, subsection_type, subsection_name, subsection_version, layout_capabilities, most_name_bytes}
-use Rattle.mig_stream.specs.Items.{is_passed_command}
+use Rattle.mig_stream.specs.declared.item.EntryForm.{EntryForm}
+use Rattle.mig_stream.specs.declared.item.EntryForm.TheVariants.{Plain, Addressed, Sized}
+use Rattle.mig_stream.specs.declared.item.RecordKind.TheVariants.{SizeList}
+use Rattle.mig_stream.specs.Fields.{be16, be32, be64, counted}
+use Rattle.mig_stream.specs.Format.{command_type, subsection_type, subsection_name, subsection_version, ignore_shared, mapped_ram, least_page_size, flags_of, most_name_bytes}
+use Rattle.mig_stream.specs.Items.{is_passed_command, allows_postcopy}
 use Rattle.mig_stream.specs.PageRecord.{PageRecord}
-use Rattle.mig_stream.specs.Text.{Record, Follow, all_records, body, section, AreRounds, total_bytes, size_list, file_header, configuration, start_head}
+use Rattle.mig_stream.specs.Text.{Record, Follow, all_records, body, section, AreRounds, entry, total_bytes, file_header, configuration, start_head}
 
 -- ---- COMMANDs
 
@@ -28,10 +31,14 @@ command_bytes c = be16 c.number ++ be16 (length c.carried) ++ c.carried
 abbrev pub command : Command → List ℕ
 command c = command_type ∷ command_bytes c
 
--- a COMMAND that doesn't change how RAM's section is read
+-- a COMMAND that is passed over
 pub record IsCommand (c : Command) : Type 0 where
   pub has_number : is_passed_command c.number ≡ true
   pub has_length : length c.carried < 2 ^ 16
+
+-- it allows postcopy of RAM
+abbrev pub is_advise : Command → Bool
+is_advise c = allows_postcopy c.number (length c.carried)
 
 -- ---- the configuration
 
@@ -52,10 +59,10 @@ body_bytes (PageBits bits) = be32 bits
 body_bytes (Uuid uuid) = uuid
 body_bytes (Capabilities names) = be32 (length names) ++ flat_map counted names
 
--- a capability that leaves the layout of RAM's section as it is
+-- a capability with which RAM's section is read
 pub record IsCapability (name : List ℕ) : Type 0 where
   pub has_length : length name < 2 ^ 8
-  pub keeps_layout : list_any (λ known. bytes_eq name known) layout_capabilities ≡ false
+  pub isnt_mapped : bytes_eq name mapped_ram ≡ false
 
 -- A valid content of a subsection, in a stream with this page size: a page has 2^bits bytes.
 abbrev pub IsSubsectionBody : ℕ → SubsectionBody → Type 0
@@ -82,6 +89,51 @@ pub record IsConfiguration (page_size : ℕ) (c : Configuration) : Type 0 where
   pub has_name : length c.name ≤ most_name_bytes
   pub are_bodies : AllByRecursion (IsSubsectionBody page_size) c.subsections
 
+-- ---- the size list
+
+-- these names of capabilities have "x-ignore-shared"
+abbrev pub ignore_shared_in : List (List ℕ) → Bool
+ignore_shared_in names = list_any (λ name. bytes_eq name ignore_shared) names
+
+abbrev pub names_shared : SubsectionBody → Bool
+names_shared (PageBits bits) = false
+names_shared (Uuid uuid) = false
+names_shared (Capabilities names) = ignore_shared_in names
+
+-- the configuration names "x-ignore-shared"
+abbrev pub ignores_shared : Option Configuration → Bool
+ignores_shared None = false
+ignores_shared (Some c) = list_any names_shared c.subsections
+
+-- The form of the size list, by the configuration and the COMMANDs before START.
+abbrev pub form_of : Option Configuration → List Command → EntryForm
+form_of machine commands =
+    if list_any is_advise commands then Sized else
+    if ignores_shared machine then Addressed else Plain
+
+-- the page size of a block, in a number of 8 bytes whose first byte is 0
+pub record IsBlockPageSize (size : ℕ) : Type 0 where
+  pub is_some : 0 < size
+  pub is_multiple : size % least_page_size ≡ 0
+  pub fits : size < 2 ^ 56
+
+-- What follows the length of a block in its entry: nothing, or the 8 bytes of its guest address, or
+-- those of its page size, which is there only if it isn't the host's.
+abbrev pub IsTail : EntryForm → List ℕ → Type 0
+IsTail Plain tail = tail ≡ []
+IsTail Addressed tail = length tail ≡ 8
+IsTail Sized tail = (tail ≡ []) ⊎ ((size : ℕ) × (tail ≡ be64 size) × IsBlockPageSize size)
+
+-- the entries of blocks, each with its tail
+abbrev pub entries : ℕ → List Block → List (List ℕ) → List ℕ
+entries page_size [] tails = []
+entries page_size (b ∷ blocks) [] = []
+entries page_size (b ∷ blocks) (tail ∷ tails) = entry page_size b ++ (tail ++ entries page_size blocks tails)
+
+-- a size list whose entries have these tails
+unfoldable pub tailed_list : RamTable → List (List ℕ) → List ℕ
+tailed_list table tails = be64 (total_bytes table + flags_of SizeList) ++ entries table.page_size table.blocks tails
+
 -- ---- between START and END: PARTs and COMMANDs
 
 pub data PartOrCommand : Type 0 where
@@ -106,16 +158,18 @@ parts_of (CommandOf c ∷ others) = parts_of others
 
 -- The bytes are a machine's stream up to the footer of RAM's END: file header, configuration with
 -- subsections or none, COMMANDs, START with the size list, PARTs and COMMANDs, and END, each
--- section with any records.
+-- section with any records. What stands before START says what follows the entries of the size
+-- list.
 pub record IsMachineText (mode : Mode) (limit : ℕ) (text : List ℕ) (table : RamTable) (rounds : List (List PageRecord)) : Type 0 where
   pub id : ℕ
   pub machine : Option Configuration
   pub commands : List Command
+  pub tails : List (List ℕ)
   pub first : List Record
   pub others : List PartOrCommand
   pub last : List Record
   pub is_spelled : text ≡ file_header ++ configured machine ++ flat_map command commands
-      ++ start_head id ++ size_list table ++ body table id first
+      ++ start_head id ++ tailed_list table tails ++ body table id first
       ++ flat_map (part_or_command table id) others
       ++ section table End id last
   pub has_table : IsTable table
@@ -123,6 +177,10 @@ pub record IsMachineText (mode : Mode) (limit : ℕ) (text : List ℕ) (table : 
   pub has_id : id < 2 ^ 32
   pub has_machine : IfSome machine (IsConfiguration table.page_size)
   pub are_commands : AllByRecursion IsCommand commands
+  -- QEMU doesn't allow both at once
+  pub is_one_form : ignores_shared machine ≡ true → list_any is_advise commands ≡ false
+  pub has_tails : length tails ≡ length table.blocks
+  pub are_tails : AllByRecursion (IsTail (form_of machine commands)) tails
   pub are_others : AllByRecursion IsPartOrCommand others
   pub follow : Follow table None (first ++ all_records (parts_of others) ++ last)
   pub has_rounds : AreRounds mode (first ∷ parts_of others ++ last ∷ []) rounds

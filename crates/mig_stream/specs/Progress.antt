@@ -6,6 +6,8 @@ use Rattle.mig_stream.specs.declared.item.Frame.{Frame}
 use Rattle.mig_stream.specs.declared.item.Mode.{Mode}
 use Rattle.mig_stream.specs.declared.item.Section.{Section}
 use Rattle.mig_stream.specs.declared.item.Section.TheVariants as section
+use Rattle.mig_stream.specs.declared.item.EntryForm.{EntryForm}
+use Rattle.mig_stream.specs.declared.item.EntryForm.TheVariants.{Plain}
 use Rattle.mig_stream.specs.declared.item.Due.{Due}
 use Rattle.mig_stream.specs.declared.item.Due.TheVariants as due
 use Rattle.mig_stream.specs.PageRecord.{PageRecord}
@@ -24,6 +26,8 @@ pub record StreamProgress : Type 0 where
   -- the section that is read, and START's section id
   pub section : Section
   pub section_id : ℕ
+  -- what follows the length of a block in the size list
+  pub form : EntryForm
   -- how many bytes of the total no entry has yet: None before the size list
   pub left : Option ℕ
   -- the blocks of the entries so far
@@ -47,6 +51,7 @@ start frame mode page_size limit waiting = record {
   due = due.FileHeader;
   section = section.Start;
   section_id = 0;
+  form = Plain;
   left = None;
   blocks = [];
   named = None;

@@ -61,11 +61,13 @@ pub enum StreamFault {
     Truncated,
     /// A subsection of the configuration has an unknown name, or a version other than 1.
     Subsection,
-    /// A capability of the configuration changes the layout of RAM's section.
+    /// The configuration names the capability `mapped-ram`, whose layout of RAM's section isn't
+    /// read.
     Capability,
     /// The configuration's page bits aren't those of the page size.
     PageBits,
-    /// A COMMAND has a number that isn't accepted.
+    /// A COMMAND has a number that isn't accepted, or allows postcopy of RAM beside the capability
+    /// `x-ignore-shared`.
     Command,
     /// A section, or a round of a main stream, has more page records than may wait.
     Waiting,

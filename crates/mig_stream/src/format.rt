@@ -38,18 +38,22 @@ pub(crate) const SUBSECTION_VERSION: u32 = 1;
 // ---- capabilities that change the layout of RAM's section, the only ones that QEMU writes
 // (`should_validate_capability`)
 
+/// Each entry of the size list has its block's guest address.
 pub(crate) const IGNORE_SHARED: &[u8] = b"x-ignore-shared";
 
+/// Pages are at fixed places of a file.
 pub(crate) const MAPPED_RAM: &[u8] = b"mapped-ram";
 
-// ---- COMMANDs that don't change how RAM's section is read (`enum qemu_vm_cmd` in
-// `migration/savevm.c`)
+// ---- COMMANDs that are passed over (`enum qemu_vm_cmd` in `migration/savevm.c`)
 
 pub(crate) const MIG_CMD_OPEN_RETURN_PATH: u16 = 1;
 
 pub(crate) const MIG_CMD_PING: u16 = 2;
 
 pub(crate) const MIG_CMD_POSTCOPY_ADVISE: u16 = 3;
+
+/// How many bytes of data it has if it allows postcopy of RAM.
+pub(crate) const POSTCOPY_ADVISE_LEN: u16 = 16;
 
 pub(crate) const MIG_CMD_ENABLE_COLO: u16 = 8;
 

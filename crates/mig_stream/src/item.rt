@@ -13,14 +13,14 @@ pub enum Mode {
     /// channels.
     Main,
     /// The main stream of multifd as QEMU writes it with `multifd-flush-after-each-section`, which
-    /// machine types of 8.0 and older have: a round ends with each EOS too, before the footer of its
-    /// section.
+    /// machine types of 8.0 and older have: a round ends with each EOS too, before the footer of
+    /// its section.
     MainBySection,
     /// The main stream of multifd, which shows by its first FLUSH or EOS what ends a round. With a
-    /// FLUSH in START it is as `Main`. Otherwise START's EOS ends the first round. If a FLUSH is the
-    /// first record behind START, as the senders of this project write it, it only shows that FLUSHes
-    /// end the rounds from there on. If the first one is a page record or an EOS, the stream is as
-    /// `MainBySection`.
+    /// FLUSH in START it is as `Main`. Otherwise START's EOS ends the first round. If a FLUSH is
+    /// the first record behind START, as the senders of this project write it, it only shows that
+    /// FLUSHes end the rounds from there on. If the first one is a page record or an EOS, the
+    /// stream is as `MainBySection`.
     MainAsShown,
 }
 
@@ -30,9 +30,11 @@ pub enum Frame {
     /// None: the stream is RAM's sections between the file header and the end byte.
     Ram,
     /// Those of a machine's stream, as QEMU writes it (`migration/savevm.c`). COMMANDs and the
-    /// configuration's subsections are passed over. One that may change how RAM's sections are read
-    /// is a fault. The stream is closed by the footer of RAM's END, and the bytes after it, the
-    /// devices' sections, are left to the caller.
+    /// configuration's subsections are checked and passed over. The capability `x-ignore-shared`
+    /// and a COMMAND that allows postcopy of RAM add to the entries of the size list what is passed
+    /// over, too. A capability or a COMMAND with which RAM's sections aren't read is a fault. The
+    /// stream is closed by the footer of RAM's END, and the bytes after it, the devices' sections,
+    /// are left to the caller.
     ///
     /// A COMMAND has up to 65,539 bytes after its type byte. If pieces cut it, a reader keeps the
     /// bytes so far.
@@ -109,7 +111,20 @@ pub enum Subsection {
     Capabilities,
 }
 
-/// An item of a machine's stream that is checked and passed over, since it has nothing on RAM.
+/// What follows the length of a block in an entry of the size list (`ram_save_setup` in
+/// `migration/ram.c`).
+#[derive(Clone, Copy, Debug, PartialEq, Eq)]
+pub enum EntryForm {
+    /// Nothing.
+    Plain,
+    /// The guest address of the block: the configuration names the capability `x-ignore-shared`.
+    Addressed,
+    /// The page size of the block, unless it is the host's: a COMMAND before START allows postcopy
+    /// of RAM.
+    Sized,
+}
+
+/// An item of a machine's stream that is checked and passed over, since it has nothing on pages.
 #[derive(Clone, Copy)]
 pub enum PassedItem {
     /// A COMMAND after its type byte, and what the next type byte follows.
@@ -120,6 +135,8 @@ pub enum PassedItem {
     SubsectionBody(Subsection),
     /// The name of a capability, and the number of others after it.
     Capability(u32),
+    /// The guest address of a block, after its entry, and whether that is the last entry.
+    Address(bool),
 }
 
 /// The next item of a stream.
@@ -138,6 +155,9 @@ pub enum Due {
     RecordHead,
     /// An entry of the size list.
     ListEntry,
+    /// The page size of a block, after its entry, and whether that is the last entry. If it isn't
+    /// there, the item is the one after it: a record's head, or another entry.
+    PageSize(bool),
     /// The length byte and the id of a page record, of a page with this number in its block.
     BlockName(Filling, u64),
     /// The content in a page record, for the page at this place.

@@ -3,15 +3,15 @@
 //! Each function takes one complete item of one kind: it tests it, in the order of the item's
 //! faults, and notes its values.
 
-ghost use Rattle.std.specs.Prelude.{◌≡◌, ◌+◌, ◌/◌, ◌%◌, ◌^◌, ◌≤◌, ◌==◌, ◌&&◌, not, if◌then◌else◌, length, slice_index, OnOk, OnErr};
+ghost use Rattle.std.specs.Prelude.{◌≡◌, ◌+◌, ◌/◌, ◌%◌, ◌^◌, ◌≤◌, ◌==◌, true, false, length, slice_index, OnOk, OnErr, Some};
 ghost use Rattle.mig_mem.specs.PageSize.{IsPageSize};
+ghost use Rattle.mig_mem.specs.First.{first_of};
 ghost use Rattle.mig_stream.specs.declared.item.Due.TheVariants as due;
 ghost use Rattle.mig_stream.specs.declared.item.RecordKind.TheVariants as kind;
 ghost use Rattle.mig_stream.specs.declared.item.Filling.TheVariants as filling;
-ghost use Rattle.mig_stream.specs.Items.{is_allowed, is_passed, closes, passed_size, passed_by, is_passed_command, behind_command, subsection_of, body_of, capabilities_due, behind_footer, record_kind, end_round, is_start, flush_mode, flush_ends, flush_records, eos_mode, is_full, less_room, open_room};
-ghost use Rattle.std.specs.List.{list_any};
+ghost use Rattle.mig_stream.specs.Items.{size, is_page_size, entry_faults, is_allowed, is_passed, closes, passed_size, passed_by, is_passed_command, advises, behind_command, subsection_of, capabilities_due, list_due, entry_due, passed_form, behind_footer, record_kind, end_round, is_start, flush_mode, flush_ends, flush_records, eos_mode, is_full, less_room, open_room};
 ghost use Rattle.std.specs.Str.{bytes_eq};
-ghost use Rattle.mig_stream.specs.Format.{layout_capabilities};
+ghost use Rattle.mig_stream.specs.Format.{ignore_shared, mapped_ram};
 ghost use Rattle.mig_stream.specs.Taking.{TakesAs, TakesHead, TellsBody};
 ghost use Rattle.mig_stream.specs.Kept.{bytes_of, IsShort};
 
@@ -20,13 +20,16 @@ use crate::fields::{be16, be32, be64};
 use crate::format::{
     CAPABILITIES_NAME, CONTINUED_PAGE, CONTINUED_ZERO, IGNORE_SHARED, MAPPED_RAM, MAX_NAME_LEN,
     MIG_CMD_ENABLE_COLO, MIG_CMD_OPEN_RETURN_PATH, MIG_CMD_PING, MIG_CMD_POSTCOPY_ADVISE,
-    MIG_CMD_SWITCHOVER_START, PAGE_BITS_NAME, QEMU_VM_COMMAND, QEMU_VM_CONFIGURATION, QEMU_VM_EOF,
-    QEMU_VM_FILE_MAGIC, QEMU_VM_FILE_VERSION, QEMU_VM_SECTION_END, QEMU_VM_SECTION_FOOTER,
-    QEMU_VM_SECTION_PART, QEMU_VM_SECTION_START, QEMU_VM_SUBSECTION, RAM_INSTANCE,
-    RAM_SAVE_FLAG_EOS, RAM_SAVE_FLAG_MEM_SIZE, RAM_SAVE_FLAG_MULTIFD_FLUSH, RAM_SAVE_FLAG_PAGE,
-    RAM_SAVE_FLAG_ZERO, RAM_SECTION_NAME, RAM_VERSION, SUBSECTION_VERSION, UUID_NAME,
+    MIG_CMD_SWITCHOVER_START, PAGE_BITS_NAME, POSTCOPY_ADVISE_LEN, QEMU_VM_COMMAND,
+    QEMU_VM_CONFIGURATION, QEMU_VM_EOF, QEMU_VM_FILE_MAGIC, QEMU_VM_FILE_VERSION,
+    QEMU_VM_SECTION_END, QEMU_VM_SECTION_FOOTER, QEMU_VM_SECTION_PART, QEMU_VM_SECTION_START,
+    QEMU_VM_SUBSECTION, RAM_INSTANCE, RAM_SAVE_FLAG_EOS, RAM_SAVE_FLAG_MEM_SIZE,
+    RAM_SAVE_FLAG_MULTIFD_FLUSH, RAM_SAVE_FLAG_PAGE, RAM_SAVE_FLAG_ZERO, RAM_SECTION_NAME,
+    RAM_VERSION, SUBSECTION_VERSION, UUID_NAME,
 };
-use crate::item::{Before, Due, Filling, Frame, Mode, PassedItem, RecordKind, Section, Subsection};
+use crate::item::{
+    Before, Due, EntryForm, Filling, Frame, Mode, PassedItem, RecordKind, Section, Subsection,
+};
 use crate::piece::Piece;
 use crate::progress::Progress;
 use crate::round::Records;
@@ -256,6 +259,7 @@ impl<'a, A: Allocator + Copy> Progress<'a, A> {
             self.room = self.waiting;
         }
         self.mode = mode;
+        self.due = Due::RecordHead;
         Ok(())
     }
 
@@ -332,8 +336,50 @@ impl<'a, A: Allocator + Copy> Progress<'a, A> {
             return Err(Stop::Fault(StreamFault::SizeSum));
         }
         self.entries.push(id, len)?;
-        self.due = after_entry(left - len);
+        self.due = entry_due(self.form, left - len == 0);
         Ok(())
+    }
+
+    /// Takes the page size of the last entry's block, or a record's head if that page size isn't
+    /// there.
+    pub(crate) fn last_page_size(&mut self, item: &[u8]) -> Result<(), Stop>
+        requires { length item.now ≡ 8 }
+        ensures { TakesAs self.old (due.PageSize true) item.now self.new result }
+    {
+        if !is_page_size(item) {
+            return self.record_head(item);
+        }
+        self.due = Due::RecordHead;
+        Ok(())
+    }
+
+    /// Takes the page size of an entry's block, or the next entry if that page size isn't there.
+    pub(crate) fn next_page_size(&mut self, item: &[u8]) -> Result<(), Stop>
+        requires { length item.now ≡ size self.old.page_size (due.PageSize false) item.now }
+        ensures { TakesAs self.old (due.PageSize false) item.now self.new result }
+    {
+        if is_page_size(item) {
+            self.due = Due::ListEntry;
+            return Ok(());
+        }
+        if item[0] == 0 {
+            return Err(Stop::Fault(self.no_id(item)));
+        }
+        self.list_entry(item)
+    }
+
+    // Returns the fault of an entry whose id has no bytes.
+    #[tactic(auto, using(crate::proofs::NoPageSize::empty_id))]
+    fn no_id(&self, _item: &[u8]) -> StreamFault
+        requires some { 1 ≤ length _item.now }
+        requires none { slice_index _item.now 0 ≡ 0 }
+        ensures { first_of (entry_faults self.now _item.now) ≡ Some result }
+    {
+        if self.entries.len() >= MAX_BLOCKS {
+            StreamFault::TooManyBlocks
+        } else {
+            StreamFault::Id
+        }
     }
 
     #[inline(always)]
@@ -376,9 +422,11 @@ impl<'a, A: Allocator> Progress<'a, A> {
         requires { length item.now ≡ passed_size passed item.now }
         ensures { TakesAs self.old (due.Passed passed) item.now self.new result }
     {
+        let form = passed_form(self.form, passed, item);
         self.due = match passed {
             PassedItem::Command(before) => {
-                if !is_passed_command(be16(item, 0)) {
+                let clashes = self.form == EntryForm::Addressed && advises(before, item);
+                if !is_passed_command(be16(item, 0)) || clashes {
                     return Err(Stop::Fault(StreamFault::Command));
                 }
                 Due::TypeByte(before)
@@ -393,13 +441,52 @@ impl<'a, A: Allocator> Progress<'a, A> {
             PassedItem::SubsectionBody(Subsection::Uuid) => Due::TypeByte(Before::Configuration),
             PassedItem::SubsectionBody(Subsection::Capabilities) => capabilities_due(be32(item, 0)),
             PassedItem::Capability(others) => {
-                if is_layout(&item[1..1 + item[0] as usize]) {
+                if is_mapped_ram(&item[1..1 + item[0] as usize]) {
                     return Err(Stop::Fault(StreamFault::Capability));
                 }
                 capabilities_due(others)
             }
+            PassedItem::Address(last) => list_due(last),
         };
+        self.form = form;
         Ok(())
+    }
+}
+
+// Returns the form of the size list after an item that is passed over.
+fn passed_form(form: EntryForm, passed: PassedItem, item: &[u8]) -> EntryForm
+    requires { length item.now ≡ passed_size passed item.now }
+    ensures { result ≡ passed_form form passed item.now }
+{
+    match passed {
+        PassedItem::Command(before) => {
+            if advises(before, item) {
+                EntryForm::Sized
+            } else {
+                form
+            }
+        }
+        PassedItem::Capability(_) => {
+            if is_ignore_shared(&item[1..1 + item[0] as usize]) {
+                EntryForm::Addressed
+            } else {
+                form
+            }
+        }
+        _ => form,
+    }
+}
+
+// Returns whether a COMMAND, before START, allows postcopy of RAM.
+fn advises(before: Before, item: &[u8]) -> bool
+    requires { 4 ≤ length item.now }
+    ensures { result ≡ advises before item.now }
+{
+    match before {
+        Before::Command => {
+            be16(item, 0) == MIG_CMD_POSTCOPY_ADVISE && be16(item, 2) == POSTCOPY_ADVISE_LEN
+        }
+        _ => false,
     }
 }
 
@@ -435,7 +522,7 @@ fn subsection_of(name: &[u8]) -> Option<Subsection>
     None
 }
 
-// Returns whether COMMAND `number` doesn't change how RAM's section is read.
+// Returns whether a COMMAND with this number is passed over.
 fn is_passed_command(number: u16) -> bool
     ensures { result ≡ is_passed_command number }
 {
@@ -456,12 +543,20 @@ fn are_page_bits(bits: u32, page_size: u64) -> bool
     2u64.checked_pow(bits) == Some(page_size)
 }
 
-// Returns whether the capability `name` changes the layout of RAM's section.
-#[tactic(auto, unfolding(crate::specs::Format::layout_capabilities))]
-fn is_layout(name: &[u8]) -> bool
-    ensures { result ≡ list_any (λ known. bytes_eq name.now known) layout_capabilities }
+// Returns whether the capability `name` adds guest addresses to the size list.
+#[tactic(auto, unfolding(crate::specs::Format::ignore_shared))]
+fn is_ignore_shared(name: &[u8]) -> bool
+    ensures { result ≡ bytes_eq name.now ignore_shared }
 {
-    name == IGNORE_SHARED || name == MAPPED_RAM
+    name == IGNORE_SHARED
+}
+
+// Returns whether pages are at fixed places of a file, with the capability `name`.
+#[tactic(auto, unfolding(crate::specs::Format::mapped_ram))]
+fn is_mapped_ram(name: &[u8]) -> bool
+    ensures { result ≡ bytes_eq name.now mapped_ram }
+{
+    name == MAPPED_RAM
 }
 
 // Returns the item after the count of capabilities, or after one of them, if `others` more follow.
@@ -543,14 +638,34 @@ fn is_allowed(before: Before, byte: u8) -> bool
     }
 }
 
-// Returns the item after an entry of the size list, given how many bytes of the total are left.
-fn after_entry(left: u64) -> Due
-    ensures { result ≡ (if left == 0 then due.RecordHead else due.ListEntry) }
+// Returns whether bytes after an entry of the size list are the page size of its block.
+fn is_page_size(bytes: &[u8]) -> bool
+    requires { 8 ≤ length bytes.now }
+    ensures { result ≡ is_page_size bytes.now }
 {
-    if left == 0 {
+    let size = be64(bytes, 0);
+    bytes[0] == 0 && (size != 0 && size % PAGE_SIZE_4K == 0)
+}
+
+// Returns the item after an entry of the size list and all that belongs to it.
+fn list_due(last: bool) -> Due
+    ensures { result ≡ list_due last }
+{
+    if last {
         Due::RecordHead
     } else {
         Due::ListEntry
+    }
+}
+
+// Returns the item after the length of the block in an entry of this form.
+fn entry_due(form: EntryForm, last: bool) -> Due
+    ensures { result ≡ entry_due form last }
+{
+    match form {
+        EntryForm::Plain => list_due(last),
+        EntryForm::Addressed => Due::Passed(PassedItem::Address(last)),
+        EntryForm::Sized => Due::PageSize(last),
     }
 }
 

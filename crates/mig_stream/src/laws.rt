@@ -93,20 +93,21 @@ pub fn configured_is_written()
     ensures no_name { WrittenIsClosed }
 {}
 
-/// A main stream of `Mode::MainBySection` is read as the same stream with a FLUSH before each EOS is
-/// read with `Mode::Main`: its table, its rounds and its state are the same. It is valid up to the
-/// same item. No page record in it is without the end of its round, so `Tail` isn't its fault. A
-/// stream that is closed in both modes has at least two rounds more in `Mode::MainBySection`, so no
-/// channels belong to it in both.
+/// A main stream of `Mode::MainBySection` is read as the same stream with a FLUSH before each EOS
+/// is read with `Mode::Main`: its table, its rounds and its state are the same. It is valid up to
+/// the same item. No page record in it is without the end of its round, so `Tail` isn't its fault.
+/// A stream that is closed in both modes has at least two rounds more in `Mode::MainBySection`, so
+/// no channels belong to it in both.
 pub fn sections_are_flushed()
     ensures flushed { SectionsAreFlushed }
     ensures tail { SectionsHaveNoTail }
     ensures more { SectionsAreMore }
 {}
 
-/// A main stream of `Mode::MainAsShown` is one of `Mode::Main` or of `Mode::MainBySection`, with the
-/// same table and rounds. One of `Mode::Main` is one of `Mode::MainAsShown`, if START has a FLUSH or
-/// the first record behind START is one. One of `Mode::MainBySection` is, if neither is so.
+/// A main stream of `Mode::MainAsShown` is one of `Mode::Main` or of `Mode::MainBySection`, with
+/// the same table and rounds. One of `Mode::Main` is one of `Mode::MainAsShown`, if START has a
+/// FLUSH or the first record behind START is one. One of `Mode::MainBySection` is, if neither is
+/// so.
 pub fn shown_is_one_of_both()
     ensures one { ShownIsOneOfBoth }
     ensures machine_one { MachineShownIsOneOfBoth }

@@ -14,7 +14,9 @@ ghost use Rattle.mig_stream.specs.Later.{checkpoint_of, IsLater, WasSaved};
 ghost use Rattle.mig_stream.specs.Reader.{with_taken};
 
 use crate::entries::Entries;
-use crate::item::{Due, Filling, Frame, Mode, PassedItem, Section, StreamState, Subsection};
+use crate::item::{
+    Due, EntryForm, Filling, Frame, Mode, PassedItem, Section, StreamState, Subsection,
+};
 use crate::items::less_room;
 use crate::piece::Piece;
 use crate::round::{Records, StreamRound};
@@ -37,6 +39,7 @@ pub(crate) struct Progress<'a, A: Allocator> {
     pub(crate) due: Due,
     pub(crate) section: Section,
     pub(crate) section_id: u32,
+    pub(crate) form: EntryForm,
     pub(crate) named: Option<usize>,
     // the most page records of a round, and how many more the open one takes: None is any number
     pub(crate) waiting: Option<u64>,
@@ -65,6 +68,7 @@ impl<'a, A: Allocator> Model for Progress<'a, A> {
       due = c.due;
       section = c.section;
       section_id = c.section_id;
+      form = c.form;
       left = c.entries.left;
       blocks = c.entries.blocks;
       named = c.named;
@@ -84,6 +88,7 @@ pub(crate) struct Checkpoint {
     due: Due,
     section: Section,
     section_id: u32,
+    form: EntryForm,
     left: Option<u64>,
     blocks: usize,
     named: Option<usize>,
@@ -113,6 +118,7 @@ impl<'a, A: Allocator + Copy> Progress<'a, A> {
             due: Due::FileHeader,
             section: Section::Start,
             section_id: 0,
+            form: EntryForm::Plain,
             named: None,
             waiting,
             room: waiting,
@@ -144,6 +150,7 @@ impl<'a, A: Allocator + Copy> Progress<'a, A> {
             due: self.due,
             section: self.section,
             section_id: self.section_id,
+            form: self.form,
             named: self.named,
             waiting: self.waiting,
             room: self.room,
@@ -178,6 +185,8 @@ impl<'a, A: Allocator + Copy> Progress<'a, A> {
             Due::SectionHead => self.section_head(bytes),
             Due::RecordHead => self.record_head(bytes),
             Due::ListEntry => self.list_entry(bytes),
+            Due::PageSize(true) => self.last_page_size(bytes),
+            Due::PageSize(false) => self.next_page_size(bytes),
             Due::BlockName(filling, page) => self.block_name(filling, page, bytes),
             Due::Content(Filling::Zero, place) => self.fill_byte(place, bytes),
             Due::Content(Filling::Normal, place) => self.page(place, item),
@@ -254,6 +263,7 @@ fn passed_size(passed: PassedItem, bytes: &[u8]) -> usize
         PassedItem::SubsectionBody(Subsection::Uuid) => 16,
         PassedItem::SubsectionBody(_) => 4,
         PassedItem::Capability(_) => 1 + byte(0),
+        PassedItem::Address(_) => 8,
     }
 }
 
@@ -269,12 +279,13 @@ impl<'a, A: Allocator> Progress<'a, A> {
             None => 0,
         };
         match self.due {
-            Due::FileHeader | Due::RecordHead => 8,
+            Due::FileHeader | Due::RecordHead | Due::PageSize(true) => 8,
             Due::TypeByte(_) => 1,
             Due::ConfigLength | Due::SectionHead => 4,
             Due::ConfigName(len) => len as usize,
             Due::StartHead => 13 + byte(4),
             Due::ListEntry => 9 + byte(0),
+            Due::PageSize(false) => { if byte(0) == 0 { 8 } else { 9 + byte(0) } }
             Due::BlockName(_, _) => 1 + byte(0),
             Due::Content(Filling::Zero, _) => 1,
             Due::Content(Filling::Normal, _) => page_size,
@@ -344,6 +355,7 @@ impl<'a, A: Allocator> Progress<'a, A> {
             due: self.due,
             section: self.section,
             section_id: self.section_id,
+            form: self.form,
             left: self.entries.left(),
             blocks: self.entries.len(),
             named: self.named,
@@ -362,6 +374,7 @@ impl<'a, A: Allocator> Progress<'a, A> {
         self.due = checkpoint.due;
         self.section = checkpoint.section;
         self.section_id = checkpoint.section_id;
+        self.form = checkpoint.form;
         self.named = checkpoint.named;
         self.room = checkpoint.room;
         self.entries.go_back(checkpoint.left, checkpoint.blocks);

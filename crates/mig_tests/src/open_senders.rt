@@ -1,5 +1,5 @@
-//! A sender of a machine's stream: with a machine's name, drained, after a cancelled round, and left
-//! open for the sections of devices.
+//! A sender of a machine's stream: with a machine's name, drained, after a cancelled round, and
+//! left open for the sections of devices.
 
 use crate::building::{dirty_of, image_with};
 use mig_fixtures::at;

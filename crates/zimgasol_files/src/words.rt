@@ -190,7 +190,7 @@ fn frame_option<'a>(alloc: Global) -> Arg<'a> {
         .value_name("FRAME")
         .value_parser(ValueParser::from(["machine", "ram"].as_slice()))
         .help(
-            "What the stream is: a machine's, read up to the end of RAM, or RAM's sections alone [default: machine]",
+            "What the stream is: a machine's, with its devices, or RAM's sections alone [default: machine]",
         )
 }
 

@@ -30,9 +30,6 @@ const FLAG_COMPRESS_PAGE: u16 = 0x100;
 /// The complete sections from which RAM has a PART.
 const SECTIONS_WITH_PART: u64 = 2;
 
-/// The number of the COMMAND with which postcopy may follow (`MIG_CMD_POSTCOPY_ADVISE`).
-const POSTCOPY_ADVISE: u16 = 3;
-
 /// The end of a section's name: the state of virtio-mem that comes before RAM's pages.
 const VIRTIO_MEM_EARLY: &[u8] = b"virtio-mem-device-early";
 
@@ -81,9 +78,6 @@ const NO_STREAM: &str =
     "this is no migration stream of QEMU's; if it is compressed, pipe it through its unpacker into `-`";
 
 const OTHER_PAGE_SIZE: &str = "the page size may be the other one (`--page`)";
-
-const HUGE_PAGES: &str =
-    "the size list has a block of huge pages after POSTCOPY_ADVISE: save with `postcopy-ram` off";
 
 const OTHER_FRAME: &str = "this is a machine's stream, which is read without `--frame ram`";
 
@@ -195,8 +189,7 @@ fn id_advice(alloc: Global, met: &Met<'_>, at: usize) -> Result<Option<String>, 
 fn plain_advice(met: &Met<'_>) -> Option<&'static str> {
     match met.fault {
         StreamFault::Magic => Some(file_advice(met.item)),
-        StreamFault::Flags(flags) => Some(flags_advice(met, flags)),
-        StreamFault::Id if has_advise(met.notes) => Some(HUGE_PAGES),
+        StreamFault::Flags(flags) => Some(flags_advice(flags)),
         StreamFault::PageBits | StreamFault::Length => Some(OTHER_PAGE_SIZE),
         StreamFault::Flush => Some(
             "the pages of this stream went over multifd's channels; name each by `--channel`",
@@ -205,7 +198,7 @@ fn plain_advice(met: &Met<'_>) -> Option<&'static str> {
             "QEMU ends each round by a FLUSH or an EOS; this stream has both, and no FLUSH at its end",
         ),
         StreamFault::Truncated => Some("the file was cut, or the save didn't come to its end"),
-        StreamFault::Capability => Some("save without x-ignore-shared and mapped-ram"),
+        StreamFault::Capability => Some("save without mapped-ram"),
         StreamFault::Command => Some(
             "a migration that went over to postcopy isn't complete in a file",
         ),
@@ -224,25 +217,12 @@ fn file_advice(item: &[u8]) -> &'static str {
 }
 
 // Returns advice on a record's flags.
-fn flags_advice(met: &Met<'_>, flags: u16) -> &'static str {
+fn flags_advice(flags: u16) -> &'static str {
     match flags & !FLAG_CONTINUE {
         FLAG_XBZRLE => "the save used xbzrle, which isn't read: save without it",
         FLAG_COMPRESS_PAGE => {
             "the save used the capability compress, which isn't read: save without it"
         }
-        0 if has_advise(met.notes) => HUGE_PAGES,
         _ => "the page size may be the other one (`--page`), or the save used mapped-ram",
     }
-}
-
-// Returns whether the stream has POSTCOPY_ADVISE.
-fn has_advise(notes: &[Note]) -> bool {
-    for note in notes {
-        if let Noted::Command(number, _) = &note.noted
-            && *number == POSTCOPY_ADVISE
-        {
-            return true;
-        }
-    }
-    false
 }

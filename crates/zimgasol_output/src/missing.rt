@@ -20,20 +20,23 @@ const CHANGES: &str =
     "it may be the changes since another stream, which `extract --since` applies; `--partial` takes it as it is";
 
 /// The cause if there is neither a record nor a PART: RAM wasn't sent.
-const NOT_SENT: &str =
-    "RAM isn't in the stream: a `cpr-transfer` migration and shared memory (`x-ignore-shared`) keep it outside";
+const NOT_SENT: &str = "RAM isn't in the stream: a `cpr-transfer` migration keeps it outside";
 
 /// The cause if there are PARTs, and none has a record.
 const NOT_RECORDED: &str =
-    "RAM isn't in the stream: its pages may have gone over multifd's channels (`--channel` names each), or it is shared memory";
+    "RAM isn't in the stream: its pages may have gone over multifd's channels (`--channel` names each)";
 
 /// The cause if all records are of pages of zeros.
 const NO_CONTENTS: &str =
     "all records are of pages of zeros: the other pages may have gone over multifd's channels (`--channel` names each)";
 
+/// The cause if a block has no record, and the stream says that shared memory was left out.
+const SHARED: &str =
+    "the save left out shared memory (`x-ignore-shared`): a block without any record is in its own file; `--partial` takes the stream as it is";
+
 /// The cause if other blocks have records.
-const NOT_SHARED: &str =
-    "a block without any record may be shared memory (`x-ignore-shared`), or virtio-mem with nothing plugged; `--partial` takes the stream as it is";
+const NONE_PLUGGED: &str =
+    "a block without any record may be virtio-mem with nothing plugged; `--partial` takes the stream as it is";
 
 /// The cause if each block has records.
 const NOT_PLUGGED: &str =
@@ -64,7 +67,7 @@ fn cause_in(frame: Frame, blocks: &Blocks) -> &'static str {
         return CHANGES;
     }
     if has_absent(blocks) {
-        NOT_SHARED
+        NONE_PLUGGED
     } else {
         NOT_PLUGGED
     }
@@ -73,6 +76,9 @@ fn cause_in(frame: Frame, blocks: &Blocks) -> &'static str {
 // Returns what may be the cause that a single stream has pages without a record.
 fn cause_of(survey: &Survey, blocks: &Blocks) -> &'static str {
     let all = blocks.counts_of_all();
+    if survey.between.leaves_shared_out() && has_absent(blocks) {
+        return SHARED;
+    }
     if all.pages != 0 || matches!(survey.frame, Frame::Ram) {
         return cause_in(survey.frame, blocks);
     }
@@ -84,6 +90,17 @@ fn cause_of(survey: &Survey, blocks: &Blocks) -> &'static str {
     } else {
         NOT_RECORDED
     }
+}
+
+// Returns what may be the cause that a main stream and its channels have pages without a record.
+fn cause_of_several<F: Read + OpenFile + Drop>(
+    several: &Several<F>,
+    blocks: &Blocks,
+) -> &'static str {
+    if several.main.leaves_shared_out() && has_absent(blocks) {
+        return SHARED;
+    }
+    cause_in(several.frame, blocks)
 }
 
 // Writes the line on a block; `mark` begins it.
@@ -182,7 +199,7 @@ pub(crate) fn put_several_missing<F: Read + OpenFile + Drop, E: Write>(
     let Some(guest) = &several.guest else {
         return Ok(());
     };
-    let cause = cause_in(several.frame, &guest.blocks);
+    let cause = cause_of_several(several, &guest.blocks);
     put_lacks(
         alloc,
         errors,

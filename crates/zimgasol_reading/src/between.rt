@@ -22,6 +22,30 @@ pub enum SectionKind {
     End,
 }
 
+/// What follows the length of a block in an entry of the size list (`ram_save_setup` in
+/// `migration/ram.c` of QEMU).
+#[derive(Clone, Copy, Debug, PartialEq, Eq)]
+pub enum EntryForm {
+    /// Nothing.
+    Plain,
+    /// The guest address of the block: the capability `x-ignore-shared` is on.
+    Addressed,
+    /// The page size of the block, unless it is the host's: a COMMAND allows postcopy of RAM.
+    Sized,
+}
+
+/// The name of the subsection that lists capabilities.
+const CAPABILITIES: &[u8] = b"configuration/capabilities";
+
+/// The capability with which shared memory is left out of the stream.
+const IGNORE_SHARED: &[u8] = b"x-ignore-shared";
+
+/// The number of the COMMAND `MIG_CMD_POSTCOPY_ADVISE`, and how many bytes it has if it allows
+/// postcopy of RAM (`migration/savevm.c` of QEMU).
+const POSTCOPY_ADVISE: u16 = 3;
+
+const POSTCOPY_ADVISE_LEN: u16 = 16;
+
 /// An item between the sections.
 #[derive(Debug, Drop)]
 pub enum Noted {
@@ -53,6 +77,8 @@ pub struct Between {
     pub unnoted: u64,
     /// The section that is open, and the byte of the stream at which it begins.
     pub open: Option<(SectionKind, u64)>,
+    /// What follows the length of a block in the size list.
+    pub form: EntryForm,
     // the complete sections
     sections: u64,
     // the bytes of an item that isn't complete, and the place in the stream after them
@@ -211,6 +237,40 @@ fn subsection_name(item: &[u8]) -> &[u8] {
     item.get(2..head_len - 4).unwrap_or(&[])
 }
 
+// Returns whether a subsection's list of capabilities has `x-ignore-shared`.
+fn ignores_shared(content: &[u8]) -> bool {
+    let mut rest = content.get(4..).unwrap_or(&[]);
+    for _ in 0..number_at(content, 0) {
+        let Some(len) = rest.first() else {
+            return false;
+        };
+        let end = usize::from(*len) + 1;
+        if rest.get(1..end) == Some(IGNORE_SHARED) {
+            return true;
+        }
+        rest = rest.get(end..).unwrap_or(&[]);
+    }
+    false
+}
+
+// Returns whether an item is the list of capabilities, with `x-ignore-shared`.
+fn leaves_shared_out(item: &[u8]) -> bool {
+    subsection_name(item) == CAPABILITIES
+        && ignores_shared(item.get(subsection_head_len(item)..).unwrap_or(&[]))
+}
+
+// Returns the form of the size list after a complete item before START.
+fn form_after(form: EntryForm, item: &[u8]) -> EntryForm {
+    match item.first() {
+        Some(0x05) if leaves_shared_out(item) => EntryForm::Addressed,
+        Some(0x08)
+            if short_at(item, 1) == POSTCOPY_ADVISE && short_at(item, 3) == POSTCOPY_ADVISE_LEN => {
+            EntryForm::Sized
+        }
+        _ => form,
+    }
+}
+
 // Copies bytes; empty if there are none.
 fn copied(alloc: Global, bytes: Option<&[u8]>) -> Result<Vec<u8>, AllocError> {
     bytes.unwrap_or(&[]).to_vec(alloc)
@@ -235,6 +295,7 @@ impl Between {
             notes: Vec::new(alloc),
             unnoted: 0,
             open: None,
+            form: EntryForm::Plain,
             sections: 0,
             item: Vec::new(alloc),
             at: 8,
@@ -289,6 +350,9 @@ impl Between {
 
     // Notes the item, and skips the `after` bytes that end it.
     fn note(&mut self, after: u64) -> Result<(), AllocError> {
+        if self.sections == 0 {
+            self.form = form_after(self.form, &self.item);
+        }
         if self.notes.len() < MOST_NOTED {
             let note = Note {
                 at: self.at.saturating_sub(self.item.len() as u64),
@@ -302,6 +366,11 @@ impl Between {
         self.item.clear();
         self.at = self.at.saturating_add(after);
         Ok(())
+    }
+
+    /// Returns whether shared memory was left out of the stream (`x-ignore-shared`).
+    pub fn leaves_shared_out(&self) -> bool {
+        self.form == EntryForm::Addressed
     }
 
     /// Returns the machine's name, if the stream has it.

@@ -196,6 +196,11 @@ impl MainStream {
         self.head.bytes()
     }
 
+    /// Returns whether shared memory was left out of the stream (`x-ignore-shared`).
+    pub fn leaves_shared_out(&self) -> bool {
+        self.sections.leaves_shared_out()
+    }
+
     /// Returns how many sections are complete, and the kind of the one that is open.
     pub fn section(&self) -> (u64, Option<SectionKind>) {
         (self.sections.count, self.sections.kind(self.valid()))

@@ -5,7 +5,7 @@
 
 ghost use Rattle.std.specs.Prelude.{◌≤◌};
 
-use crate::between::{Between, Note, SectionKind};
+use crate::between::{Between, EntryForm, Note, SectionKind};
 use std::alloc::{AllocError, Global};
 
 /// The flags of a page record's head (`migration/ram.c` of QEMU).
@@ -21,6 +21,9 @@ const FLAG_CONTINUE: u16 = 0x20;
 
 const FLAG_MULTIFD_FLUSH: u16 = 0x200;
 
+/// The number of which the page size of a block is a multiple.
+const LEAST_PAGE_SIZE: u64 = 4096;
+
 /// The bytes of a section's footer.
 const FOOTER_LEN: usize = 5;
 
@@ -33,6 +36,9 @@ enum Next {
     Record,
     // an entry of the size list, and the bytes of the blocks whose entries follow
     Entry(u64),
+    // the page size of the last entry's block, if that is there, and the bytes of the blocks whose
+    // entries follow
+    PageSize(u64),
     // the footer
     Footer,
     // not an item of RAM's section: following stops
@@ -135,8 +141,17 @@ fn page_found(item: &[u8], flags: u16, len: u64) -> Found {
     }
 }
 
+// Returns what follows an entry of the size list and all that belongs to it.
+fn after_entry(left: u64) -> Next {
+    if left == 0 {
+        Next::Record
+    } else {
+        Next::Entry(left)
+    }
+}
+
 // Reads an entry of the size list; `left` bytes of blocks remain, this entry's included.
-fn entry_found(item: &[u8], left: u64) -> Found {
+fn entry_found(item: &[u8], left: u64, form: EntryForm) -> Found {
     let Some(id) = len_at(item, 0) else {
         return Found::More(1);
     };
@@ -145,10 +160,35 @@ fn entry_found(item: &[u8], left: u64) -> Found {
         return Found::More(end - item.len());
     }
     let left = left.saturating_sub(number_at(item, id.saturating_add(1)));
+    match form {
+        EntryForm::Plain => Found::Whole(0, after_entry(left)),
+        EntryForm::Addressed => Found::Whole(8, after_entry(left)),
+        EntryForm::Sized => Found::Whole(0, Next::PageSize(left)),
+    }
+}
+
+// Reads the page size of a block, or in its place the record or the entry that follows.
+fn page_size_found(item: &[u8], left: u64, page_size: u64) -> Found {
     if left == 0 {
+        return last_page_size_found(item, page_size);
+    }
+    match item.first() {
+        None => Found::More(1),
+        Some(0) => up_to(item, 8, Next::Entry(left)),
+        Some(_) => entry_found(item, left, EntryForm::Sized),
+    }
+}
+
+// Reads the page size of the last block, or in its place the record that follows.
+fn last_page_size_found(item: &[u8], page_size: u64) -> Found {
+    if item.len() < 8 {
+        return Found::More(8 - item.len());
+    }
+    let number = number_at(item, 0);
+    if number != 0 && number % LEAST_PAGE_SIZE == 0 {
         Found::Whole(0, Next::Record)
     } else {
-        Found::Whole(0, Next::Entry(left))
+        record_found(item, page_size)
     }
 }
 
@@ -181,6 +221,11 @@ impl Sections {
         }
     }
 
+    /// Returns whether shared memory was left out of the stream (`x-ignore-shared`).
+    pub fn leaves_shared_out(&self) -> bool {
+        self.between.leaves_shared_out()
+    }
+
     /// Returns the items between the sections, up to the byte `valid`.
     pub fn notes(&self, valid: u64) -> &[Note] {
         let notes = self.between.notes.as_slice();
@@ -204,7 +249,8 @@ impl Sections {
                 Next::Lost => return Ok(()),
                 Next::Head(kind) => head_found(&self.item, kind),
                 Next::Record => record_found(&self.item, self.page_size),
-                Next::Entry(left) => entry_found(&self.item, left),
+                Next::Entry(left) => entry_found(&self.item, left, self.between.form),
+                Next::PageSize(left) => page_size_found(&self.item, left, self.page_size),
                 Next::Footer => footer_found(&self.item),
             };
             if !self.follow(piece, start, found)? {
