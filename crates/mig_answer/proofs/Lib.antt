@@ -1,5 +1,7 @@
 pub mod Statuses
 pub mod OneAnswer
+pub mod Never
+mod OneRoundEnd
 mod Examples
 pub mod Judged
 pub mod Received

@@ -1,17 +1,18 @@
 -- How sources stand at a round.
-use Rattle.std.proofs.Common.{ℕ, ◌≡◌, ◌<◌, Bool, true, false, cond, ◌==◌, List, [], ◌∷◌, refl, sym, ◌∙◌, inl, inr, Option, Some, None, arith, find}
+use Rattle.std.proofs.Common.{ℕ, ◌≡◌, ◌<◌, Bool, true, false, cond, ◌==◌, List, [], ◌∷◌, refl, sym, ap, ◌∙◌, inl, inr, Option, Some, None, arith, find}
 use Rattle.std.specs.Prelude.{◌⊎◌, nat_lt}
 use Rattle.std.specs.List.{All, list_all}
-use Rattle.std.proofs.lemmas.Bool.{cases_Bool, le-ltb, lt-ltb, eq-eqb, cond-true, cond-false, and_parts}
+use Rattle.std.proofs.lemmas.Bool.{cases_order, cases_Bool, le-ltb, lt-ltb, eqb-true, eq-eqb, cond-true, cond-false, and_parts}
 use Rattle.std.proofs.lemmas.List.Elements.{All-nil, All-cons, All-head, All-tail}
 use Rattle.mig_mem.specs.First.{first_some}
 use Rattle.mig_stream.specs.declared.item.StreamState.{StreamState}
 use Rattle.mig_stream.specs.declared.item.StreamState.TheVariants as stream
+use Rattle.mig_stream.specs.Reading.{state_at}
 use Rattle.mig_packet.specs.declared.state.ChannelState.{ChannelState}
 use Rattle.mig_packet.specs.declared.state.ChannelState.TheVariants as channel
 use Rattle.mig_answer.specs.declared.status.Status.{Status}
 use Rattle.mig_answer.specs.declared.status.Status.TheVariants.{Whole, Clean, Bad, Pending}
-use Rattle.mig_answer.specs.Status.{status_at, stream_end, channel_end, is_whole, is_pending, fault_of}
+use Rattle.mig_answer.specs.Status.{status_at, stream_end, channel_end, is_whole, is_clean, is_pending, fault_of}
 
 -- ---- one source
 
@@ -39,6 +40,38 @@ sound Whole p f = inl refl
 sound Clean p f = inr refl
 sound (Bad fault) p f = absurd cc
 sound Pending p f = absurd cc
+
+-- ---- a source that is clean
+
+pub status_behind : (k rounds : ℕ) (end : Status) → rounds < k → status_at k rounds end ≡ Pending
+status_behind k rounds end below = elim (cases_Bool (k == rounds)) [
+  | inl e ↦ absurd (let same : k ≡ rounds = eqb-true k rounds e in omega (arith, same, below))
+  | inr ne ↦
+      cond-false (nat_lt k rounds) Whole (cond (k == rounds) end Pending) (le-ltb k rounds (omega (arith, below)))
+      ∙ cond-false (k == rounds) end Pending ne
+]
+
+pub clean_at : (k n : ℕ) (end : Status) → is_clean (status_at k n end) ≡ true → (k ≡ n) × (is_clean end ≡ true)
+clean_at k n end clean = elim (cases_order k n) [
+  | inl e ↦ (e, sym (ap is_clean (status_end k n end e)) ∙ clean)
+  | inr ne ↦ elim ne [
+    | inl lt ↦ absurd (let w : is_clean (status_at k n end) ≡ false = ap is_clean (status_whole k n end lt) in cc)
+    | inr gt ↦ absurd (let w : is_clean (status_at k n end) ≡ false = ap is_clean (status_behind k n end gt) in cc)
+  ]
+]
+
+pub stream_closed : (ended : Bool) (s : StreamState) → is_clean (stream_end (state_at ended s)) ≡ true → s ≡ stream.Closed
+stream_closed true stream.Reading clean = absurd cc
+stream_closed false stream.Reading clean = absurd cc
+stream_closed true stream.Closed clean = refl
+stream_closed false stream.Closed clean = refl
+stream_closed true (stream.Bad f) clean = absurd cc
+stream_closed false (stream.Bad f) clean = absurd cc
+
+pub channel_closed : (s : ChannelState) → is_clean (channel_end s) ≡ true → s ≡ channel.Closed
+channel_closed channel.Reading clean = absurd cc
+channel_closed channel.Closed clean = refl
+channel_closed (channel.Bad f) clean = absurd cc
 
 -- ---- tests of lists
 

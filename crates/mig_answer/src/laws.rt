@@ -4,7 +4,7 @@
 //! Each law is the clause of a function whose body at most names another law that its proof uses.
 //! So it is proved with the crate, and a caller who calls the function may use it.
 
-ghost use Rattle.mig_answer.specs.Law.{HasOneAnswer, EndedTextsAreJudged};
+ghost use Rattle.mig_answer.specs.Law.{HasOneAnswer, EndedTextsAreJudged, DoneByOneRoundEnd};
 ghost use Rattle.mig_answer.specs.Growing.{AnswersStay, WithoutMemoryStays, RoundsStay};
 ghost use Rattle.mig_answer.specs.Received.{FrontTellsChannel, StopIsLast, RoundsAreCounted, FrontsTellAllChannels};
 ghost use Rattle.mig_answer.specs.Dealt.{DealtRoundsAreLawful};
@@ -18,6 +18,12 @@ use std::alloc::Allocator;
 pub fn texts_have_one_answer()
     ensures one { HasOneAnswer }
     ensures ended { EndedTextsAreJudged }
+{}
+
+/// Streams that are done where a FLUSH alone ends the rounds of the main stream aren't done where
+/// each EOS ends one too. So a wrong `RoundEnd` is never taken for a complete load.
+pub fn done_by_one_round_end()
+    ensures { DoneByOneRoundEnd }
 {}
 
 /// An answer that isn't `Running` stays, whatever bytes follow in the streams, and whichever of

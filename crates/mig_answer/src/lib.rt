@@ -23,8 +23,8 @@ mod told;
 mod verdict;
 
 pub use laws::{
-    answers_stay, dealt_rounds_are_lawful, machine_sendings_are_loaded, received_tells_status,
-    sendings_are_loaded, texts_have_one_answer,
+    answers_stay, dealt_rounds_are_lawful, done_by_one_round_end, machine_sendings_are_loaded,
+    received_tells_status, sendings_are_loaded, texts_have_one_answer,
 };
 pub use round::{put, put_by};
 pub use status::{Status, channel_end, stream_end};

@@ -2,6 +2,8 @@
 -- the state of each source.
 pub mod Session
 pub mod Sources
+-- Laws of any session
+pub mod Law
 -- Private: how a session advances
 pub mod Advancing
 -- Pumps, which feed a session what they read

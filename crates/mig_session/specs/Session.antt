@@ -5,24 +5,19 @@ use Rattle.std.specs.Option.{option_map, option_map_or}
 use Rattle.mig_mem.specs.PageSize.{IsPageSize}
 use Rattle.mig_mem.specs.RamTable.{RamTable}
 use Rattle.mig_assemble.specs.Target.{LoadTarget}
-use Rattle.mig_stream.specs.declared.item.Frame.TheVariants.{Machine}
 use Rattle.mig_stream.specs.Reader as stream
-use Rattle.mig_stream.specs.Text.{total_bytes}
 use Rattle.mig_packet.specs.Reader as channel
-use Rattle.mig_send.specs.DealtRounds.{DealtRound}
-use Rattle.mig_single_load.specs.Settings.{ram_settings, main_of, channel_of}
+use Rattle.mig_single_load.specs.Settings.{main_of, channel_of}
 use Rattle.mig_single_load.specs.declared.settings.LoadSettings.{LoadSettings}
-use Rattle.mig_single_load.specs.declared.settings.RoundEnd.TheVariants.{Flush as by_flush}
 use Rattle.mig_session.specs.declared.counts.Count.{Count}
 use Rattle.mig_session.specs.declared.source.Source.{Source}
 use Rattle.mig_session.specs.declared.source.Source.TheVariants as source
 use Rattle.mig_answer.specs.declared.verdict.Verdict.{Verdict}
 use Rattle.mig_answer.specs.declared.verdict.Verdict.TheVariants.{Running}
 use Rattle.mig_answer.specs.Growing.{GoOn}
-use Rattle.mig_answer.specs.Texts.{Text, Texts, Readings, AreReadings, no_text, with_piece, over, ended_texts}
+use Rattle.mig_answer.specs.Texts.{Text, Texts, Readings, AreReadings, no_text, with_piece, over}
 use Rattle.mig_answer.specs.Rounds.{base_at}
 use Rattle.mig_answer.specs.MultiLoad.{Answer, IsAnswer, IsWithoutMemory}
-use Rattle.mig_answer.specs.Sent.{IsSentInAnyOrder, IsMachineSentInAnyOrder, sent_answer}
 use Rattle.mig_session.specs.Sources.{Counts, Places, FedSources, counts_of, Holds}
 
 -- ---- what a session holds
@@ -195,17 +190,3 @@ pub record IsSession (s : LoadSession) : Type 0 where
   pub is_settled : s.verdict ≢ Running → s.sources ≡ None
   pub has_counts : IfSome s.sources (λ sources. counts_of sources ≡ s.counts)
   pub stands : s.sources ≢ None → StandsForSome s
-
--- ---- the streams of a sender
-
--- The streams of a sender on several channels, fed in any pieces and order, are loaded.
-abbrev pub LoadsSent : LoadSession → Type 0
-LoadsSent s = (table : RamTable) (uuid : List ℕ) (limit : ℕ) (rounds : List DealtRound) (main : List ℕ) (channels : List (List ℕ))
-    → IsSentInAnyOrder table uuid rounds main channels → total_bytes table ≤ limit
-    → StandsFor (ram_settings table.page_size limit) uuid (ended_texts main channels) s → answer_in s ≡ sent_answer table rounds
-
--- The sender's streams with a machine's main stream are loaded, too, whatever follows RAM's END.
-abbrev pub LoadsMachineSent : LoadSession → Type 0
-LoadsMachineSent s = (given : LoadSettings) (table : RamTable) (uuid : List ℕ) (rounds : List DealtRound) (main : List ℕ) (channels : List (List ℕ))
-    → given.frame ≡ Machine → given.waiting ≡ None → given.round_end ≡ by_flush → table.page_size ≡ given.page_size → total_bytes table ≤ given.limit → IsMachineSentInAnyOrder table uuid rounds main channels
-    → StandsFor given uuid (ended_texts main channels) s → answer_in s ≡ sent_answer table rounds

@@ -12,7 +12,7 @@ ghost use Rattle.mig_answer.specs.declared.verdict.Verdict.{Verdict};
 ghost use Rattle.mig_stream.specs.Reader.{HasClosedAt, IsClosedAt};
 ghost use Rattle.mig_answer.specs.Texts.{Text, Texts, no_texts};
 ghost use Rattle.mig_session.specs.Sources.{counts_of, Holds, TellsAll};
-ghost use Rattle.mig_session.specs.Session.{HasSource, count_of, no_count, with_fed, with_end, at_source, feed_step, end_step, answer_in, rounds_loaded, HavePlaces, IsSourceValidUpTo, AsRead, StandsFor, LacksMemory, StepsOn, RunsOut, StillLacks, KeepsRounds, LoadsSent, LoadsMachineSent};
+ghost use Rattle.mig_session.specs.Session.{HasSource, count_of, no_count, with_fed, with_end, at_source, feed_step, end_step, answer_in, rounds_loaded, HavePlaces, IsSourceValidUpTo, AsRead, StandsFor, LacksMemory, StepsOn, RunsOut, StillLacks, KeepsRounds};
 ghost use Rattle.mig_session.specs.Advancing.{Feeding, Advances, HasAdvanced, HasTaken, TellsVerdict, failed_without_memory};
 
 use crate::Source;
@@ -475,9 +475,7 @@ impl<A: Allocator> Session<A> {
     /// - `Fault::Round`: a refusal of a round (54 to 59).
     /// - `NoMemory`: an allocation was refused in a `feed`.
     pub fn verdict(&self) -> Verdict
-        ensures value { result ≡ self.now.verdict }
-        ensures sent { LoadsSent self.now }
-        ensures machine { LoadsMachineSent self.now }
+        ensures { result ≡ self.now.verdict }
     {
         self.verdict
     }
