@@ -5,19 +5,21 @@ use Rattle.std.proofs.lemmas.Bool.{cases_lt}
 use Rattle.std.proofs.lemmas.List.FromFn.{length-map-range_with_len}
 use Rattle.std.proofs.lemmas.List.Sorted.{IsPermutation-refl}
 use Rattle.mig_mem.specs.RamTable.{RamTable, IsTable}
-use Rattle.mig_mem.specs.Image.{Image}
+use Rattle.mig_mem.specs.Image.{Image, Page}
 use Rattle.mig_mem.specs.Lent.{lent_image}
 use Rattle.mig_mem.proofs.Lents.{lent_is_image}
 use Rattle.mig_stream.specs.declared.item.Frame.TheVariants.{Ram, Machine}
 use Rattle.mig_stream.specs.Format.{end_byte, most_name_bytes}
-use Rattle.mig_stream.specs.Written.{FlushPart, single, main}
+use Rattle.mig_stream.specs.Written.{RoundPart, FlushPart, single, main}
 use Rattle.mig_stream.specs.MachineWritten.{machine_written}
 use Rattle.mig_stream.proofs.Configured.{written_is_closed}
 use Rattle.mig_send.specs.DealtRounds.{DealtRound, IsSending, channel_text, channel_texts}
 use Rattle.mig_send.specs.MultiSending.{Drained}
 use Rattle.mig_single_load.specs.declared.settings.LoadSettings.{LoadSettings}
 use Rattle.mig_single_load.specs.InPlace.{HasRecordsOnto, HasVerdictOnto}
+use Rattle.mig_single_load.specs.MachineSent.{IsMachineSent}
 use Rattle.mig_single_load.proofs.LoadsInPlace.{sent_in_place}
+use Rattle.mig_single_load.proofs.MachineSent.{machine_in_place}
 use Rattle.mig_answer.specs.declared.verdict.Verdict.{Verdict}
 use Rattle.mig_answer.specs.Sent.{IsSentInAnyOrder, IsMachineSentInAnyOrder}
 use Rattle.mig_in_place.proofs.Sendings.{sent_law, machine_sent_law}
@@ -27,7 +29,7 @@ use Rattle.mig_c_calls.specs.declared.sending.MultiState.TheVariants.{Idle, Roun
 use Rattle.mig_c_calls.specs.Multi.{MultiSetting, AreEnded, all_channels, SendsTo, IsOver, is_left_open, ended_main, with_plain}
 use Rattle.mig_c_loads.specs.Found.{seen_so_far, seen_of_verdict}
 use Rattle.mig_c_loads.specs.InPlace.{settings_into}
-use Rattle.mig_c_loads.specs.Headline.{DrainedIsLoaded, DrainedChannelsAreLoaded, DrainedMachineIsLoaded, channels_out}
+use Rattle.mig_c_loads.specs.Headline.{DrainedIsLoaded, DrainedMachineStreamIsLoaded, ended_stream, DrainedChannelsAreLoaded, DrainedMachineIsLoaded, channels_out}
 
 -- ---- one stream
 
@@ -42,7 +44,7 @@ one_law = λ table rounds given is_table are whole before after load ended found
     let law = sent_in_place (2 ^ 40) first rounds memory load.rounds told.0 is_table (lent_is_image table before fit) is_table.has_room are records verdict in
     (told.2 ∙ ap (seen_so_far ended) law.2, law.1, law.0)
 
--- ---- names
+-- ---- one stream, with a machine's name or left open
 
 short_name : (name : Option (List ℕ)) → (IsLongName name → ⊥) → IfSome name (λ bytes. length bytes ≤ most_name_bytes)
 short_name None short = tt
@@ -50,6 +52,35 @@ short_name (Some name) short = elim (cases_lt most_name_bytes (length name)) [
   | inl long ↦ absurd (short long)
   | inr le ↦ le
 ]
+
+-- what follows the footer of RAM's END
+stream_goes_on : (left_open : Bool) (name : Option (List ℕ)) (table : RamTable) (rounds : List (List Page)) (behind : List ℕ)
+    → (rest : List ℕ) × (ended_stream left_open name table rounds ++ behind ≡ machine_written name table (map RoundPart rounds) ++ rest)
+stream_goes_on true name table rounds behind = (behind, refl)
+stream_goes_on false (Some name) table rounds behind = (end_byte ∷ behind, append_assoc (machine_written (Some name) table (map RoundPart rounds)) (end_byte ∷ []) behind)
+stream_goes_on false None table rounds behind = (
+  end_byte ∷ behind,
+  ap (λ (l : List ℕ). l ++ behind) (sym (written_is_closed table (map RoundPart rounds))) ∙ append_assoc (machine_written None table (map RoundPart rounds)) (end_byte ∷ []) behind,
+)
+
+pub machine_stream_law : DrainedMachineStreamIsLoaded
+machine_stream_law = λ table name left_open rounds given behind is_table are short whole before after load ended found fit loads tells.
+    let settings : LoadSettings = settings_into table Machine None in
+    let first : Image = lent_image table before in
+    let memory : Image = lent_image table after in
+    let told = tells.loads memory settings first (given ++ behind) ended loads in
+    let on = stream_goes_on left_open name table rounds behind in
+    let sent : IsMachineSent (2 ^ 40) table rounds (given ++ behind) = record {
+      is_table = is_table;
+      has_limit = is_table.has_room;
+      are_rounds = are;
+      name = name;
+      has_name = short_name name short;
+      behind = on.0;
+      is_text = ap (λ (l : List ℕ). l ++ behind) whole ∙ on.1;
+    } in
+    let law = machine_in_place settings first rounds (given ++ behind) memory load.rounds told.0 (lent_is_image table before fit) refl refl sent loads.stands.has_records told.1 in
+    (told.2 ∙ ap (seen_so_far ended) law.2, law.1, law.0)
 
 -- ---- the streams of a sender on several channels
 

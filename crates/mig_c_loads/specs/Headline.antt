@@ -1,6 +1,6 @@
 -- The headline in C: what was copied out of a sender that ended, fed in any pieces to a load into
 -- blocks, is DONE, and the blocks have the memory that was sent.
-use Rattle.std.specs.Prelude.{◌≡◌, ◌<◌, ◌+◌, ◌++◌, ℕ, Bool, false, List, length, map, All, None}
+use Rattle.std.specs.Prelude.{◌≡◌, ◌<◌, ◌+◌, ◌++◌, ℕ, Bool, true, false, List, length, map, All, Option, None}
 use Rattle.std.specs.List.{range_with_len}
 use Rattle.mig_mem.specs.RamTable.{RamTable, IsTable}
 use Rattle.mig_mem.specs.Image.{Page}
@@ -13,7 +13,7 @@ use Rattle.mig_single_load.specs.LoadInPlace.{LoadInPlace, LoadsInPlace}
 use Rattle.mig_answer.specs.Sent.{sent_rounds}
 use Rattle.mig_in_place.specs.Law.{taken_texts}
 use Rattle.mig_in_place.specs.Session.{InPlaceLoad, StandsFor}
-use Rattle.mig_c_calls.specs.Sending.{whole_stream}
+use Rattle.mig_c_calls.specs.Sending.{whole_stream, open_stream}
 use Rattle.mig_c_calls.specs.Named.{IsLongName}
 use Rattle.mig_c_calls.specs.declared.sending.Multi.{Multi}
 use Rattle.mig_c_calls.specs.Multi.{MultiSetting, Sends, IsOver, is_left_open, ended_main}
@@ -31,6 +31,20 @@ abbrev pub DrainedIsLoaded : Type 0
 DrainedIsLoaded = (table : RamTable) (rounds : List (List Page)) (given : List ℕ) → IsTable table → All (IsRound table) rounds → given ≡ whole_stream None table rounds
     → (before after : List (List ℕ)) (load : LoadInPlace) (ended : Bool) (found : FoundFault) → FitTable table before
     → LoadsInPlace (lent_image table after) (settings_into table Ram None) (lent_image table before) load given ended → TellsVerdict found load
+    → (found ≡ no_fault) × (load.rounds ≡ length rounds + 2) × (lent_image table after ≡ with_rounds (lent_image table before) rounds)
+
+-- the stream of these rounds, ended with its end byte, or left open behind RAM's END
+abbrev pub ended_stream : Bool → Option (List ℕ) → RamTable → List (List Page) → List ℕ
+ended_stream false name table rounds = whole_stream name table rounds
+ended_stream true name table rounds = open_stream name table rounds
+
+-- So it is of a sender with a machine's name, or one that was left open. Its stream may go on with
+-- anything.
+abbrev pub DrainedMachineStreamIsLoaded : Type 0
+DrainedMachineStreamIsLoaded = (table : RamTable) (name : Option (List ℕ)) (left_open : Bool) (rounds : List (List Page)) (given behind : List ℕ) → IsTable table → All (IsRound table) rounds
+    → (IsLongName name → ⊥) → given ≡ ended_stream left_open name table rounds
+    → (before after : List (List ℕ)) (load : LoadInPlace) (ended : Bool) (found : FoundFault) → FitTable table before
+    → LoadsInPlace (lent_image table after) (settings_into table Machine None) (lent_image table before) load (given ++ behind) ended → TellsVerdict found load
     → (found ≡ no_fault) × (load.rounds ≡ length rounds + 2) × (lent_image table after ≡ with_rounds (lent_image table before) rounds)
 
 -- ---- several channels

@@ -1,12 +1,17 @@
-//! The headline in C, as clauses of functions that do nothing: C's loads load what C's senders sent.
-//! It joins the clauses of the calls of `mig_c_calls` and of this crate.
+//! The headline in C, as clauses of functions that do nothing: C's loads load what C's senders
+//! sent. It joins the clauses of the calls of `mig_c_calls` and of this crate.
 
-ghost use Rattle.mig_c_loads.specs.Headline.{DrainedIsLoaded, DrainedChannelsAreLoaded, DrainedMachineIsLoaded};
+ghost use Rattle.mig_c_loads.specs.Headline.{DrainedIsLoaded, DrainedMachineStreamIsLoaded, DrainedChannelsAreLoaded, DrainedMachineIsLoaded};
 
 /// What was copied out of a sender of one stream is loaded into blocks, in whatever pieces it was
 /// fed.
 pub fn drained_is_loaded()
     ensures { DrainedIsLoaded }
+{}
+
+/// So it is with a machine's stream, whatever follows RAM's END.
+pub fn drained_machine_stream_is_loaded()
+    ensures { DrainedMachineStreamIsLoaded }
 {}
 
 /// What was copied out of a sender on several channels is loaded into blocks, in whatever pieces it

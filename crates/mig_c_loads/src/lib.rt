@@ -26,7 +26,10 @@ pub use fault::FoundFault;
 pub use frame::frame_of;
 pub use held_load::HeldLoad;
 pub use held_session::HeldSession;
-pub use laws::{drained_channels_are_loaded, drained_is_loaded, drained_machine_is_loaded};
+pub use laws::{
+    drained_channels_are_loaded, drained_is_loaded, drained_machine_is_loaded,
+    drained_machine_stream_is_loaded,
+};
 pub use loading::{fault_of, feed_loader, loader_closed_at, settle_loader};
 pub use next_bytes::NextBytes;
 pub use reading::{count_blocks, next_nonzero, read_block, read_page, read_pages};

@@ -1,5 +1,5 @@
 -- A load has all rounds before its channels end: nothing of a further round was written.
-use Rattle.std.proofs.Common.{ℕ, ◌≡◌, ◌&&◌, Bool, true, false, List, [], ◌∷◌, ◌++◌, length, map, Option, Some, None, refl, sym, ap, ◌∙◌, inl, inr}
+use Rattle.std.proofs.Common.{ℕ, ◌≡◌, Bool, true, false, List, [], ◌∷◌, ◌++◌, length, map, refl, sym, ap, ◌∙◌, inl, inr}
 use Rattle.std.specs.Prelude.{if◌then◌else◌, IsTrue, IsFalse}
 use Rattle.std.specs.List.{All, flat_map, list_all, range_with_len}
 use Rattle.std.proofs.lemmas.Bool.{cases_Bool, and_parts}
@@ -30,8 +30,10 @@ use Rattle.mig_in_place.specs.Answer.{rounds_onto, IsInPlaceAnswer}
 use Rattle.mig_in_place.specs.Round.{as_zeros}
 use Rattle.mig_in_place.specs.Sources.{TellsMainStatus, HoldsRound, heads_given, head_places, named_places}
 use Rattle.mig_in_place.specs.Session.{InPlaceLoad, IsRunning, Loading, Loads, HasAllRounds, records_come}
-use Rattle.mig_in_place.proofs.Done.{own_or_other, done_is_clean}
-use Rattle.mig_in_place.proofs.Exact.{clean_at, stream_closed, exact_law}
+use Rattle.mig_answer.proofs.Statuses.{clean_at, stream_closed}
+use Rattle.mig_answer.proofs.Never.{done_is_clean}
+use Rattle.mig_in_place.proofs.Done.{own_or_other}
+use Rattle.mig_in_place.proofs.Exact.{exact_law}
 
 none_left : {X : Type 0} (xs : List X) → length xs ≡ 0 → xs ≡ []
 none_left [] e = refl

@@ -1,5 +1,5 @@
 -- A load in place that is done stays done, whatever bytes follow.
-use Rattle.std.proofs.Common.{ℕ, ◌≡◌, ◌&&◌, false, List, length, Option, None, Some, refl, sym, ap, subst, ◌∙◌, inl, inr}
+use Rattle.std.proofs.Common.{◌≡◌, false, List, length, Option, None, Some, refl, sym, ap, subst, ◌∙◌, inl, inr}
 use Rattle.std.specs.Prelude.{◌⊎◌}
 use Rattle.std.specs.List.{list_all}
 use Rattle.std.proofs.lemmas.Bool.{and_parts}
@@ -16,10 +16,12 @@ use Rattle.mig_answer.specs.Status.{stream_end, is_clean}
 use Rattle.mig_answer.specs.Rounds.{memory_at}
 use Rattle.mig_answer.specs.MultiLoad.{Standing, Answer, IsAnswer, main_at, channels_at}
 use Rattle.mig_answer.proofs.Growing.{readings_stay, answers_law}
-use Rattle.mig_in_place.specs.Answer.{rounds_onto, IsInPlaceAnswer}
+use Rattle.mig_in_place.specs.Answer.{rounds_onto}
 use Rattle.mig_in_place.specs.Law.{InPlaceDoneStays}
-use Rattle.mig_in_place.proofs.Done.{own_or_other, done_is_clean}
-use Rattle.mig_in_place.proofs.Exact.{clean_at, stream_closed, exact_law}
+use Rattle.mig_answer.proofs.Statuses.{clean_at, stream_closed}
+use Rattle.mig_answer.proofs.Never.{done_is_clean}
+use Rattle.mig_in_place.proofs.Done.{own_or_other}
+use Rattle.mig_in_place.proofs.Exact.{exact_law}
 use Rattle.mig_in_place.proofs.Waiting.{same_rounds_onto}
 
 pub stays_law : InPlaceDoneStays

@@ -1,9 +1,9 @@
 -- A load in place that is done has exactly the rounds.
-use Rattle.std.proofs.Common.{ℕ, ◌≡◌, ◌<◌, ◌+◌, ◌&&◌, Bool, true, false, cond, ◌==◌, List, [], ◌∷◌, ◌++◌, length, map, Option, Some, None, is_none, refl, sym, ap, subst, ◌∙◌, inl, inr, arith}
-use Rattle.std.specs.Prelude.{nat_lt, nat_le}
+use Rattle.std.proofs.Common.{ℕ, ◌≡◌, ◌<◌, ◌+◌, ◌&&◌, Bool, true, false, List, [], ◌∷◌, ◌++◌, length, map, Option, Some, None, is_none, refl, sym, ap, subst, ◌∙◌, inl, inr, arith}
+use Rattle.std.specs.Prelude.{nat_le}
 use Rattle.std.specs.Option.{option_map_or}
 use Rattle.std.specs.List.{AllZip, list_all, enumerate_from, flat_map, range_with_len}
-use Rattle.std.proofs.lemmas.Bool.{cases_order, cases_Bool, and_parts, le-ltb, cond-false, eqb-true, lt-leb}
+use Rattle.std.proofs.lemmas.Bool.{and_parts, cond-false, lt-leb}
 use Rattle.std.proofs.Math.ListN.{get_or-eq_default}
 use Rattle.mig_mem.specs.PageSize.{IsPageSize}
 use Rattle.mig_mem.specs.declared.place.Place.{Place}
@@ -16,7 +16,7 @@ use Rattle.mig_stream.specs.declared.item.StreamState.{StreamState}
 use Rattle.mig_stream.specs.declared.item.StreamState.TheVariants as stream_state
 use Rattle.mig_stream.specs.PageRecord.{PageRecord}
 use Rattle.mig_stream.specs.Progress.{StreamProgress}
-use Rattle.mig_stream.specs.Reading.{StreamReading, state_at, Ends}
+use Rattle.mig_stream.specs.Reading.{StreamReading, Ends}
 use Rattle.mig_stream.proofs.Unique.{one_reading as one_stream}
 use Rattle.mig_packet.specs.PageSize.{head_len}
 use Rattle.mig_packet.specs.declared.state.ChannelState.{ChannelState}
@@ -29,49 +29,16 @@ use Rattle.mig_assemble.proofs.Elements.{contains_cases}
 use Rattle.mig_single_load.specs.Settings.{for_table, main_of, channel_of, mode_of}
 use Rattle.mig_single_load.specs.declared.settings.LoadSettings.{LoadSettings}
 use Rattle.mig_single_load.specs.declared.fault.Origin.TheVariants as origin
-use Rattle.mig_answer.specs.declared.status.Status.{Status}
-use Rattle.mig_answer.specs.declared.status.Status.TheVariants.{Whole, Pending}
-use Rattle.mig_answer.specs.Status.{status_at, stream_end, channel_end, channel_status, is_clean}
+use Rattle.mig_answer.specs.Status.{stream_end, channel_end, channel_status, is_clean}
 use Rattle.mig_answer.specs.Texts.{Text, IsMainReading}
 use Rattle.mig_answer.specs.Rounds.{pages_at}
 use Rattle.mig_answer.specs.MultiLoad.{Standing, main_at, channels_at}
-use Rattle.mig_answer.proofs.Statuses.{status_whole, status_end}
+use Rattle.mig_answer.proofs.Statuses.{clean_at, stream_closed, channel_closed}
+use Rattle.mig_answer.proofs.Never.{done_is_clean}
 use Rattle.mig_in_place.specs.Named.{MainNames, ChannelNames, SomeChannelNames, IsNamed, round_so_far, begun, packet_places}
 use Rattle.mig_in_place.specs.Law.{InPlaceDoneIsExact}
 use Rattle.mig_in_place.proofs.Tail.{main_is_not_single, closed_has_none}
-use Rattle.mig_in_place.proofs.Done.{own_or_other, done_is_clean}
-
--- ---- a source that is clean
-
-pub status_behind : (k rounds : ℕ) (end : Status) → rounds < k → status_at k rounds end ≡ Pending
-status_behind k rounds end below = elim (cases_Bool (k == rounds)) [
-  | inl e ↦ absurd (let same : k ≡ rounds = eqb-true k rounds e in omega (arith, same, below))
-  | inr ne ↦
-      cond-false (nat_lt k rounds) Whole (cond (k == rounds) end Pending) (le-ltb k rounds (omega (arith, below)))
-      ∙ cond-false (k == rounds) end Pending ne
-]
-
-pub clean_at : (k n : ℕ) (end : Status) → is_clean (status_at k n end) ≡ true → (k ≡ n) × (is_clean end ≡ true)
-clean_at k n end clean = elim (cases_order k n) [
-  | inl e ↦ (e, sym (ap is_clean (status_end k n end e)) ∙ clean)
-  | inr ne ↦ elim ne [
-    | inl lt ↦ absurd (let w : is_clean (status_at k n end) ≡ false = ap is_clean (status_whole k n end lt) in cc)
-    | inr gt ↦ absurd (let w : is_clean (status_at k n end) ≡ false = ap is_clean (status_behind k n end gt) in cc)
-  ]
-]
-
-pub stream_closed : (ended : Bool) (s : StreamState) → is_clean (stream_end (state_at ended s)) ≡ true → s ≡ stream_state.Closed
-stream_closed true stream_state.Reading clean = absurd cc
-stream_closed false stream_state.Reading clean = absurd cc
-stream_closed true stream_state.Closed clean = refl
-stream_closed false stream_state.Closed clean = refl
-stream_closed true (stream_state.Bad f) clean = absurd cc
-stream_closed false (stream_state.Bad f) clean = absurd cc
-
-channel_closed : (s : ChannelState) → is_clean (channel_end s) ≡ true → s ≡ channel_state.Closed
-channel_closed channel_state.Reading clean = absurd cc
-channel_closed channel_state.Closed clean = refl
-channel_closed (channel_state.Bad f) clean = absurd cc
+use Rattle.mig_in_place.proofs.Done.{own_or_other}
 
 -- ---- names nothing
 

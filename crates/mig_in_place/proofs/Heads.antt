@@ -9,12 +9,10 @@ use Rattle.std.proofs.lemmas.Bool.{eq-eqb}
 use Rattle.mig_mem.specs.RamTable.{RamTable}
 use Rattle.mig_mem.specs.Place.{IsPlace, place_at}
 use Rattle.mig_packet.specs.PageSize.{IsPageSize, page_limit, head_len}
-use Rattle.mig_packet.specs.Packet.{Fields, id_in, is_sync, number_in, normal_count, zero_count, offset_at}
+use Rattle.mig_packet.specs.Packet.{Fields, id_in, is_sync, number_in, normal_count, zero_count, offset_at, packet_faults, IsPacket}
 use Rattle.mig_packet.specs.PacketHead.{IsPacketHead}
 use Rattle.mig_packet.specs.Fields.{be32_at}
 use Rattle.mig_packet.specs.Faults.{first_of}
-use Rattle.mig_packet.specs.Packet.{packet_faults}
-use Rattle.mig_packet.specs.Packet.{IsPacket}
 use Rattle.mig_packet.specs.Written.{IsWritable, written_packet, written_fields}
 use Rattle.mig_packet.proofs.ReadBack.{packet_back}
 use Rattle.mig_packet.proofs.Places.{be32_at-front}

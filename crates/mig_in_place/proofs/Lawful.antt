@@ -29,7 +29,7 @@ use Rattle.mig_answer.specs.Status.{status_at, channel_end, stream_end, channel_
 use Rattle.mig_answer.specs.Texts.{Text, Readings, AreReadings}
 use Rattle.mig_answer.specs.Rounds.{record_pages_at, channel_packets_at, base_at, refusal_at, refusal_of as refusal_of_table}
 use Rattle.mig_answer.specs.MultiLoad.{Standing, main_at, channels_at, passes, verdict_at, failed}
-use Rattle.mig_answer.proofs.Statuses.{status_end, stream_ends, channel_ends}
+use Rattle.mig_answer.proofs.Statuses.{status_end, stream_ends, channel_ends, status_behind}
 use Rattle.mig_answer.proofs.ToldSources.{told_at}
 use Rattle.mig_answer.proofs.Judged.{IsWhole}
 use Rattle.mig_answer.proofs.OneAnswer.{same_readings}
@@ -42,7 +42,6 @@ use Rattle.mig_in_place.specs.Session.{InPlaceLoad, IsRunning, Loading, Loads, S
 use Rattle.mig_in_place.proofs.Channels.{rounds_given, rounds_are}
 use Rattle.mig_in_place.proofs.Heading.{same_heads}
 use Rattle.mig_in_place.proofs.Mains.{none_waits}
-use Rattle.mig_in_place.proofs.Exact.{status_behind}
 use Rattle.mig_in_place.proofs.Told.{stands_at}
 
 -- ---- a source that has the round

@@ -33,10 +33,9 @@ use Rattle.mig_answer.specs.declared.status.Status.TheVariants.{Pending}
 use Rattle.mig_answer.specs.Status.{status_at, stream_end, channel_end, channel_status, is_pending}
 use Rattle.mig_answer.specs.Texts.{Text, no_text}
 use Rattle.mig_answer.specs.Growing.{GoesOn}
-use Rattle.mig_answer.proofs.Statuses.{status_end}
+use Rattle.mig_answer.proofs.Statuses.{status_end, status_behind}
 use Rattle.mig_answer.proofs.GrowingChannels.{channel_stays, round_of_more}
 use Rattle.mig_in_place.specs.Named.{MainNames, ChannelNames, SomeChannelNames, round_so_far, begun, packet_places}
-use Rattle.mig_in_place.proofs.Exact.{status_behind}
 
 -- it has the round, or has come to it and has nothing more to come
 pub at_round : (k rounds : ℕ) (end : Status) → is_pending (status_at k rounds end) ≡ false → (k < rounds) ⊎ ((k ≡ rounds) × (is_pending end ≡ false))

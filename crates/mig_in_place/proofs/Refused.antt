@@ -6,7 +6,8 @@ use Rattle.mig_single_load.specs.declared.fault.Fault.TheVariants as fault
 use Rattle.mig_single_load.specs.declared.fault.LoadFault.{LoadFault}
 use Rattle.mig_answer.specs.MultiLoad.{failed}
 use Rattle.mig_in_place.specs.Session.{InPlaceLoad, Loading, Stands}
-use Rattle.mig_in_place.proofs.Done.{own_or_other, same_found, never_refused}
+use Rattle.mig_answer.proofs.Never.{same_found, never_refused}
+use Rattle.mig_in_place.proofs.Done.{own_or_other}
 
 other_fault : (k n : ℕ) → failed k origin.Main fault.OtherTable ≢ failed n origin.Round fault.NoMemory
 other_fault k n e =

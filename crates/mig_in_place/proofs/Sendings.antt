@@ -38,7 +38,8 @@ use Rattle.mig_answer.proofs.Headline.{of_read, read_law, as_sent, machine_as_se
 use Rattle.mig_answer.proofs.OneAnswer.{some_readings}
 use Rattle.mig_in_place.specs.Answer.{rounds_onto, IsOwnAnswer, IsOtherAnswer, IsInPlaceAnswer}
 use Rattle.mig_in_place.specs.Law.{SentIsLoadedInPlace, MachineSentIsLoadedInPlace, taken_texts}
-use Rattle.mig_in_place.proofs.Exact.{stream_closed, exact_law}
+use Rattle.mig_answer.proofs.Statuses.{stream_closed}
+use Rattle.mig_in_place.proofs.Exact.{exact_law}
 
 -- the first rounds of the readings leave what the first ones sent do, whatever the memory held
 first_rounds : (table : RamTable) (limit channels : ℕ) (rounds : List DealtRound) (readings : Readings) → AreOfSending table limit channels rounds readings → (m : Image) (k : ℕ) → k ≤ length rounds

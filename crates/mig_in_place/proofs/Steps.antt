@@ -14,9 +14,8 @@ use Rattle.mig_mem.specs.RamTable.{RamTable}
 use Rattle.mig_mem.specs.Place.{has_place, place_eq, place_at}
 use Rattle.mig_mem.specs.Image.{Page, Image, with_page}
 use Rattle.mig_mem.specs.Round.{with_round}
-use Rattle.mig_packet.specs.Packet.{Fields, fields_of}
+use Rattle.mig_packet.specs.Packet.{Fields, fields_of, NormalPage}
 use Rattle.mig_packet.specs.Paging.{OpenPacket, GivenSoFar}
-use Rattle.mig_packet.specs.Packet.{NormalPage}
 use Rattle.mig_assemble.specs.Judging.{place_fault, places_of, packet_pages, page_in}
 use Rattle.mig_assemble.specs.Arrivals.{Arrival, Records, OnePacket, records_in, packets_in}
 use Rattle.mig_assemble.proofs.Putting.{put_after, put_page_more}

@@ -18,15 +18,17 @@ use Rattle.mig_stream.specs.declared.item.Filling.TheVariants.{Zero, Normal}
 use Rattle.mig_stream.specs.declared.item.Subsection.{Subsection}
 use Rattle.mig_stream.specs.declared.item.Subsection.TheVariants.{PageBits, Uuid, Capabilities}
 use Rattle.mig_stream.specs.declared.item.PassedItem.{PassedItem}
-use Rattle.mig_stream.specs.declared.item.PassedItem.TheVariants.{Command, SubsectionHead, SubsectionBody, Capability}
+use Rattle.mig_stream.specs.declared.item.PassedItem.TheVariants.{Command, SubsectionHead, SubsectionBody, Capability, Address}
 use Rattle.mig_stream.specs.declared.item.RecordKind.{RecordKind}
 use Rattle.mig_stream.specs.declared.item.RecordKind.TheVariants.{SizeList, Named, Continued, EndOfSection, Flush}
+use Rattle.mig_stream.specs.declared.item.EntryForm.{EntryForm}
+use Rattle.mig_stream.specs.declared.item.EntryForm.TheVariants.{Plain, Addressed, Sized}
 use Rattle.mig_stream.specs.declared.item.Due.{Due}
-use Rattle.mig_stream.specs.declared.item.Due.TheVariants.{FileHeader, TypeByte, ConfigLength, ConfigName, StartHead, SectionHead, RecordHead, ListEntry, BlockName, Content, Footer, Passed, Nothing}
+use Rattle.mig_stream.specs.declared.item.Due.TheVariants.{FileHeader, TypeByte, ConfigLength, ConfigName, StartHead, SectionHead, RecordHead, ListEntry, PageSize, BlockName, Content, Footer, Passed, Nothing}
 use Rattle.mig_stream.specs.Format.{configuration_type, section_type, end_byte, subsection_version}
 use Rattle.mig_stream.specs.PageRecord.{PageRecord}
 use Rattle.mig_stream.specs.Progress.{StreamProgress, start}
-use Rattle.mig_stream.specs.Items.{id_in, is_single, is_allowed, is_passed, has_tail, closes, footer_of, subsection_of, body_of, capabilities_due, behind_passed, passed_by, after_type, after_type_byte, after_head, after_item, after, end_section, faults, open_records}
+use Rattle.mig_stream.specs.Items.{is_page_size, entry_due, id_in, is_single, is_allowed, is_passed, has_tail, closes, footer_of, subsection_of, body_of, capabilities_due, behind_passed, passed_by, after_type, after_type_byte, after_head, after_item, after, end_section, faults, open_records}
 use Rattle.mig_stream.specs.Fields.{be32_at}
 use Rattle.mig_stream.specs.Reading.{AreFaultless, after_all, Front}
 use Rattle.mig_stream.proofs.Feeding.{front_item}
@@ -129,6 +131,15 @@ body_of_none : (o : Option Subsection) → is_none o ≡ false → body_of o ≡
 body_of_none None some e = absurd cc
 body_of_none (Some subsection) some e = absurd cc
 
+list_never : (b : Bool) → cond b RecordHead ListEntry ≡ Nothing → ⊥
+list_never true e = absurd cc
+list_never false e = absurd cc
+
+entry_never : (form : EntryForm) (last : Bool) → entry_due form last ≡ Nothing → ⊥
+entry_never Plain last e = list_never last e
+entry_never Addressed last e = absurd cc
+entry_never Sized last e = absurd cc
+
 -- no item that is passed over closes a stream
 passed_never : (c : StreamProgress) (p : PassedItem) (item : List ℕ) → first_of (faults c (Passed p) item) ≡ None → behind_passed p item ≡ Nothing → ⊥
 passed_never c (Command before) item free e = absurd cc
@@ -139,13 +150,10 @@ passed_never c (SubsectionBody PageBits) item free e = absurd cc
 passed_never c (SubsectionBody Uuid) item free e = absurd cc
 passed_never c (SubsectionBody Capabilities) item free e = capabilities_never (be32_at 0 item) e
 passed_never c (Capability others) item free e = capabilities_never others e
+passed_never c (Address last) item free e = list_never last e
 
-list_never : (b : Bool) → cond b RecordHead ListEntry ≡ Nothing → ⊥
-list_never true e = absurd cc
-list_never false e = absurd cc
-
-head_never : (c : StreamProgress) (k : Option RecordKind) (page : ℕ) → c.due ≡ RecordHead → (after_head c k page).due ≡ Nothing → ⊥
-head_never c None page here e = absurd cc
+head_never : (c : StreamProgress) (k : Option RecordKind) (page : ℕ) → c.due ≢ Nothing → (after_head c k page).due ≡ Nothing → ⊥
+head_never c None page here e = here e
 head_never c (Some SizeList) page here e = absurd cc
 head_never c (Some (Named f)) page here e = absurd cc
 head_never c (Some (Continued f)) page here e = absurd cc
@@ -164,8 +172,16 @@ item_closes c ConfigLength item here main free some closed = absurd (config_neve
 item_closes c (ConfigName n) item here main free some closed = absurd cc
 item_closes c StartHead item here main free some closed = absurd cc
 item_closes c SectionHead item here main free some closed = absurd cc
-item_closes c RecordHead item here main free some closed = absurd (head_never c _ _ here closed)
-item_closes c ListEntry item here main free some closed = absurd (list_never _ closed)
+item_closes c RecordHead item here main free some closed = absurd (head_never c _ _ (λ e. some (sym here ∙ e)) closed)
+item_closes c ListEntry item here main free some closed = absurd (entry_never c.form _ closed)
+item_closes c (PageSize true) item here main free some closed = elim (cases_Bool (is_page_size item)) [
+  | inl t ↦ absurd (let e : RecordHead ≡ Nothing = rw t at closed in cc)
+  | inr n ↦ absurd (head_never c _ _ (λ e. some (sym here ∙ e)) (rw n at closed))
+]
+item_closes c (PageSize false) item here main free some closed = elim (cases_Bool (is_page_size item)) [
+  | inl t ↦ absurd (let e : ListEntry ≡ Nothing = rw t at closed in cc)
+  | inr n ↦ absurd (entry_never c.form _ (rw n at closed))
+]
 item_closes c (BlockName f page) item here main free some closed = absurd cc
 item_closes c (Content Zero place) item here main free some closed = absurd cc
 item_closes c (Content Normal place) item here main free some closed = absurd cc

@@ -24,11 +24,10 @@ use Rattle.mig_answer.specs.Texts.{Text, Texts, Readings, no_text}
 use Rattle.mig_answer.specs.Rounds.{record_pages_at, channel_packets_at, packets_at, pages_at}
 use Rattle.mig_answer.specs.MultiLoad.{Standing, main_at, channels_at, sources_at, passes, verdict_at, IsFirstStop}
 use Rattle.mig_answer.specs.Growing.{GoesOn, GoOn}
-use Rattle.mig_answer.proofs.Statuses.{status_whole, status_end, stream_ends, channel_ends}
+use Rattle.mig_answer.proofs.Statuses.{status_whole, status_end, stream_ends, channel_ends, status_behind}
 use Rattle.mig_answer.proofs.Judged.{IsWhole, whole_at, settled_is_told}
 use Rattle.mig_answer.proofs.GrowingChannels.{ChannelStays, channel_stays, round_of_more}
 use Rattle.mig_answer.proofs.Growing.{ReadingsStay}
-use Rattle.mig_in_place.proofs.Exact.{status_behind}
 use Rattle.mig_in_place.proofs.Names.{at_round, stream_over, channel_over}
 
 -- ---- streams with more bytes

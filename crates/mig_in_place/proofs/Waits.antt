@@ -32,7 +32,7 @@ use Rattle.mig_answer.specs.Status.{main_status, channel_status, stream_end, is_
 use Rattle.mig_answer.specs.Texts.{Text, Texts, Readings, IsMainReading, AreReadings, no_text}
 use Rattle.mig_answer.specs.MultiLoad.{main_at, channels_at, sources_at, passes}
 use Rattle.mig_answer.specs.Growing.{GoesOn}
-use Rattle.mig_answer.proofs.Statuses.{stream_ends, status_end}
+use Rattle.mig_answer.proofs.Statuses.{stream_ends, status_end, status_behind}
 use Rattle.mig_answer.proofs.Judged.{IsWhole, whole_at, has_round}
 use Rattle.mig_answer.proofs.OneAnswer.{some_readings, same_main}
 use Rattle.mig_answer.proofs.Growing.{ReadingsStay, readings_stay, pass_still}
@@ -42,7 +42,6 @@ use Rattle.mig_in_place.specs.Answer.{rounds_onto, IsInPlaceAnswer}
 use Rattle.mig_in_place.specs.Session.{TakesBytes, IsHeldBack}
 use Rattle.mig_in_place.specs.Law.{WaitingBytesChangeNothing}
 use Rattle.mig_in_place.proofs.Done.{own_or_other}
-use Rattle.mig_in_place.proofs.Exact.{status_behind}
 use Rattle.mig_in_place.proofs.Names.{at_round, stream_over, main_stays_named, channels_stay_named}
 use Rattle.mig_in_place.proofs.Waiting.{waits, main_kept, all_kept, one_kept, any_kept, main_goes, channel_goes, running_waits, waits_here, same_rounds_onto}
 

@@ -28,8 +28,8 @@ pub fn running_takes_some()
     ensures { RunningTakesSome }
 {}
 
-/// The streams of a sender on several channels are loaded in place, once the channels have ended. The
-/// main stream is closed by its own bytes, and needn't be ended.
+/// The streams of a sender on several channels are loaded in place, once the channels have ended.
+/// The main stream is closed by its own bytes, and needn't be ended.
 pub fn sent_is_loaded_in_place()
     ensures { SentIsLoadedInPlace }
 {}

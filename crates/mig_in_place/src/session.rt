@@ -691,10 +691,10 @@ impl<A: Allocator> InPlaceSession<A> {
     }
 
     /// Returns the fault of the bytes taken of `source` by themselves, whatever other sources have:
-    /// a `Fault::Stream` or a `Fault::Channel`. It is known at once, while the verdict waits for the
-    /// other sources, and names the first one with a fault. A source that was ended too early has
-    /// `Truncated`, or a channel behind a packet without SYNC `Unsynced`: so it says which connection
-    /// broke. None after a refused allocation.
+    /// a `Fault::Stream` or a `Fault::Channel`. It is known at once, while the verdict waits for
+    /// the other sources, and names the first one with a fault. A source that was ended too early
+    /// has `Truncated`, or a channel behind a packet without SYNC `Unsynced`: so it says which
+    /// connection broke. None after a refused allocation.
     pub fn fault_of(&self, source: Source) -> Option<Fault>
         requires { HasSource (counts_of self.now.sources) source }
         ensures stands { (memory : Image) → Tells memory self.now (λ given uuid first texts. HasFault (for_table first.table given) uuid texts source result) }

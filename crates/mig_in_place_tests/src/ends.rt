@@ -102,8 +102,8 @@ fn packet_behind_the_last_round(rt: HostRuntime) {
     assert!(rt; waits_for_a_round(&rt));
 }
 
-// Ends a channel within its hello. Returns whether the load, which goes on, says that it is cut, and
-// that the other sources have no fault.
+// Ends a channel within its hello. Returns whether the load, which goes on, says that it is cut,
+// and that the other sources have no fault.
 fn is_told_by_its_source(rt: &(impl AllocGlobal + Abort)) -> bool {
     let (mut load, mut memory) = load_of(rt, 1, 2);
     let sent = sevens_then_zeros(rt);

@@ -20,5 +20,6 @@ pub use mig_session::{Counted, PieceReader, PumpFault, ReadFailed, Session, Sour
 pub use mig_single_load::{
     Fault, FeedFault, InPlaceFault, InPlaceLoader, InPlaceState, LoadFault, LoadSettings, Loaded,
     Origin, SingleLoader, in_place_keeps_other_places, in_place_ok_is_whole, load_single,
-    load_single_in, sent_is_loaded_in_place, single_closed_at, single_valid_up_to,
+    load_single_in, machine_sent_is_loaded_in_place, sent_is_loaded_in_place, single_closed_at,
+    single_valid_up_to,
 };

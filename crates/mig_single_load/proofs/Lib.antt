@@ -4,4 +4,4 @@ pub mod Onto
 mod LoadedAtOnce
 pub mod LoadsInPlace
 pub mod ComesNext
-mod MachineSent
+pub mod MachineSent

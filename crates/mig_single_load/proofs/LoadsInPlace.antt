@@ -42,7 +42,7 @@ use Rattle.mig_single_load.specs.declared.in_place_state.LoadState.{LoadState}
 use Rattle.mig_single_load.specs.declared.in_place_state.LoadState.TheVariants as load_state
 use Rattle.mig_single_load.specs.declared.fault.LoadFault.{LoadFault}
 use Rattle.mig_single_load.specs.SingleLoad.{verdict_of}
-use Rattle.mig_single_load.specs.InPlace.{settings_of, IsOfOwnTable, IsOfOtherTable, pages_on, HasRecordsOnto, HasVerdictOnto}
+use Rattle.mig_single_load.specs.InPlace.{settings_of, IsOfOwnTable, IsOfOtherTable, HasOtherTable, pages_on, HasRecordsOnto, HasVerdictOnto}
 use Rattle.mig_single_load.specs.LoadInPlace.{InPlaceKeepsOtherPlaces, InPlaceOkIsWhole, SentIsLoadedInPlace, given_pages, settings_for, IsOfTable, IsEnd, GaveNext, PutsNext, PutsNextSome, GaveAll, GivesAll, PutsAll, PausesOnto, PausesSome, IsInState, StandsOnto, LoadInPlace, load_in_place, LoadsInPlace, HasSomeOnto, PutsSome, LacksMemory, closed_place, valid_place, HasClosedAtOnto, IsValidUpToOnto}
 use Rattle.mig_single_load.proofs.Sections.{same_reading}
 use Rattle.mig_single_load.proofs.Onto.{apart, sent_verdict, sent_sections}
@@ -414,6 +414,18 @@ pub settled_ends : (given : LoadSettings) (first : Image) (text : List ℕ) (m :
 settled_ends given first text m n p found is st settled =
     let same : settled.0 ≡ st.has_records.reading = same_reading (for_table first.table given) text settled.0 st.has_records.reading is.has_page_size settled.1 st.has_records.is_reading in
     settled.2 (ap (λ (x : StreamReading). x.state) same ∙ reads_on first st.has_records.reading p found st.is_in_state)
+
+-- and its table isn't another one
+own_on : (first : Image) (reading : StreamReading) (p : Paused) (found : LoadState) → IsInState first reading (Some p) found → IsOfOwnTable first reading
+own_on first reading p (load_state.Stream found at) s = s.0
+own_on first reading p load_state.OtherTable s = absurd s
+own_on first reading p load_state.NoMemory s = absurd s
+
+pub other_ends : (given : LoadSettings) (first : Image) (text : List ℕ) (m : Image) (n : ℕ) (p : Paused) (found : LoadState) → IsTable first.table
+    → StandsOnto given first text m n (Some p) found → HasOtherTable given first text → ⊥
+other_ends given first text m n p found is st other =
+    let same : other.0 ≡ st.has_records.reading = same_reading (for_table first.table given) text other.0 st.has_records.reading is.has_page_size other.1 st.has_records.is_reading in
+    apart first st.has_records.reading (own_on first st.has_records.reading p found st.is_in_state) (subst (λ (x : StreamReading). IsOfOtherTable first x) same other.2)
 
 -- ---- the verdict
 

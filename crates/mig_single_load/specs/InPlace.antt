@@ -23,6 +23,9 @@ IsOfOwnTable m reading = (reading.table ≡ None) ⊎ (reading.table ≡ Some m.
 abbrev pub IsOfOtherTable : Image → StreamReading → Type 0
 IsOfOtherTable m reading = (table : RamTable) × (reading.table ≡ Some table) × (table ≢ m.table)
 
+abbrev pub HasOtherTable : LoadSettings → Image → List ℕ → Type 0
+HasOtherTable given first text = (reading : StreamReading) × IsReading (settings_of first given) text reading × IsOfOtherTable first reading
+
 -- the pages that records write, by the page size of a memory
 abbrev pub pages_on : Image → List PageRecord → List Page
 pages_on first records = map (page_of first.table.page_size) records

@@ -7,8 +7,9 @@ ghost use Rattle.mig_stream.specs.Reader.{IsSettled};
 ghost use Rattle.mig_single_load.specs.declared.settings.LoadSettings.{LoadSettings};
 ghost use Rattle.mig_single_load.specs.Settings.{ram_settings};
 ghost use Rattle.mig_single_load.specs.SingleLoad.{no_memory_at};
-ghost use Rattle.mig_single_load.specs.InPlace.{settings_of, HasVerdictOnto};
+ghost use Rattle.mig_single_load.specs.InPlace.{settings_of, HasVerdictOnto, HasOtherTable};
 ghost use Rattle.mig_single_load.specs.LoadInPlace.{LoadsOnto, LacksOnto, HasClosedAtOnto, IsValidUpToOnto, SentIsLoadedInPlace};
+ghost use Rattle.mig_single_load.specs.MachineSent.{MachineSentIsLoadedInPlace};
 
 use crate::{InPlaceFault, InPlaceState, LoadFault, LoadSettings};
 use mig_mem::{GuestTarget, Memory, NoMemory};
@@ -117,6 +118,7 @@ impl<A: Allocator + Copy, M: GuestTarget> InPlaceLoader<A, M> {
         ensures ok { OnOk result ((given : LoadSettings) (first : Image) (text : List ℕ) → LoadsOnto given first self.old text false
             → LoadsOnto given first self.new (text ++ piece.now) false) }
         ensures settled { (given : LoadSettings) (first : Image) (text : List ℕ) → LoadsOnto given first self.old text false → IsSettled (settings_of first given) text → IsOk result }
+        ensures another { (given : LoadSettings) (first : Image) (text : List ℕ) → LoadsOnto given first self.old text false → HasOtherTable given first text → IsOk result }
         ensures failed { OnErr result ((given : LoadSettings) (first : Image) (text : List ℕ) → LoadsOnto given first self.old text false
             → LacksOnto given first self.new (text ++ piece.now) false) }
         ensures lacking { (given : LoadSettings) (first : Image) (text : List ℕ) → LacksOnto given first self.old text false
@@ -223,4 +225,9 @@ impl<A: Allocator, M: GuestTarget> InPlaceLoader<A, M> {
 /// sender's rounds in it, on top of what it held, and the verdict is Ok.
 pub fn sent_is_loaded_in_place()
     ensures { SentIsLoadedInPlace }
+{}
+
+/// What a sender wrote of RAM in a machine's stream is loaded so, too, whatever follows RAM's END.
+pub fn machine_sent_is_loaded_in_place()
+    ensures { MachineSentIsLoadedInPlace }
 {}

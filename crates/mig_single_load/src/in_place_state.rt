@@ -14,7 +14,7 @@ ghost use Rattle.mig_single_load.specs.declared.in_place_state.LoadState.TheVari
 ghost use Rattle.mig_single_load.specs.declared.settings.LoadSettings.{LoadSettings};
 ghost use Rattle.mig_single_load.specs.Settings.{ram_settings};
 ghost use Rattle.mig_single_load.specs.SingleLoad.{no_memory_at};
-ghost use Rattle.mig_single_load.specs.InPlace.{settings_of, HasVerdictOnto};
+ghost use Rattle.mig_single_load.specs.InPlace.{settings_of, HasVerdictOnto, HasOtherTable};
 ghost use Rattle.mig_single_load.specs.LoadInPlace.{InPlaceKeepsOtherPlaces, InPlaceOkIsWhole, LoadsInPlace, settings_for, GaveNext, PutsNextSome, PutsAll, GivesAll, IsEnd, PausesSome, PausesOnto, StandsOnto, PutsSome, HasSomeOnto, LacksMemory, closed_place, valid_place, HasClosedAtOnto, IsValidUpToOnto};
 ghost use Rattle.mig_single_load.specs.ComesNext.{page_wanted, page_asked, ComesNext};
 
@@ -282,6 +282,8 @@ impl<A: Allocator + Copy> InPlaceState<A> {
         ensures lacking { result ≢ Err in_place_fault.OtherTable → (given : LoadSettings) (first : Image) (text : List ℕ) → LacksMemory (M.image memory.old) given first self.old text false
             → LacksMemory (M.image memory.new) given first self.new (text ++ piece.now) false × IsOk result }
         ensures settled { (given : LoadSettings) (first : Image) (text : List ℕ) → LoadsInPlace (M.image memory.old) given first self.old text false → IsSettled (settings_of first given) text
+            → result ≢ Err in_place_fault.NoMemory }
+        ensures another { (given : LoadSettings) (first : Image) (text : List ℕ) → LoadsInPlace (M.image memory.old) given first self.old text false → HasOtherTable given first text
             → result ≢ Err in_place_fault.NoMemory }
         ensures table { (self.new.table ≡ self.old.table) × ((M.image memory.new).table ≡ (M.image memory.old).table) }
         ensures open { IsFalse self.new.ended }

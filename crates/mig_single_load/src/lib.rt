@@ -29,7 +29,7 @@ mod settle;
 mod single;
 
 pub use fault::{Fault, FeedFault, InPlaceFault, LoadFault, Origin};
-pub use in_place::{InPlaceLoader, sent_is_loaded_in_place};
+pub use in_place::{InPlaceLoader, machine_sent_is_loaded_in_place, sent_is_loaded_in_place};
 pub use in_place_state::{InPlaceState, in_place_keeps_other_places, in_place_ok_is_whole};
 pub use loaded::Loaded;
 pub use loader::SingleLoader;

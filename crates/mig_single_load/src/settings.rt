@@ -9,7 +9,8 @@ use mig_stream::{Frame, Mode};
 /// What ends a round of a main stream.
 #[derive(Clone, Copy, Debug, PartialEq, Eq)]
 pub enum RoundEnd {
-    /// Each FLUSH record, as the senders here write it, and QEMU for machine types of 8.1 and newer.
+    /// Each FLUSH record, as the senders here write it, and QEMU for machine types of 8.1 and
+    /// newer.
     Flush,
     /// Each EOS of a section, START's and END's too, and each FLUSH record. QEMU writes it so, with
     /// no FLUSH, for machine types of 8.0 and older (`multifd-flush-after-each-section`).

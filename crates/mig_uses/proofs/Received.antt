@@ -6,7 +6,7 @@ use Rattle.std.specs.Io.KnownBytes.{Consumes, IsAtEnd}
 use Rattle.std.proofs.lemmas.Bool.{false≢true}
 use Rattle.std.proofs.lemmas.List.{append-nil, get_or-map, get_or-replicate, length-replicate}
 use Rattle.mig_mem.specs.RamTable.{IsTable}
-use Rattle.mig_mem.specs.Image.{Image, IsImage}
+use Rattle.mig_mem.specs.Image.{Image}
 use Rattle.mig_single_load.specs.declared.settings.LoadSettings.{LoadSettings}
 use Rattle.mig_single_load.specs.Settings.{ram_settings}
 use Rattle.mig_answer.specs.declared.verdict.Verdict.{Verdict}

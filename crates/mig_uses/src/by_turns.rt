@@ -42,7 +42,8 @@ fn buffered<A: Allocator + Copy, R: Read + Drop>(
 /// wait in its buffer of 64 KiB, and then in the network.
 ///
 /// Returns the verdict. On `Done` the memory has all rounds on top of what it held, those of the
-/// `MultiSender` at the other end, and the guest can run. On a fault the pages that the failed round names may hold anything.
+/// `MultiSender` at the other end, and the guest can run. On a fault the pages that the failed
+/// round names may hold anything.
 ///
 /// # Errors
 ///

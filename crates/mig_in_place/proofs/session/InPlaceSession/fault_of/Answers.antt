@@ -3,7 +3,7 @@ use Rattle.std.specs.Prelude.{slice_get}
 use Rattle.std.proofs.lemmas.List.{length-map}
 use Rattle.std.proofs.lemmas.Option.{slice_get_read}
 use Rattle.mig_mem.specs.PageSize.{IsPageSize}
-use Rattle.mig_single_load.specs.Settings.{main_of, channel_of, for_table}
+use Rattle.mig_single_load.specs.Settings.{channel_of, for_table}
 use Rattle.mig_single_load.specs.declared.settings.LoadSettings.{LoadSettings}
 use Rattle.mig_answer.proofs.OneAnswer.{some_readings}
 use Rattle.mig_session.specs.declared.source.Source.{Source}

@@ -16,6 +16,10 @@ pub returns-clause-settled : goal.returns-clause-settled
 returns-clause-settled g c = λ given first text before settled.
     absurd (c.feed.ensures.settled given first text (subst (λ (l : InPlace). LoadsOnto given first l text false) (sym c.self.view_is) before) settled (c.in-Err.is ∙ ap (λ (f : InPlaceFault). Err f) c.in-NoMemory.is))
 
+pub returns-clause-another : goal.returns-clause-another
+returns-clause-another g c = λ given first text before other.
+    absurd (c.feed.ensures.another given first text (subst (λ (l : InPlace). LoadsOnto given first l text false) (sym c.self.view_is) before) other (c.in-Err.is ∙ ap (λ (f : InPlaceFault). Err f) c.in-NoMemory.is))
+
 pub returns-clause-failed : goal.returns-clause-failed
 returns-clause-failed g c = λ given first text before.
     c.feed.ensures.failed (c.in-Err.is ∙ ap (λ (f : InPlaceFault). Err f) c.in-NoMemory.is) given first text (subst (λ (l : InPlace). LoadsOnto given first l text false) (sym c.self.view_is) before)

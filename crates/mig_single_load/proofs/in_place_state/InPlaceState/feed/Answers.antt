@@ -7,7 +7,7 @@ use Rattle.mig_stream.specs.Giving.{Paused}
 use Rattle.mig_single_load.specs.declared.settings.LoadSettings.{LoadSettings}
 use Rattle.mig_single_load.specs.declared.in_place_state.LoadState.TheVariants as load_state
 use Rattle.mig_single_load.specs.LoadInPlace.{LoadInPlace, load_in_place, LoadsInPlace, StandsOnto, PausesOnto, PausesSome, LacksMemory, HasSomeOnto}
-use Rattle.mig_single_load.proofs.LoadsInPlace.{at_some, some_each, in_place_on, in_place_past, settled_ends, lacks_now, lacks_more}
+use Rattle.mig_single_load.proofs.LoadsInPlace.{at_some, some_each, in_place_on, in_place_past, settled_ends, other_ends, lacks_now, lacks_more}
 use Rattle.mig_single_load.proofs.in_place_state.InPlaceState.feed.Goals as goal
 
 pub load_piece-requires : goal.load_piece-requires
@@ -94,3 +94,11 @@ returns-in-Err-clause-settled g c = λ given first text loads settled.
     let mine : LoadsInPlace old given first s text false = subst (λ (x : LoadInPlace). LoadsInPlace old given first x text false) (sym c.self.view_is) loads in
     let is : c.self.inside.pause ≡ Some c.in-Some.pause = search rules in
     absurd (settled_ends given first text old s.rounds c.in-Some.pause s.state mine.is_table (subst (λ (o : Option Paused). StandsOnto given first text old s.rounds o s.state) is mine.stands) settled)
+
+pub returns-in-Err-clause-another : goal.returns-in-Err-clause-another
+returns-in-Err-clause-another g c = λ given first text loads other.
+    let old : Image = g.M.GuestTarget.image c.args.memory.now in
+    let s : LoadInPlace = load_in_place c.self.inside.pause c.self.inside.state c.self.inside.table c.self.inside.rounds c.self.inside.fed c.self.inside.ended in
+    let mine : LoadsInPlace old given first s text false = subst (λ (x : LoadInPlace). LoadsInPlace old given first x text false) (sym c.self.view_is) loads in
+    let is : c.self.inside.pause ≡ Some c.in-Some.pause = search rules in
+    absurd (other_ends given first text old s.rounds c.in-Some.pause s.state mine.is_table (subst (λ (o : Option Paused). StandsOnto given first text old s.rounds o s.state) is mine.stands) other)
