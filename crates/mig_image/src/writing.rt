@@ -1,10 +1,12 @@
-//! Writes a memory into a file.
+//! Writes the bytes of a memory's file, many pages at a time.
+
+ghost use Rattle.std.specs.Prelude.{◌≡◌, ◌<◌, [], length, OnOk};
+ghost use Rattle.std.specs.Io.KnownBytes.{Appends, append_known};
+ghost use Rattle.mig_image.specs.File.{image_bytes, block_bytes};
 
 use mig_mem::{Memory, Place};
-use mig_zero::is_zero;
 use std::alloc::Allocator;
-use std::fs::{File, Files, OpenFile};
-use std::io::{self, Seek, SeekFrom, Write};
+use std::io::{self, Write};
 
 /// The number of bytes that are written at once.
 const BUFFER_LEN: usize = 65_536;
@@ -12,89 +14,66 @@ const BUFFER_LEN: usize = 65_536;
 /// The capacity of a buffer: the bytes that are written at once, and a page or more.
 pub const BUFFER_ROOM: usize = 2 * BUFFER_LEN;
 
-// A file that is being written from beginning to end.
-#[derive(Drop)]
-struct ImageWriter<'b, F: Drop, A: Allocator> {
-    file: F,
-    // what is written next
-    buffer: &'b mut Vec<u8, A>,
-    // whether zeros may be skipped: a hole in a regular file reads as zeros
-    may_skip: bool,
-    // the file's length so far, and whether its last bytes were skipped
-    len: u64,
-    has_skipped: bool,
+// Writes the collected bytes.
+fn write_out<W: Write, A: Allocator>(out: &mut W, buffer: &mut Vec<u8, A>) -> io::Result<()>
+    ensures bytes { OnOk result (Appends (W.contents out.old) (W.contents out.new) buffer.old.items) }
+    ensures none { OnOk result (buffer.new.items ≡ []) }
+{
+    out.write_all(buffer)?;
+    buffer.clear();
+    Ok(())
 }
 
-impl<F: Write + Seek + Drop, A: Allocator> ImageWriter<'_, F, A> {
-    // Appends a page.
-    fn put(&mut self, page: &[u8]) -> io::Result<()> {
-        let start = self.len;
-        self.len = start.saturating_add(page.len() as u64);
-        if self.may_skip && is_zero(page) {
-            self.has_skipped = true;
-            return Ok(());
-        }
-        if self.has_skipped || self.buffer.len() >= BUFFER_LEN {
-            self.write_out()?;
-        }
-        if self.has_skipped {
-            self.file.seek(SeekFrom::Start(start))?;
-            self.has_skipped = false;
-        }
-        self.buffer.extend_from_slice(page)?;
-        Ok(())
+// Collects a page, and writes first what was collected if that is enough for a write.
+fn collect<W: Write, A: Allocator>(
+    out: &mut W,
+    buffer: &mut Vec<u8, A>,
+    page: &[u8],
+) -> io::Result<()>
+    ensures { OnOk result (Appends (append_known (W.contents out.old) buffer.old.items) (append_known (W.contents out.new) buffer.new.items) page.now) }
+{
+    if buffer.len() >= BUFFER_LEN {
+        write_out(out, buffer)?;
     }
-
-    // Writes the buffer's bytes into the file.
-    fn write_out(&mut self) -> io::Result<()> {
-        self.file.write_all(self.buffer)?;
-        self.buffer.clear();
-        Ok(())
-    }
+    buffer.extend_from_slice(page)?;
+    Ok(())
 }
 
-// Writes all pages.
-fn put_pages<F: Write + Seek + Drop, A: Allocator, B: Allocator>(
-    writer: &mut ImageWriter<F, A>,
+// Collects the pages of a block, and writes what is enough for a write.
+fn put_block<W: Write, A: Allocator, B: Allocator>(
+    out: &mut W,
+    buffer: &mut Vec<u8, A>,
     memory: &Memory<B>,
-) -> io::Result<()> {
-    for block in 0..memory.table().len() {
-        for page in 0..memory.table().pages(block) {
-            if let Some(bytes) = memory.page(Place { block, page }) {
-                writer.put(bytes)?;
-            }
+    block: usize,
+) -> io::Result<()>
+    requires { block < length memory.now.table.blocks }
+    ensures { OnOk result (Appends (append_known (W.contents out.old) buffer.old.items) (append_known (W.contents out.new) buffer.new.items) (block_bytes memory.now block)) }
+{
+    for page in 0..memory.table().pages(block) {
+        if let Some(bytes) = memory.page(Place { block, page }) {
+            collect(out, buffer, bytes)?;
         }
     }
     Ok(())
 }
 
-/// Writes a memory into a file, which is created if it doesn't exist, and truncated if it does.
-/// Pages of zeros are skipped in a regular file. `buffer` collects the bytes of a write: the caller
-/// passes it empty, with a capacity of [`BUFFER_ROOM`] bytes.
+/// Writes the bytes of a memory's file: those of its pages, block after block in the table's order.
+/// It doesn't flush `out`. `buffer` collects the bytes of a write, and what stood in it is lost. It
+/// doesn't grow, if the caller passes it with a capacity of [`BUFFER_ROOM`] bytes.
 ///
 /// # Errors
 ///
-/// The first error of opening or writing the file. The bytes written before it stay.
-pub fn write_image<H: Files, A: Allocator, B: Allocator>(
-    rt: &H,
-    name: &str,
+/// The first error of writing. The bytes written before it stay.
+pub fn put_image<W: Write, A: Allocator, B: Allocator>(
+    out: &mut W,
     buffer: &mut Vec<u8, A>,
     memory: &Memory<B>,
-) -> io::Result<()> {
-    let file = File::create(rt, name)?;
-    let may_skip = file.metadata()?.is_file();
-    let mut writer = ImageWriter {
-        file,
-        buffer,
-        may_skip,
-        len: 0,
-        has_skipped: false,
-    };
-    put_pages(&mut writer, memory)?;
-    writer.write_out()?;
-    if writer.may_skip {
-        // zeros at the end were skipped
-        writer.file.set_len(writer.len)?;
+) -> io::Result<()>
+    ensures { OnOk result (Appends (W.contents out.old) (W.contents out.new) (image_bytes memory.now)) }
+{
+    buffer.clear();
+    for block in 0..memory.table().len() {
+        put_block(out, buffer, memory, block)?;
     }
-    writer.file.flush()
+    write_out(out, buffer)
 }

@@ -1,0 +1,4 @@
+pub mod FirstPages
+pub mod Written
+pub mod ReadBack
+pub mod Runs
