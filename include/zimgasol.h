@@ -177,11 +177,11 @@ typedef enum zimgasol_status {
     /* ---- a machine's stream */
     /* a subsection of the configuration isn't known, or its version */
     ZIMGASOL_MACHINE_SUBSECTION = 46,
-    /* a capability changes the layout of RAM's section */
+    /* pages are at fixed places of a file: the capability mapped-ram */
     ZIMGASOL_MACHINE_CAPABILITY = 47,
     /* the configuration's page bits don't match the page size */
     ZIMGASOL_MACHINE_PAGE_BITS = 48,
-    /* a COMMAND that isn't one that is passed over */
+    /* a COMMAND that isn't passed over, or that allows postcopy beside x-ignore-shared */
     ZIMGASOL_MACHINE_COMMAND = 49,
 
     /* ---- channels beside one another, and a round of them */

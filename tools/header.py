@@ -4,7 +4,8 @@
 Each export is written as C would declare it: a slice as a pointer and a length, a reference as a
 pointer, a `Global` as nothing. The names of arguments have to be the same, except for a slice's
 length. The structs that are passed and the numbers of the statuses are compared, too, and so are
-the numbers and names of faults, with their definitions.
+the numbers and names of faults, with their definitions. Each status has the message that
+docs/FAULTS.md lists, and no two have the same.
 """
 
 import pathlib
@@ -178,6 +179,17 @@ def versions():
     return [f"version: {place} has {found}, not {number}" for place, found in places.items() if int(found) != number]
 
 
+def messages():
+    """What of the messages of statuses isn't as docs/FAULTS.md has it."""
+    ours = dict(re.findall(r'^\s+(\d+) => b"(.*)\\0",$', (TOP / "crates/mig_c_calls/src/text.rt").read_text(), re.M))
+    listed = re.search(r"\| No\. \| Message \|\n\|---\|---\|\n(.*?)\n\n", (TOP / "docs/FAULTS.md").read_text(), re.S)[1]
+    theirs = dict(re.fullmatch(r"\| (\d+) \| (.*) \|", line).groups() for line in listed.splitlines())
+    named = set(re.findall(r"ZIMGASOL_\w+ = (\d+)", re.search(r"typedef enum zimgasol_status \{(.*?)\n\}", (TOP / "include/zimgasol.h").read_text(), re.S)[1]))
+    wrong = [f"message {it}: {ours.get(it)!r} here, {theirs.get(it)!r} in FAULTS" for it in ours.keys() | theirs.keys() | named
+             if it not in ours or ours[it] != theirs.get(it) or it not in named]
+    return wrong + [f"message {it!r}: of several statuses" for it in ours.values() if list(ours.values()).count(it) > 1]
+
+
 def out_of_order():
     """The header's statuses whose number isn't above the one before."""
     header = (TOP / "include/zimgasol.h").read_text()
@@ -192,7 +204,7 @@ def main():
     wrong += [f"{name}: exported as {ours[name]}, declared as {theirs[name]}" for name in ours.keys() & theirs.keys() if not same(ours[name], theirs[name])]
     wrong += [f"struct {name}: {a} here, {b} in the header" for name, a, b in struct_fields() if a != b]
     wrong += [f"status {name}: {a}, {b} in the header, {c} in specs" for name, a, b, c in statuses() if not a == b == c]
-    wrong += versions()
+    wrong += versions() + messages()
     wrong += [f"fault {name}: {a}, {b} in the header" for name, a, b in faults() if a != b]
     wrong += [f"status {name} stands behind a larger one" for name in out_of_order()]
     wrong += [f"line {i} of the header is longer than 100 characters" for i in long_lines()]

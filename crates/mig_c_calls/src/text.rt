@@ -87,7 +87,7 @@ fn of_load(status: u32) -> &'static [u8]
 {
     match status {
         46 => b"machine: unknown subsection\0",
-        47 => b"machine: capability changes the layout\0",
+        47 => b"machine: capability mapped-ram\0",
         48 => b"machine: page bits don't match\0",
         49 => b"machine: unexpected command\0",
         51 => b"channels: hello id twice\0",
@@ -118,7 +118,7 @@ fn of_call(status: u32) -> &'static [u8]
         100 => b"more is needed\0",
         101 => b"page size isn't 4096 or 8192\0",
         102 => b"limit above 2^40\0",
-        103 => b"no channel, or more than 255\0",
+        103 => b"call: no channel, or more than 255\0",
         104 => b"no such source\0",
         105 => b"source is over\0",
         106 => b"too many bytes\0",
