@@ -1,5 +1,5 @@
 -- What was sent on several channels is loaded, as the single stream of the same rounds is.
-use Rattle.std.proofs.Common.{ℕ, ◌≡◌, ◌+◌, ◌<◌, ◌≤◌, true, false, List, [], ◌∷◌, ◌++◌, length, map, replicate, refl, sym, ap, ◌∙◌, Option, Some, None, subst}
+use Rattle.std.proofs.Common.{ℕ, ◌≡◌, ◌+◌, ◌<◌, ◌≤◌, true, false, List, [], ◌∷◌, length, map, replicate, refl, sym, ap, ◌∙◌, Option, Some, None, subst}
 use Rattle.std.specs.Option.{option_map, option_and_then}
 use Rattle.std.specs.List.{All, list_all, list_any, range_with_len}
 use Rattle.std.proofs.lemmas.List.{length-map}
@@ -21,9 +21,6 @@ use Rattle.mig_stream.specs.Written.{single}
 use Rattle.mig_send.specs.DealtRounds.{DealtRound, IsDealtRound}
 use Rattle.mig_send.specs.ReadBack.{SendingsAreReadBack, MachineSendingsAreReadBack}
 use Rattle.mig_single_load.specs.Settings.{ram_settings}
-use Rattle.mig_single_load.specs.declared.settings.LoadSettings.{LoadSettings}
-use Rattle.mig_single_load.specs.declared.settings.RoundEnd.{RoundEnd}
-use Rattle.mig_single_load.specs.declared.settings.RoundEnd.TheVariants.{Flush as by_flush}
 use Rattle.mig_single_load.specs.declared.loaded.Loaded.{Loaded}
 use Rattle.mig_answer.specs.declared.verdict.Verdict.{Verdict}
 use Rattle.mig_answer.specs.declared.verdict.Verdict.TheVariants.{Done}
@@ -34,17 +31,16 @@ use Rattle.mig_answer.specs.Texts.{ended_texts, Readings, AreReadings}
 use Rattle.mig_answer.specs.Rounds.{refusal_of, refusal_at, pages_at, memory_at}
 use Rattle.mig_answer.specs.MultiLoad.{Standing, main_at, channels_at, sources_at, passes, IsFirstStop, failed_with_own, verdict_at, Answer, IsAnswer}
 use Rattle.mig_mem.specs.First.{first_some}
-use Rattle.mig_answer.specs.Sent.{IsSentInAnyOrder, IsMachineSentInAnyOrder, sent_rounds, sent_answer, SendingsAreLoaded, MachineSendingsAreLoaded, ChannelsLoadAsOneStream}
+use Rattle.mig_answer.specs.Sent.{IsSentInAnyOrder, IsMachineSentInAnyOrder, sent_rounds, sent_answer, SendingsAreLoaded, ChannelsLoadAsOneStream}
 use Rattle.mig_single_load.proofs.Sections.{sent_answer_is}
 use Rattle.mig_answer.proofs.Statuses.{all_pass}
 use Rattle.mig_answer.proofs.OneAnswer.{is_answer_at}
 use Rattle.mig_answer.proofs.Dealt.{is_brought}
-use Rattle.mig_answer.proofs.Sent.{framed, IsReadAsSent, told_of, Stands, whole_below, clean_at_end, hellos_differ}
+use Rattle.mig_answer.proofs.Sent.{AreToldOf, framed, IsReadAsSent, told_of, Stands, whole_below, clean_at_end, hellos_differ}
 use Rattle.mig_answer.proofs.SentRounds.{AreOfSending, round_at, no_round, fits, lawful_round, memory_is}
 use Rattle.mig_stream.proofs.WrittenText.{written_main}
-use Rattle.mig_stream.proofs.WrittenMachine.{machine_mains}
 use Rattle.mig_stream.proofs.SpelledText.{spelled_law}
-use Rattle.mig_send.proofs.ReadBack.{sendings_are_read_back, machine_sendings_are_read_back}
+use Rattle.mig_send.proofs.ReadBack.{sendings_are_read_back}
 
 -- ---- each round passes, and then all is done
 
@@ -91,17 +87,23 @@ stops table limit channels rounds readings is =
 
 -- ---- the law
 
-pub of_read : (frame : Frame) (table : RamTable) (uuid : List ℕ) (limit : ℕ) (rounds : List DealtRound) (main : List ℕ) (channels : List (List ℕ)) (readings : Readings)
-    → (sent : IsReadAsSent frame table uuid limit rounds main channels) → AreReadings (framed frame table.page_size limit) uuid (ended_texts main channels) readings
-    → AreOfSending table sent.batch_limit (length channels) rounds readings
-of_read frame table uuid limit rounds main channels readings sent are = record {
-  told = told_of frame table uuid limit rounds main channels readings sent are;
+-- what streams of a sending say, they say of its rounds
+pub of_told : (frame : Frame) (table : RamTable) (uuid : List ℕ) (limit : ℕ) (rounds : List DealtRound) (main : List ℕ) (channels : List (List ℕ)) (readings : Readings)
+    → (sent : IsReadAsSent frame table uuid limit rounds main channels) → AreToldOf table (length channels) rounds readings → AreOfSending table sent.batch_limit (length channels) rounds readings
+of_told frame table uuid limit rounds main channels readings sent told = record {
+  told = told;
   are_dealt = sent.is_sending.are_dealt;
   are_numbered = sent.is_sending.are_numbered;
   are_brought = λ k below. is_brought table sent.batch_limit (length channels) (round_at table rounds k) sent.is_sending.is_set.has_limit.1
       (fits rounds k (no_round table) sent.is_sending.are_numbered below sent.is_sending.numbers_fit)
       (All-get_or (IsDealtRound table sent.batch_limit (length channels)) rounds k (no_round table) below sent.is_sending.are_dealt);
 }
+
+pub of_read : (frame : Frame) (table : RamTable) (uuid : List ℕ) (limit : ℕ) (rounds : List DealtRound) (main : List ℕ) (channels : List (List ℕ)) (readings : Readings)
+    → (sent : IsReadAsSent frame table uuid limit rounds main channels) → AreReadings (framed frame table.page_size limit) uuid (ended_texts main channels) readings
+    → AreOfSending table sent.batch_limit (length channels) rounds readings
+of_read frame table uuid limit rounds main channels readings sent are =
+    of_told frame table uuid limit rounds main channels readings sent (told_of frame table uuid limit rounds main channels readings sent are)
 
 pub read_law : (frame : Frame) (table : RamTable) (uuid : List ℕ) (limit : ℕ) (rounds : List DealtRound) (main : List ℕ) (channels : List (List ℕ)) (answer : Answer)
     → IsReadAsSent frame table uuid limit rounds main channels → IsAnswer (framed frame table.page_size limit) uuid (ended_texts main channels) answer → answer ≡ sent_answer table rounds
@@ -160,18 +162,6 @@ machine_as_sent back table uuid limit rounds main channels sent room =
           (sym sent.has_main) (read.0 limit sent.behind room);
       channels_are_read = read.1.channels_are_read;
     }
-
-pub machine_sendings_law : MachineSendingsAreReadBack → MachineSendingsAreLoaded
-machine_sendings_law back = λ given table uuid rounds main channels answer is_machine unlimited flushes same room sent answers.
-    let named : given ≡ framed Machine table.page_size given.limit =
-    ap (λ (f : Frame). record given { frame = f }) is_machine ∙ ap (λ (n : Option ℕ). record given { frame = Machine; waiting = n }) unlimited
-    ∙ ap (λ (e : RoundEnd). record given { frame = Machine; waiting = None; round_end = e }) flushes ∙ ap (λ (n : ℕ). framed Machine n given.limit) (sym same) in
-    read_law Machine table uuid given.limit rounds main channels answer (machine_as_sent back table uuid given.limit rounds main channels sent room)
-    (subst (λ (g : LoadSettings). IsAnswer g uuid (ended_texts main channels) answer) named answers)
-
-pub machine_sendings_are_loaded : MachineSendingsAreLoaded
-machine_sendings_are_loaded =
-    machine_sendings_law (machine_sendings_are_read_back machine_mains (sendings_are_read_back (λ limit table n is room. written_main table n limit is room) spelled_law))
 
 -- ---- beside the single stream
 

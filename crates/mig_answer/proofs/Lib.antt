@@ -14,6 +14,9 @@ mod Dealt
 pub mod Sent
 pub mod SentRounds
 pub mod Headline
+mod LetThrough
+pub mod SentWithin
+mod TwicePages
 pub mod ToldSources
 pub mod Putting
 pub mod Hellos

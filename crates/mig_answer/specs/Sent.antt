@@ -1,14 +1,16 @@
 -- A load of what a sender on several channels has sent.
-use Rattle.std.specs.Prelude.{ℕ, ◌≡◌, ◌+◌, ◌≤◌, List, ◌++◌, length, map, Option, None, Some, Ok, IfSome, IsPermutation}
+use Rattle.std.specs.Prelude.{ℕ, ◌≡◌, ◌+◌, ◌*◌, ◌≤◌, ◌<◌, List, ◌++◌, length, map, Option, Some, Ok, IfSome, IsPermutation, All}
 use Rattle.mig_mem.specs.RamTable.{RamTable}
 use Rattle.mig_mem.specs.Image.{Page}
 use Rattle.mig_mem.specs.Round.{after}
 use Rattle.mig_mem.specs.Tracking.{rounds_of}
-use Rattle.mig_stream.specs.declared.item.Frame.TheVariants.{Machine}
+use Rattle.mig_stream.specs.declared.item.Frame.TheVariants.{Ram, Machine}
 use Rattle.mig_stream.specs.Format.{most_name_bytes}
 use Rattle.mig_stream.specs.Text.{total_bytes}
 use Rattle.mig_stream.specs.Written.{single}
+use Rattle.mig_packet.specs.Waiting.{IsWithin}
 use Rattle.mig_send.specs.DealtRounds.{DealtRound, IsSending, IsMachineSending}
+use Rattle.mig_send.specs.ReadBack.{channel_told}
 use Rattle.mig_single_load.specs.Settings.{ram_settings}
 use Rattle.mig_single_load.specs.declared.loaded.Loaded.{Loaded}
 use Rattle.mig_single_load.specs.declared.settings.LoadSettings.{LoadSettings}
@@ -41,6 +43,29 @@ SendingsAreLoaded = (table : RamTable) (uuid : List ℕ) (limit : ℕ) (rounds :
     → IsSentInAnyOrder table uuid rounds main channels → total_bytes table ≤ limit
     → IsAnswer (ram_settings table.page_size limit) uuid (ended_texts main channels) answer → answer ≡ sent_answer table rounds
 
+-- Rounds are let through by a limit on what waits: no channel carries more packets and pages of one.
+abbrev pub LetsChannelsThrough : Option ℕ → ℕ → List DealtRound → Type 0
+LetsChannelsThrough waiting channels rounds = (channel : ℕ) → channel < channels → All (IsWithin waiting) (channel_told rounds channel).rounds
+
+-- A limit of one more than twice a round's pages lets it through, however it was dealt.
+abbrev pub TwiceThePagesLetThrough : Type 0
+TwiceThePagesLetThrough = (table : RamTable) (uuid : List ℕ) (rounds : List DealtRound) (main : List ℕ) (channels : List (List ℕ)) (limit : ℕ) → IsSentInAnyOrder table uuid rounds main channels
+    → All (λ round. 2 * length round.snapshot.dirty + 1 ≤ limit) rounds → LetsChannelsThrough (Some limit) (length channels) rounds
+
+-- The streams are those of a sending, the channels in any order, and anything may follow the end
+-- byte in the main stream.
+pub record IsSentBefore (table : RamTable) (uuid : List ℕ) (rounds : List DealtRound) (main : List ℕ) (channels : List (List ℕ)) : Type 0 where
+  pub ram : List ℕ
+  pub behind : List ℕ
+  pub has_main : main ≡ ram ++ behind
+  pub is_sent : IsSentInAnyOrder table uuid rounds ram channels
+
+-- They are loaded whatever follows, and within a limit that lets the rounds through.
+abbrev pub SendingsAreLoadedWithin : Type 0
+SendingsAreLoadedWithin = (given : LoadSettings) (table : RamTable) (uuid : List ℕ) (rounds : List DealtRound) (main : List ℕ) (channels : List (List ℕ)) (answer : Answer)
+    → given.frame ≡ Ram → LetsChannelsThrough given.waiting (length channels) rounds → given.round_end ≡ by_flush → table.page_size ≡ given.page_size → total_bytes table ≤ given.limit
+    → IsSentBefore table uuid rounds main channels → IsAnswer given uuid (ended_texts main channels) answer → answer ≡ sent_answer table rounds
+
 -- The streams are those of a sending in a machine's stream, with its name or without one. The
 -- channels are in any order, and anything may follow RAM's END in the main stream.
 pub record IsMachineSentInAnyOrder (table : RamTable) (uuid : List ℕ) (rounds : List DealtRound) (main : List ℕ) (channels : List (List ℕ)) : Type 0 where
@@ -55,10 +80,10 @@ pub record IsMachineSentInAnyOrder (table : RamTable) (uuid : List ℕ) (rounds 
   pub is_permutation : IsPermutation in_order channels
 
 -- The streams that were sent with a machine are loaded in a machine's frame, with the answer on the
--- streams without one. Any number of page records may wait.
+-- streams without one, within a limit that lets the rounds through.
 abbrev pub MachineSendingsAreLoaded : Type 0
 MachineSendingsAreLoaded = (given : LoadSettings) (table : RamTable) (uuid : List ℕ) (rounds : List DealtRound) (main : List ℕ) (channels : List (List ℕ)) (answer : Answer)
-    → given.frame ≡ Machine → given.waiting ≡ None → given.round_end ≡ by_flush → table.page_size ≡ given.page_size → total_bytes table ≤ given.limit → IsMachineSentInAnyOrder table uuid rounds main channels
+    → given.frame ≡ Machine → LetsChannelsThrough given.waiting (length channels) rounds → given.round_end ≡ by_flush → table.page_size ≡ given.page_size → total_bytes table ≤ given.limit → IsMachineSentInAnyOrder table uuid rounds main channels
     → IsAnswer given uuid (ended_texts main channels) answer → answer ≡ sent_answer table rounds
 
 -- a load of several channels and one of a single stream gave the same memory, and both are Ok; a

@@ -8,7 +8,7 @@ ghost use Rattle.mig_answer.specs.Law.{HasOneAnswer, EndedTextsAreJudged, DoneBy
 ghost use Rattle.mig_answer.specs.Growing.{AnswersStay, WithoutMemoryStays, RoundsStay};
 ghost use Rattle.mig_answer.specs.Received.{FrontTellsChannel, StopIsLast, RoundsAreCounted, FrontsTellAllChannels};
 ghost use Rattle.mig_answer.specs.Dealt.{DealtRoundsAreLawful};
-ghost use Rattle.mig_answer.specs.Sent.{SendingsAreLoaded, MachineSendingsAreLoaded, ChannelsLoadAsOneStream};
+ghost use Rattle.mig_answer.specs.Sent.{SendingsAreLoaded, SendingsAreLoadedWithin, TwiceThePagesLetThrough, MachineSendingsAreLoaded, ChannelsLoadAsOneStream};
 
 use std::alloc::Allocator;
 
@@ -59,6 +59,8 @@ pub fn dealt_rounds_are_lawful()
 /// single stream of these rounds.
 pub fn sendings_are_loaded<A: Allocator>()
     ensures done { SendingsAreLoaded }
+    ensures within { SendingsAreLoadedWithin }
+    ensures twice { TwiceThePagesLetThrough }
     ensures same { ChannelsLoadAsOneStream A }
 {
     mig_send::sendings_are_read_back();

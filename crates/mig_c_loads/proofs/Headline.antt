@@ -22,6 +22,7 @@ use Rattle.mig_single_load.proofs.LoadsInPlace.{sent_in_place}
 use Rattle.mig_single_load.proofs.MachineSent.{machine_in_place}
 use Rattle.mig_answer.specs.declared.verdict.Verdict.{Verdict}
 use Rattle.mig_answer.specs.Sent.{IsSentInAnyOrder, IsMachineSentInAnyOrder}
+use Rattle.mig_answer.proofs.SentWithin.{none_lets}
 use Rattle.mig_in_place.proofs.Sendings.{sent_law, machine_sent_law}
 use Rattle.mig_c_calls.specs.Named.{IsLongName}
 use Rattle.mig_c_calls.specs.declared.sending.MultiState.{MultiState}
@@ -79,7 +80,7 @@ machine_stream_law = λ table name left_open rounds given behind is_table are sh
       behind = on.0;
       is_text = ap (λ (l : List ℕ). l ++ behind) whole ∙ on.1;
     } in
-    let law = machine_in_place settings first rounds (given ++ behind) memory load.rounds told.0 (lent_is_image table before fit) refl refl sent loads.stands.has_records told.1 in
+    let law = machine_in_place settings first rounds (given ++ behind) memory load.rounds told.0 (lent_is_image table before fit) refl tt sent loads.stands.has_records told.1 in
     (told.2 ∙ ap (seen_so_far ended) law.2, law.1, law.0)
 
 -- ---- the streams of a sender on several channels
@@ -163,5 +164,5 @@ machine_law = λ setting given rounds sender all short behind before after load 
     } in
     let is_table : IsTable table = sending.is_set.has_table in
     let law = machine_sent_law (settings_into table Machine None) setting.uuid (lent_image table before) rounds (given.main ++ behind) ended outs (lent_image table after) load.rounds load.verdict is_table
-    (lent_is_image table before fit) (lent_is_image table after fit_after) refl refl refl sent is_table.has_room stands.is_answer in
+    (lent_is_image table before fit) (lent_is_image table after fit_after) refl (none_lets (length outs) rounds) refl sent is_table.has_room stands.is_answer in
     ((ap (λ (v : Verdict). seen_of_verdict load.rounds v) law.0, law.1), law.2)

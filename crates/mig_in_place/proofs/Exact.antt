@@ -17,6 +17,8 @@ use Rattle.mig_stream.specs.declared.item.StreamState.TheVariants as stream_stat
 use Rattle.mig_stream.specs.PageRecord.{PageRecord}
 use Rattle.mig_stream.specs.Progress.{StreamProgress}
 use Rattle.mig_stream.specs.Reading.{StreamReading, Ends}
+use Rattle.mig_stream.specs.Items.{is_single}
+use Rattle.mig_stream.proofs.ClosedMain.{closed_has_none}
 use Rattle.mig_stream.proofs.Unique.{one_reading as one_stream}
 use Rattle.mig_packet.specs.PageSize.{head_len}
 use Rattle.mig_packet.specs.declared.state.ChannelState.{ChannelState}
@@ -28,6 +30,8 @@ use Rattle.mig_packet.proofs.Exists.{one_reading_law as channel_law}
 use Rattle.mig_assemble.proofs.Elements.{contains_cases}
 use Rattle.mig_single_load.specs.Settings.{for_table, main_of, channel_of, mode_of}
 use Rattle.mig_single_load.specs.declared.settings.LoadSettings.{LoadSettings}
+use Rattle.mig_single_load.specs.declared.settings.RoundEnd.{RoundEnd}
+use Rattle.mig_single_load.specs.declared.settings.RoundEnd.TheVariants.{Flush as by_flush, Eos as by_eos, AsShown as as_shown}
 use Rattle.mig_single_load.specs.declared.fault.Origin.TheVariants as origin
 use Rattle.mig_answer.specs.Status.{stream_end, channel_end, channel_status, is_clean}
 use Rattle.mig_answer.specs.Texts.{Text, IsMainReading}
@@ -37,8 +41,13 @@ use Rattle.mig_answer.proofs.Statuses.{clean_at, stream_closed, channel_closed}
 use Rattle.mig_answer.proofs.Never.{done_is_clean}
 use Rattle.mig_in_place.specs.Named.{MainNames, ChannelNames, SomeChannelNames, IsNamed, round_so_far, begun, packet_places}
 use Rattle.mig_in_place.specs.Law.{InPlaceDoneIsExact}
-use Rattle.mig_in_place.proofs.Tail.{main_is_not_single, closed_has_none}
 use Rattle.mig_in_place.proofs.Done.{own_or_other}
+
+-- a main stream is none that is single, whatever ends its rounds
+main_is_not_single : (r : RoundEnd) → is_single (mode_of r) ≡ false
+main_is_not_single by_flush = refl
+main_is_not_single by_eos = refl
+main_is_not_single as_shown = refl
 
 -- ---- names nothing
 

@@ -2,7 +2,6 @@ pub mod Heads
 pub mod Keeping
 pub mod Mains
 pub mod Channels
-pub mod Tail
 pub mod Done
 pub mod Exact
 pub mod Names

@@ -4,6 +4,7 @@ use Rattle.std.proofs.Common.{None, ℕ, zero, suc, ◌≡◌, ◌+◌, ◌<◌,
 use Rattle.std.specs.List.{range_with_len}
 use Rattle.std.proofs.lemmas.List.{length-map, get_or-map, take_more, take_all}
 use Rattle.std.proofs.lemmas.List.FromFn.{map-range_with_len_more}
+use Rattle.mig_mem.specs.PageSize.{IsPageSize}
 use Rattle.mig_mem.specs.RamTable.{RamTable, IsTable}
 use Rattle.mig_mem.specs.Image.{Page, Image, IsImage}
 use Rattle.mig_mem.specs.Round.{round_of, with_round, with_rounds}
@@ -21,23 +22,24 @@ use Rattle.mig_stream.proofs.SpelledText.{spelled_law}
 use Rattle.mig_send.specs.DealtRounds.{DealtRound}
 use Rattle.mig_send.specs.ReadBack.{SendingsAreReadBack}
 use Rattle.mig_send.proofs.ReadBack.{sendings_are_read_back, machine_sendings_are_read_back}
-use Rattle.mig_single_load.specs.Settings.{for_table, main_of}
+use Rattle.mig_single_load.specs.Settings.{ram_settings, for_table, main_of}
 use Rattle.mig_single_load.specs.InPlace.{IsOfOwnTable}
 use Rattle.mig_single_load.specs.declared.settings.LoadSettings.{LoadSettings}
-use Rattle.mig_single_load.specs.declared.settings.RoundEnd.{RoundEnd}
+use Rattle.mig_single_load.specs.declared.settings.RoundEnd.TheVariants.{Flush as by_flush}
 use Rattle.mig_answer.specs.declared.verdict.Verdict.{Verdict}
 use Rattle.mig_answer.specs.declared.verdict.Verdict.TheVariants.{Done}
 use Rattle.mig_answer.specs.Status.{stream_end, is_clean}
 use Rattle.mig_answer.specs.Texts.{Texts, Readings, AreReadings, ended_texts}
 use Rattle.mig_answer.specs.Rounds.{pages_at, memory_at}
 use Rattle.mig_answer.specs.MultiLoad.{Answer, IsAnswer}
-use Rattle.mig_answer.specs.Sent.{sent_rounds, sent_answer}
+use Rattle.mig_answer.specs.Sent.{LetsChannelsThrough, sent_rounds, sent_answer}
 use Rattle.mig_answer.proofs.SentRounds.{AreOfSending, brings, round_at, no_round}
-use Rattle.mig_answer.proofs.Sent.{framed, IsReadAsSent}
-use Rattle.mig_answer.proofs.Headline.{of_read, read_law, as_sent, machine_as_sent}
-use Rattle.mig_answer.proofs.OneAnswer.{some_readings}
+use Rattle.mig_answer.proofs.Sent.{AreToldOf, IsReadAsSent}
+use Rattle.mig_answer.proofs.SentWithin.{told_within, within_law as sent_within, none_lets, before_as_sent}
+use Rattle.mig_answer.proofs.Headline.{of_told, as_sent, machine_as_sent}
+use Rattle.mig_answer.proofs.OneAnswer.{same_readings}
 use Rattle.mig_in_place.specs.Answer.{rounds_onto, IsOwnAnswer, IsOtherAnswer, IsInPlaceAnswer}
-use Rattle.mig_in_place.specs.Law.{SentIsLoadedInPlace, MachineSentIsLoadedInPlace, taken_texts}
+use Rattle.mig_in_place.specs.Law.{SentIsLoadedInPlace, SentIsLoadedWithin, MachineSentIsLoadedInPlace, taken_texts}
 use Rattle.mig_answer.proofs.Statuses.{stream_closed}
 use Rattle.mig_in_place.proofs.Exact.{exact_law}
 
@@ -87,18 +89,15 @@ closed_ends true s e = refl
 closed_ends false s e = ap (state_at false) e ∙ sym (ap (state_at true) e)
 
 -- a main stream as it was sent is closed, so what is read of it is the same before its end
-read_ended : (frame : Frame) (table : RamTable) (uuid : List ℕ) (limit : ℕ) (rounds : List DealtRound) (main : List ℕ) (ended : Bool) (channels : List (List ℕ)) (readings : Readings) → IsTable table
-    → IsReadAsSent frame table uuid limit rounds main channels → AreReadings (framed frame table.page_size limit) uuid (taken_texts main ended channels) readings
-    → AreReadings (framed frame table.page_size limit) uuid (ended_texts main channels) readings
-read_ended frame table uuid limit rounds main ended channels readings is_table sent are =
-    let given : LoadSettings = framed frame table.page_size limit in
+read_ended : (given : LoadSettings) (table : RamTable) (uuid : List ℕ) (rounds : List DealtRound) (main : List ℕ) (ended : Bool) (channels : List (List ℕ)) (over readings : Readings) → IsPageSize given.page_size
+    → AreReadings given uuid (ended_texts main channels) over → AreToldOf table (length channels) rounds over → AreReadings given uuid (taken_texts main ended channels) readings
+    → AreReadings given uuid (ended_texts main channels) readings
+read_ended given table uuid rounds main ended channels over readings size are_over told are =
     let here = are.has_main in
-    let over = some_readings given uuid (ended_texts main channels) is_table.has_page_size in
-    let there = over.1.has_main in
-    let is : AreOfSending table sent.batch_limit (length channels) rounds over.0 = of_read frame table uuid limit rounds main channels over.0 sent over.1 in
-    let one = one_reading_law (main_of given) main is_table.has_page_size in
+    let there = are_over.has_main in
+    let one = one_reading_law (main_of given) main size in
     let found : there.found ≡ here.found = one.2 there.found there.is_reading ∙ sym (one.2 here.found here.is_reading) in
-    let at_end : state_at true there.found.state ≡ Closed = sym (ap (λ (r : StreamReading). r.state) there.has_end) ∙ ap (λ (r : StreamReading). r.state) is.told.has_main in
+    let at_end : state_at true there.found.state ≡ Closed = sym (ap (λ (r : StreamReading). r.state) there.has_end) ∙ ap (λ (r : StreamReading). r.state) told.has_main in
     let closed : here.found.state ≡ Closed =
     ap (λ (r : StreamReading). r.state) (sym found) ∙ stream_closed true there.found.state (ap (λ (s : StreamState). is_clean (stream_end s)) at_end) in
     record {
@@ -111,50 +110,48 @@ read_ended frame table uuid limit rounds main ended channels readings is_table s
     }
 
 -- the channels are those of a sending, and the main stream is read in a frame as what it has of RAM
-read_in_place : (frame : Frame) (uuid : List ℕ) (limit : ℕ) (first : Image) (rounds : List DealtRound) (main : List ℕ) (ended : Bool) (channels : List (List ℕ)) (memory : Image) (k : ℕ) (verdict : Verdict)
-    → IsTable first.table → IsImage first → IsImage memory → IsReadAsSent frame first.table uuid limit rounds main channels
-    → IsInPlaceAnswer (framed frame first.table.page_size limit) uuid first (taken_texts main ended channels) memory k verdict
+read_in_place : (frame : Frame) (given : LoadSettings) (uuid : List ℕ) (first : Image) (rounds : List DealtRound) (main : List ℕ) (ended : Bool) (channels : List (List ℕ)) (memory : Image) (k : ℕ) (verdict : Verdict)
+    → IsTable first.table → IsImage first → IsImage memory → given.frame ≡ frame → LetsChannelsThrough given.waiting (length channels) rounds → given.round_end ≡ by_flush
+    → IsReadAsSent frame first.table uuid given.limit rounds main channels → IsInPlaceAnswer given uuid first (taken_texts main ended channels) memory k verdict
     → (verdict ≡ Done) × (k ≡ length rounds) × (memory ≡ with_rounds first (sent_rounds rounds))
-read_in_place frame uuid limit first rounds main ended channels memory k verdict is_table is_image is_memory sent here =
-    let given : LoadSettings = framed frame first.table.page_size limit in
+read_in_place frame given uuid first rounds main ended channels memory k verdict is_table is_image is_memory in_frame lets flushes sent here =
+    let own_given : LoadSettings = for_table first.table given in
     let texts : Texts = ended_texts main channels in
     let readings : Readings = here.readings in
-    let are : AreReadings given uuid texts readings = read_ended frame first.table uuid limit rounds main ended channels readings is_table sent here.are_readings in
-    let is : AreOfSending first.table sent.batch_limit (length channels) rounds readings = of_read frame first.table uuid limit rounds main channels readings sent are in
-    let own : IsOfOwnTable first readings.main = inr (ap (λ (r : StreamReading). r.table) is.told.has_main) in
+    let over = told_within frame own_given first.table uuid rounds main channels in_frame lets flushes refl sent in
+    let are : AreReadings own_given uuid texts readings = read_ended own_given first.table uuid rounds main ended channels over.0 readings is_table.has_page_size over.2 over.3 here.are_readings in
+    let alike : over.0 ≡ readings = same_readings own_given uuid texts over.0 readings is_table.has_page_size over.2 are in
+    let told : AreToldOf first.table (length channels) rounds readings = subst (λ (r : Readings). AreToldOf first.table (length channels) rounds r) alike over.3 in
+    let is : AreOfSending first.table sent.batch_limit (length channels) rounds readings = of_told frame first.table uuid given.limit rounds main channels readings sent told in
+    let own : IsOfOwnTable first readings.main = inr (ap (λ (r : StreamReading). r.table) told.has_main) in
     let taken = here.own own in
-    let mine : IsOwnAnswer given uuid first texts readings memory k verdict = record { has_rounds = taken.has_rounds; has_verdict = taken.has_verdict; has_memory = taken.has_memory } in
+    let mine : IsOwnAnswer own_given uuid first (taken_texts main ended channels) readings memory k verdict = taken in
     let answer : Answer = record { memory = memory_at k readings; rounds = k; verdict = verdict } in
-    let answers : IsAnswer given uuid texts answer =
+    let answers : IsAnswer own_given uuid texts answer =
     record { readings = readings; are_readings = are; has_rounds = mine.has_rounds; has_memory = refl; has_verdict = mine.has_verdict } in
-    let same : answer ≡ sent_answer first.table rounds = read_law frame first.table uuid limit rounds main channels answer sent answers in
+    let same : answer ≡ sent_answer first.table rounds = sent_within frame own_given first.table uuid rounds main channels answer in_frame lets flushes refl sent answers in
     let done : verdict ≡ Done = ap (λ (a : Answer). a.verdict) same in
     let all : k ≡ length rounds = ap (λ (a : Answer). a.rounds) same in
-    let there : IsInPlaceAnswer given uuid first texts memory k Done = record {
-      readings = readings;
-      are_readings = are;
-      own = λ o. subst (λ (v : Verdict). IsOwnAnswer given uuid first texts readings memory k v) done mine;
-      unknown = here.unknown;
-      other = λ o. subst (λ (v : Verdict). IsOtherAnswer first memory k v) done (here.other o);
-    } in
-    let exact : memory ≡ rounds_onto first k readings = exact_law given uuid first texts memory k is_table is_image is_memory there in (
+    let there : IsInPlaceAnswer given uuid first (taken_texts main ended channels) memory k Done = subst (λ (v : Verdict). IsInPlaceAnswer given uuid first (taken_texts main ended channels) memory k v) done here in
+    let exact : memory ≡ rounds_onto first k there.readings = exact_law given uuid first (taken_texts main ended channels) memory k is_table is_image is_memory there in
+    let there_same : there.readings ≡ readings = same_readings own_given uuid (taken_texts main ended channels) there.readings readings is_table.has_page_size there.are_readings here.are_readings in (
       done,
       all,
-      exact ∙ ap (λ (n : ℕ). rounds_onto first n readings) all ∙ all_rounds first.table sent.batch_limit (length channels) rounds readings is first,
+      exact ∙ ap (λ (r : Readings). rounds_onto first k r) there_same ∙ ap (λ (n : ℕ). rounds_onto first n readings) all
+          ∙ all_rounds first.table sent.batch_limit (length channels) rounds readings is first,
     )
 
 pub sent_law : SentIsLoadedInPlace
 sent_law uuid limit first rounds main ended channels memory k verdict is_table is_image is_memory sent room here =
-    read_in_place Ram uuid limit first rounds main ended channels memory k verdict is_table is_image is_memory (as_sent read_back first.table uuid limit rounds main channels sent room) here
+    read_in_place Ram (ram_settings first.table.page_size limit) uuid first rounds main ended channels memory k verdict is_table is_image is_memory refl (none_lets (length channels) rounds) refl
+    (as_sent read_back first.table uuid limit rounds main channels sent room) here
+
+pub within_law : SentIsLoadedWithin
+within_law given uuid first rounds main ended channels memory k verdict is_table is_image is_memory frame lets flushes sent room here =
+    read_in_place Ram given uuid first rounds main ended channels memory k verdict is_table is_image is_memory frame lets flushes
+    (before_as_sent read_back first.table uuid given.limit rounds main channels sent room) here
 
 pub machine_sent_law : MachineSentIsLoadedInPlace
-machine_sent_law given uuid first rounds main ended channels memory k verdict is_table is_image is_memory is_machine unlimited flushes sent room here =
-    let own : LoadSettings = for_table first.table given in
-    let named : own ≡ framed Machine first.table.page_size given.limit =
-    ap (λ (f : Frame). record own { frame = f }) is_machine ∙ ap (λ (n : Option ℕ). record own { frame = Machine; waiting = n }) unlimited
-    ∙ ap (λ (e : RoundEnd). record own { frame = Machine; waiting = None; round_end = e }) flushes in
-    let there : IsInPlaceAnswer own uuid first (taken_texts main ended channels) memory k verdict =
-    record { readings = here.readings; are_readings = here.are_readings; own = here.own; unknown = here.unknown; other = here.other } in
-    read_in_place Machine uuid given.limit first rounds main ended channels memory k verdict is_table is_image is_memory
-    (machine_as_sent (machine_sendings_are_read_back machine_mains read_back) first.table uuid given.limit rounds main channels sent room)
-    (subst (λ (g : LoadSettings). IsInPlaceAnswer g uuid first (taken_texts main ended channels) memory k verdict) named there)
+machine_sent_law given uuid first rounds main ended channels memory k verdict is_table is_image is_memory frame lets flushes sent room here =
+    read_in_place Machine given uuid first rounds main ended channels memory k verdict is_table is_image is_memory frame lets flushes
+    (machine_as_sent (machine_sendings_are_read_back machine_mains read_back) first.table uuid given.limit rounds main channels sent room) here

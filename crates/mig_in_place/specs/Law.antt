@@ -1,9 +1,9 @@
 -- Properties of each answer of a load in place.
-use Rattle.std.specs.Prelude.{ℕ, ◌≡◌, ◌≢◌, ◌≤◌, Bool, List, None, length, map}
+use Rattle.std.specs.Prelude.{ℕ, ◌≡◌, ◌≢◌, ◌≤◌, Bool, List, length, map}
 use Rattle.mig_mem.specs.RamTable.{IsTable}
 use Rattle.mig_mem.specs.Image.{Image, IsImage}
 use Rattle.mig_mem.specs.Round.{with_rounds}
-use Rattle.mig_stream.specs.declared.item.Frame.TheVariants.{Machine}
+use Rattle.mig_stream.specs.declared.item.Frame.TheVariants.{Ram, Machine}
 use Rattle.mig_stream.specs.Text.{total_bytes}
 use Rattle.mig_send.specs.DealtRounds.{DealtRound}
 use Rattle.mig_single_load.specs.Settings.{ram_settings, for_table}
@@ -16,7 +16,7 @@ use Rattle.mig_answer.specs.declared.verdict.Verdict.TheVariants.{Running, Done}
 use Rattle.mig_answer.specs.Texts.{Text, Texts, ended_text}
 use Rattle.mig_answer.specs.Growing.{GoesOn, GoOn}
 use Rattle.mig_answer.specs.MultiLoad.{Answer, IsAnswer, failed}
-use Rattle.mig_answer.specs.Sent.{IsSentInAnyOrder, IsMachineSentInAnyOrder, sent_rounds}
+use Rattle.mig_answer.specs.Sent.{LetsChannelsThrough, IsSentBefore, IsSentInAnyOrder, IsMachineSentInAnyOrder, sent_rounds}
 use Rattle.mig_session.specs.declared.source.Source.{Source}
 use Rattle.mig_session.specs.Session.{HasSource, counts_in, at_source}
 use Rattle.mig_in_place.specs.Answer.{rounds_onto, IsInPlaceAnswer}
@@ -65,11 +65,19 @@ SentIsLoadedInPlace = (uuid : List ℕ) (limit : ℕ) (first : Image) (rounds : 
     → IsInPlaceAnswer (ram_settings first.table.page_size limit) uuid first (taken_texts main ended channels) memory k verdict
     → (verdict ≡ Done) × (k ≡ length rounds) × (memory ≡ with_rounds first (sent_rounds rounds))
 
+-- So they are whatever follows the end byte, and within a limit that lets the rounds through.
+abbrev pub SentIsLoadedWithin : Type 0
+SentIsLoadedWithin = (given : LoadSettings) (uuid : List ℕ) (first : Image) (rounds : List DealtRound) (main : List ℕ) (ended : Bool) (channels : List (List ℕ)) (memory : Image) (k : ℕ) (verdict : Verdict)
+    → IsTable first.table → IsImage first → IsImage memory → given.frame ≡ Ram → LetsChannelsThrough given.waiting (length channels) rounds → given.round_end ≡ by_flush
+    → IsSentBefore first.table uuid rounds main channels → total_bytes first.table ≤ given.limit
+    → IsInPlaceAnswer given uuid first (taken_texts main ended channels) memory k verdict
+    → (verdict ≡ Done) × (k ≡ length rounds) × (memory ≡ with_rounds first (sent_rounds rounds))
+
 -- The sender's streams with a machine's main stream are loaded in a machine's frame, whatever
--- follows RAM's END. Any number of page records may wait.
+-- follows RAM's END, and within a limit that lets the rounds through.
 abbrev pub MachineSentIsLoadedInPlace : Type 0
 MachineSentIsLoadedInPlace = (given : LoadSettings) (uuid : List ℕ) (first : Image) (rounds : List DealtRound) (main : List ℕ) (ended : Bool) (channels : List (List ℕ)) (memory : Image) (k : ℕ) (verdict : Verdict)
-    → IsTable first.table → IsImage first → IsImage memory → given.frame ≡ Machine → given.waiting ≡ None → given.round_end ≡ by_flush
+    → IsTable first.table → IsImage first → IsImage memory → given.frame ≡ Machine → LetsChannelsThrough given.waiting (length channels) rounds → given.round_end ≡ by_flush
     → IsMachineSentInAnyOrder first.table uuid rounds main channels → total_bytes first.table ≤ given.limit
     → IsInPlaceAnswer given uuid first (taken_texts main ended channels) memory k verdict
     → (verdict ≡ Done) × (k ≡ length rounds) × (memory ≡ with_rounds first (sent_rounds rounds))

@@ -1,7 +1,7 @@
 //! Laws of the answers of a load in place: what follows from the definitions, as clauses of
 //! functions that do nothing.
 
-ghost use Rattle.mig_in_place.specs.Law.{InPlaceTellsAlike, InPlaceDoneIsExact, InPlaceDoneStays, WaitingBytesChangeNothing, RunningTakesSome, SentIsLoadedInPlace, MachineSentIsLoadedInPlace};
+ghost use Rattle.mig_in_place.specs.Law.{InPlaceTellsAlike, InPlaceDoneIsExact, InPlaceDoneStays, WaitingBytesChangeNothing, RunningTakesSome, SentIsLoadedInPlace, SentIsLoadedWithin, MachineSentIsLoadedInPlace};
 
 /// Rounds and verdict are those of any load on several channels.
 pub fn in_place_tells_alike()
@@ -31,7 +31,8 @@ pub fn running_takes_some()
 /// The streams of a sender on several channels are loaded in place, once the channels have ended.
 /// The main stream is closed by its own bytes, and needn't be ended.
 pub fn sent_is_loaded_in_place()
-    ensures { SentIsLoadedInPlace }
+    ensures sent { SentIsLoadedInPlace }
+    ensures within { SentIsLoadedWithin }
 {}
 
 /// The streams of a sender on several channels with a machine's main stream are loaded in place,

@@ -109,7 +109,7 @@ waiting_bytes_are_bounded = λ given text ended reading waiting size some is.
 
 -- ---- the reading without a limit
 
-abbrev unlimited : ChannelProgress → ChannelProgress
+abbrev pub unlimited : ChannelProgress → ChannelProgress
 unlimited c = record c { waiting = None }
 
 after_packet-unlimited : (c : ChannelProgress) (packet : List ℕ) (sync : Bool)
@@ -118,7 +118,7 @@ after_packet-unlimited : (c : ChannelProgress) (packet : List ℕ) (sync : Bool)
 after_packet-unlimited c packet true = refl
 after_packet-unlimited c packet false = refl
 
-after-unlimited : (c : ChannelProgress) (h : Option ℕ) (item : List ℕ) → after_item (unlimited c) h item ≡ unlimited (after_item c h item)
+pub after-unlimited : (c : ChannelProgress) (h : Option ℕ) (item : List ℕ) → after_item (unlimited c) h item ≡ unlimited (after_item c h item)
 after-unlimited c None item = refl
 after-unlimited c (Some id) item = after_packet-unlimited c item (is_sync item)
 
@@ -134,7 +134,7 @@ faultless-unlimited c (item ∷ items) free = (
   subst (λ (x : ChannelProgress). AreFaultless x items) (sym (after-unlimited c c.hello item)) (faultless-unlimited (after c item) items free.2),
 )
 
-after_all-unlimited : (c : ChannelProgress) (items : List (List ℕ)) → after_all (unlimited c) items ≡ unlimited (after_all c items)
+pub after_all-unlimited : (c : ChannelProgress) (items : List (List ℕ)) → after_all (unlimited c) items ≡ unlimited (after_all c items)
 after_all-unlimited c [] = refl
 after_all-unlimited c (item ∷ items) =
     ap (λ (x : ChannelProgress). after_all x items) (after-unlimited c c.hello item) ∙ after_all-unlimited (after c item) items
@@ -169,7 +169,7 @@ ends-unlimited c rest (Bad f) other e =
     due_by (leb (judged_len c.page_size c.hello) (length rest)) (first_fault c rest) (first_fault (unlimited c) rest) (Some f)
     (fault-unlimited c c.hello rest f not_waiting) e
 
-state-unlimited : (ended : Bool) (c : ChannelProgress) (rest : List ℕ) (found : ChannelState) → state_at ended (unlimited c) rest found ≡ state_at ended c rest found
+pub state-unlimited : (ended : Bool) (c : ChannelProgress) (rest : List ℕ) (found : ChannelState) → state_at ended (unlimited c) rest found ≡ state_at ended c rest found
 state-unlimited true c rest Reading = refl
 state-unlimited true c rest Closed = refl
 state-unlimited true c rest (Bad f) = refl

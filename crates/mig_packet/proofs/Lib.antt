@@ -18,6 +18,7 @@ pub mod Exists
 pub mod Valid
 pub mod Limits
 pub mod Bounded
+mod LetThrough
 pub mod Paging
 pub mod PagingSteps
 pub mod PagingHello

@@ -79,6 +79,12 @@ abbrev pub LimitOnlyRefuses : Type 0
 LimitOnlyRefuses = (given : Settings) (text : List ℕ) (ended : Bool) (reading : ChannelReading) → IsReading given text ended reading
     → reading.state ≢ Bad Waiting → IsReading (with_waiting None given) text ended reading
 
+-- A channel that is closed without a limit is read so under each limit that none of its rounds
+-- passes.
+abbrev pub LimitLetsThrough : Type 0
+LimitLetsThrough = (given : Settings) (text : List ℕ) (reading : ChannelReading) → IsReading (with_waiting None given) text true reading → reading.state ≡ Closed
+    → All (IsWithin given.waiting) reading.rounds → IsReading given text true reading
+
 -- ---- up to which byte a channel is valid
 
 -- Bytes are valid up to exactly one offset, and none of their fronts is longer.

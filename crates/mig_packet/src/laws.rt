@@ -6,7 +6,7 @@
 
 ghost use Rattle.mig_packet.specs.Law.{WrittenHellosAreHellos, WrittenPacketsArePackets, NoPacketBeginsAnother};
 ghost use Rattle.mig_packet.specs.Law.{HasOneReading, HasOneListOfItems, ReadingsKeepLimits};
-ghost use Rattle.mig_packet.specs.Law.{WaitingIsBounded, WaitingBytesAreBounded, LimitOnlyRefuses, RefusedIsOver};
+ghost use Rattle.mig_packet.specs.Law.{WaitingIsBounded, WaitingBytesAreBounded, LimitOnlyRefuses, LimitLetsThrough, RefusedIsOver};
 ghost use Rattle.mig_packet.specs.Law.{IsValidUpToOnePlace, LongerTextsStayValid, ClosedIsValid, BadIsValidBefore};
 
 /// The bytes that are written for a UUID and an id are a hello with them. So `read_hello` finds it,
@@ -46,11 +46,13 @@ pub fn readings_keep_limits()
 
 /// What waits in a channel's round is within the caller's limit, and has at most as many bytes as
 /// the limit times a page. A limit only refuses the packet that would exceed it: without that fault
-/// the reading is the one without a limit.
+/// the reading is the one without a limit. A closed channel none of whose rounds passes the limit is
+/// read as without it.
 pub fn waiting_is_bounded()
     ensures bounded { WaitingIsBounded }
     ensures bytes { WaitingBytesAreBounded }
     ensures only { LimitOnlyRefuses }
+    ensures through { LimitLetsThrough }
     ensures over { RefusedIsOver }
 {}
 

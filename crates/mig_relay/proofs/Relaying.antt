@@ -1,10 +1,10 @@
 -- The load of complete streams on several channels: their relay, the answer where an allocation was
 -- refused, and what was sent.
-use Rattle.std.proofs.Common.{ℕ, ◌≡◌, ◌≤◌, List, None, refl, sym, inl, inr, arith, subst}
+use Rattle.std.proofs.Common.{ℕ, ◌≡◌, ◌≤◌, List, length, refl, sym, inl, inr, arith, subst}
 use Rattle.std.specs.Prelude.{◌⊎◌}
 use Rattle.mig_mem.specs.PageSize.{IsPageSize}
 use Rattle.mig_mem.specs.RamTable.{RamTable}
-use Rattle.mig_stream.specs.declared.item.Frame.TheVariants.{Machine}
+use Rattle.mig_stream.specs.declared.item.Frame.TheVariants.{Ram, Machine}
 use Rattle.mig_stream.specs.Text.{total_bytes}
 use Rattle.mig_send.specs.DealtRounds.{DealtRound}
 use Rattle.mig_single_load.specs.Settings.{ram_settings}
@@ -14,11 +14,12 @@ use Rattle.mig_single_load.specs.declared.loaded.Loaded.{Loaded}
 use Rattle.mig_single_load.specs.SingleLoad.{unloaded}
 use Rattle.mig_answer.specs.Texts.{Texts, ended_texts}
 use Rattle.mig_answer.specs.MultiLoad.{Answer, IsAnswer, IsWithoutMemory, IsAnswerOrWithoutMemory, answer_of}
-use Rattle.mig_answer.specs.Sent.{IsSentInAnyOrder, IsMachineSentInAnyOrder, sent_answer}
+use Rattle.mig_answer.specs.Sent.{LetsChannelsThrough, IsSentInAnyOrder, IsSentBefore, IsMachineSentInAnyOrder, sent_answer}
 use Rattle.mig_relay.specs.RelayItems.{QueueEnd}
 use Rattle.mig_relay.specs.Multi.{AnswersRelay}
 use Rattle.mig_answer.proofs.OneAnswer.{some_readings}
-use Rattle.mig_answer.proofs.Headline.{sendings_are_loaded, machine_sendings_are_loaded}
+use Rattle.mig_answer.proofs.Headline.{sendings_are_loaded}
+use Rattle.mig_answer.proofs.SentWithin.{sendings_are_loaded_within, machine_sendings_are_loaded}
 
 -- ---- an allocation was refused before any round
 
@@ -49,11 +50,20 @@ sending_is_loaded p uuid limit main channels answer (inl is) = λ table rounds s
     (subst (λ n. IsAnswer (ram_settings n limit) uuid (ended_texts main channels) answer) (sym size) is))
 sending_is_loaded p uuid limit main channels answer (inr refused) = λ table rounds sent size room. inr refused
 
+pub sending_is_loaded_within : (given : LoadSettings) (uuid : List ℕ) (main : List ℕ) (channels : List (List ℕ)) (answer : Answer)
+    → IsAnswerOrWithoutMemory given uuid (ended_texts main channels) answer
+    → (table : RamTable) (rounds : List DealtRound) → IsSentBefore table uuid rounds main channels
+    → given.frame ≡ Ram → LetsChannelsThrough given.waiting (length channels) rounds → given.round_end ≡ by_flush → table.page_size ≡ given.page_size → total_bytes table ≤ given.limit
+    → (answer ≡ sent_answer table rounds) ⊎ IsWithoutMemory given uuid (ended_texts main channels) answer
+sending_is_loaded_within given uuid main channels answer (inl is) = λ table rounds sent frame lets flushes size room.
+    inl (sendings_are_loaded_within given table uuid rounds main channels answer frame lets flushes size room sent is)
+sending_is_loaded_within given uuid main channels answer (inr refused) = λ table rounds sent frame lets flushes size room. inr refused
+
 pub machine_sending_is_loaded : (given : LoadSettings) (uuid : List ℕ) (main : List ℕ) (channels : List (List ℕ)) (answer : Answer)
     → IsAnswerOrWithoutMemory given uuid (ended_texts main channels) answer
     → (table : RamTable) (rounds : List DealtRound) → IsMachineSentInAnyOrder table uuid rounds main channels
-    → given.frame ≡ Machine → given.waiting ≡ None → given.round_end ≡ by_flush → table.page_size ≡ given.page_size → total_bytes table ≤ given.limit
+    → given.frame ≡ Machine → LetsChannelsThrough given.waiting (length channels) rounds → given.round_end ≡ by_flush → table.page_size ≡ given.page_size → total_bytes table ≤ given.limit
     → (answer ≡ sent_answer table rounds) ⊎ IsWithoutMemory given uuid (ended_texts main channels) answer
-machine_sending_is_loaded given uuid main channels answer (inl is) = λ table rounds sent frame unlimited flushes size room.
-    inl (machine_sendings_are_loaded given table uuid rounds main channels answer frame unlimited flushes size room sent is)
-machine_sending_is_loaded given uuid main channels answer (inr refused) = λ table rounds sent frame unlimited flushes size room. inr refused
+machine_sending_is_loaded given uuid main channels answer (inl is) = λ table rounds sent frame lets flushes size room.
+    inl (machine_sendings_are_loaded given table uuid rounds main channels answer frame lets flushes size room sent is)
+machine_sending_is_loaded given uuid main channels answer (inr refused) = λ table rounds sent frame lets flushes size room. inr refused

@@ -1,17 +1,17 @@
 //! The load of complete streams on several channels: a relay, with a worker for each channel.
 
 ghost use Rattle.mig_single_load.specs.declared.settings.RoundEnd.TheVariants.{Flush as by_flush};
-ghost use Rattle.std.specs.Prelude.{◌≡◌, ◌<◌, ◌≤◌, ◌^◌, ◌⊎◌, List, None, length, is_ok, IfOk, vec_len, vec_capacity};
+ghost use Rattle.std.specs.Prelude.{◌≡◌, ◌<◌, ◌≤◌, ◌^◌, ◌⊎◌, List, length, is_ok, IfOk, vec_len, vec_capacity};
 ghost use Rattle.std.specs.List.{AllZip};
 ghost use Rattle.mig_mem.specs.PageSize.{IsPageSize};
 ghost use Rattle.mig_mem.specs.RamTable.{RamTable};
-ghost use Rattle.mig_stream.specs.declared.item.Frame.TheVariants.{Machine};
+ghost use Rattle.mig_stream.specs.declared.item.Frame.TheVariants.{Ram, Machine};
 ghost use Rattle.mig_stream.specs.Text.{total_bytes};
 ghost use Rattle.mig_send.specs.DealtRounds.{DealtRound};
 ghost use Rattle.mig_single_load.specs.Settings.{ram_settings};
 ghost use Rattle.mig_answer.specs.Texts.{ended_texts};
 ghost use Rattle.mig_answer.specs.MultiLoad.{IsWithoutMemory, IsAnswerOrWithoutMemory, answer_of, bytes_of};
-ghost use Rattle.mig_answer.specs.Sent.{IsSentInAnyOrder, IsMachineSentInAnyOrder, sent_answer};
+ghost use Rattle.mig_answer.specs.Sent.{LetsChannelsThrough, IsSentBefore, IsSentInAnyOrder, IsMachineSentInAnyOrder, sent_answer};
 ghost use Rattle.mig_relay.specs.RelayItems.{IsThrough};
 ghost use Rattle.mig_relay.specs.Relayed.{HasReceived, Continues, Load, Goes, Ends};
 ghost use Rattle.mig_relay.specs.Multi.{AnswersRelay};
@@ -108,8 +108,12 @@ pub fn load_multi_in<
     requires channels { (1 ≤ length channels.now) × (length channels.now ≤ 255) }
     requires limit { settings.limit ≤ 2 ^ 40 }
     ensures answer { IsAnswerOrWithoutMemory settings uuid.now (ended_texts main.now (bytes_of channels.now)) (answer_of result) }
+    ensures sent { (table : RamTable) (rounds : List DealtRound) → IsSentBefore table uuid.now rounds main.now (bytes_of channels.now)
+        → settings.frame ≡ Ram → LetsChannelsThrough settings.waiting (length (bytes_of channels.now)) rounds → settings.round_end ≡ by_flush → table.page_size ≡ settings.page_size → total_bytes table ≤ settings.limit
+        → (answer_of result ≡ sent_answer table rounds)
+        ⊎ IsWithoutMemory settings uuid.now (ended_texts main.now (bytes_of channels.now)) (answer_of result) }
     ensures machine { (table : RamTable) (rounds : List DealtRound) → IsMachineSentInAnyOrder table uuid.now rounds main.now (bytes_of channels.now)
-        → settings.frame ≡ Machine → settings.waiting ≡ None → settings.round_end ≡ by_flush → table.page_size ≡ settings.page_size → total_bytes table ≤ settings.limit
+        → settings.frame ≡ Machine → LetsChannelsThrough settings.waiting (length (bytes_of channels.now)) rounds → settings.round_end ≡ by_flush → table.page_size ≡ settings.page_size → total_bytes table ≤ settings.limit
         → (answer_of result ≡ sent_answer table rounds)
         ⊎ IsWithoutMemory settings uuid.now (ended_texts main.now (bytes_of channels.now)) (answer_of result) }
 {

@@ -1,6 +1,7 @@
 -- The settings that a caller passes to a load with its streams, and those of the streams' readers.
-use Rattle.std.specs.Prelude.{ℕ, List, None}
+use Rattle.std.specs.Prelude.{ℕ, ◌≤◌, List, length, Option, Some, None, All, ⊤}
 use Rattle.mig_mem.specs.RamTable.{RamTable}
+use Rattle.mig_mem.specs.Image.{Page}
 use Rattle.mig_stream.specs.declared.item.Frame.TheVariants.{Ram}
 use Rattle.mig_stream.specs.declared.item.Mode.{Mode}
 use Rattle.mig_stream.specs.declared.item.Mode.TheVariants.{Single, Main, MainBySection, MainAsShown}
@@ -35,3 +36,9 @@ main_of given = with_waiting given.waiting (in_frame given.frame (settings (mode
 -- the settings of the reader of one of so many channels under this UUID
 abbrev pub channel_of : LoadSettings → List ℕ → ℕ → channel.Settings
 channel_of given uuid channels = channel.with_waiting given.waiting (channel.settings given.page_size uuid channels)
+
+-- Rounds of a single stream are let through by a limit on what waits: none has more pages. None is
+-- no limit.
+abbrev pub LetsThrough : Option ℕ → List (List Page) → Type 0
+LetsThrough None rounds = ⊤
+LetsThrough (Some limit) rounds = All (λ round. length round ≤ limit) rounds

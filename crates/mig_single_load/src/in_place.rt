@@ -9,7 +9,7 @@ ghost use Rattle.mig_single_load.specs.Settings.{ram_settings};
 ghost use Rattle.mig_single_load.specs.SingleLoad.{no_memory_at};
 ghost use Rattle.mig_single_load.specs.InPlace.{settings_of, HasVerdictOnto, HasOtherTable};
 ghost use Rattle.mig_single_load.specs.LoadInPlace.{LoadsOnto, LacksOnto, HasClosedAtOnto, IsValidUpToOnto, SentIsLoadedInPlace};
-ghost use Rattle.mig_single_load.specs.MachineSent.{MachineSentIsLoadedInPlace};
+ghost use Rattle.mig_single_load.specs.MachineSent.{SentIsLoadedWithin, MachineSentIsLoadedInPlace};
 
 use crate::{InPlaceFault, InPlaceState, LoadFault, LoadSettings};
 use mig_mem::{GuestTarget, Memory, NoMemory};
@@ -224,7 +224,8 @@ impl<A: Allocator, M: GuestTarget> InPlaceLoader<A, M> {
 /// The stream that a sender made of the memory's table is loaded completely: the memory has the
 /// sender's rounds in it, on top of what it held, and the verdict is Ok.
 pub fn sent_is_loaded_in_place()
-    ensures { SentIsLoadedInPlace }
+    ensures sent { SentIsLoadedInPlace }
+    ensures within { SentIsLoadedWithin }
 {}
 
 /// What a sender wrote of RAM in a machine's stream is loaded so, too, whatever follows RAM's END.

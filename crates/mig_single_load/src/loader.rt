@@ -7,15 +7,15 @@ ghost use Rattle.mig_mem.specs.PageSize.{IsPageSize};
 ghost use Rattle.mig_mem.specs.RamTable.{RamTable, IsTable};
 ghost use Rattle.mig_mem.specs.Image.{Page};
 ghost use Rattle.mig_mem.specs.Round.{IsRound};
-ghost use Rattle.mig_stream.specs.declared.item.Frame.TheVariants.{Machine};
+ghost use Rattle.mig_stream.specs.declared.item.Frame.TheVariants.{Ram, Machine};
 ghost use Rattle.mig_stream.specs.Reader.{IsSettled, HasClosedAt, IsValidUpTo};
 ghost use Rattle.mig_stream.specs.Text.{total_bytes};
 ghost use Rattle.mig_stream.specs.Written.{single};
 ghost use Rattle.mig_single_load.specs.declared.fault.FeedFault.TheVariants.{NoMemory as fault_no_memory, NoGuestMemory as fault_no_guest_memory};
 ghost use Rattle.mig_single_load.specs.declared.settings.LoadSettings.{LoadSettings};
-ghost use Rattle.mig_single_load.specs.Settings.{ram_settings, single_of};
+ghost use Rattle.mig_single_load.specs.Settings.{ram_settings, single_of, LetsThrough};
 ghost use Rattle.mig_single_load.specs.SingleLoad.{loaded, unloaded};
-ghost use Rattle.mig_single_load.specs.MachineSent.{IsMachineSent};
+ghost use Rattle.mig_single_load.specs.MachineSent.{IsSent, IsMachineSent};
 ghost use Rattle.mig_single_load.specs.Loader.{memory_of, sections_loaded, HasAllSections, Waits, Loads, Judges, Answers};
 
 use crate::filling::Filling;
@@ -238,7 +238,9 @@ impl<A: Allocator> SingleLoader<A> {
         ensures answers { (given : LoadSettings) (text : List ℕ) (ended : Bool) → Loads given self text ended → Answers given self text result }
         ensures sent { (table : RamTable) (rounds : List (List Page)) (limit : ℕ) (ended : Bool) → IsTable table → total_bytes table ≤ limit → All (IsRound table) rounds
             → Loads (ram_settings table.page_size limit) self (single table rounds) ended → (result ≡ loaded table rounds) ⊎ (result ≡ unloaded) }
-        ensures machine { (table : RamTable) (rounds : List (List Page)) (given : LoadSettings) (text : List ℕ) (ended : Bool) → given.frame ≡ Machine → given.waiting ≡ None
+        ensures within { (table : RamTable) (rounds : List (List Page)) (given : LoadSettings) (text : List ℕ) (ended : Bool) → given.frame ≡ Ram → LetsThrough given.waiting rounds
+            → table.page_size ≡ given.page_size → IsSent given.limit table rounds text → Loads given self text ended → (result ≡ loaded table rounds) ⊎ (result ≡ unloaded) }
+        ensures machine { (table : RamTable) (rounds : List (List Page)) (given : LoadSettings) (text : List ℕ) (ended : Bool) → given.frame ≡ Machine → LetsThrough given.waiting rounds
             → table.page_size ≡ given.page_size → IsMachineSent given.limit table rounds text → Loads given self text ended → (result ≡ loaded table rounds) ⊎ (result ≡ unloaded) }
     {
         let SingleLoader {

@@ -1,17 +1,17 @@
 //! The loader of a complete single stream: for the tool, and for callers that have such a stream.
 
-ghost use Rattle.std.specs.Prelude.{◌≡◌, ◌≤◌, ◌^◌, ◌⊎◌, List, None, All, IfOk};
+ghost use Rattle.std.specs.Prelude.{◌≡◌, ◌≤◌, ◌^◌, ◌⊎◌, List, All, IfOk};
 ghost use Rattle.mig_mem.specs.PageSize.{IsPageSize};
 ghost use Rattle.mig_mem.specs.RamTable.{RamTable, IsTable};
 ghost use Rattle.mig_mem.specs.Image.{Page};
 ghost use Rattle.mig_mem.specs.Round.{IsRound};
-ghost use Rattle.mig_stream.specs.declared.item.Frame.TheVariants.{Machine};
+ghost use Rattle.mig_stream.specs.declared.item.Frame.TheVariants.{Ram, Machine};
 ghost use Rattle.mig_stream.specs.Text.{total_bytes};
 ghost use Rattle.mig_stream.specs.Written.{single};
 ghost use Rattle.mig_stream.specs.Reader.{HasClosedAt, IsValidUpTo};
-ghost use Rattle.mig_single_load.specs.Settings.{ram_settings, single_of};
+ghost use Rattle.mig_single_load.specs.Settings.{ram_settings, single_of, LetsThrough};
 ghost use Rattle.mig_single_load.specs.SingleLoad.{IsSingleAnswer, IsSingleWithoutMemory, loaded};
-ghost use Rattle.mig_single_load.specs.MachineSent.{IsMachineSent};
+ghost use Rattle.mig_single_load.specs.MachineSent.{IsSent, IsMachineSent};
 
 use crate::at_once::load_at_once;
 use crate::settle::{answer, settle, without_memory};
@@ -63,7 +63,9 @@ pub fn load_single_in<A: Allocator + Copy>(
     requires page_size { IsPageSize settings.page_size }
     requires limit { settings.limit ≤ 2 ^ 40 }
     ensures answer { IsSingleAnswer settings text.now result ⊎ IsSingleWithoutMemory settings text.now result }
-    ensures machine { (table : RamTable) (rounds : List (List Page)) → settings.frame ≡ Machine → settings.waiting ≡ None → table.page_size ≡ settings.page_size
+    ensures sent { (table : RamTable) (rounds : List (List Page)) → settings.frame ≡ Ram → LetsThrough settings.waiting rounds → table.page_size ≡ settings.page_size
+        → IsSent settings.limit table rounds text.now → (result ≡ loaded table rounds) ⊎ IsSingleWithoutMemory settings text.now result }
+    ensures machine { (table : RamTable) (rounds : List (List Page)) → settings.frame ≡ Machine → LetsThrough settings.waiting rounds → table.page_size ≡ settings.page_size
         → IsMachineSent settings.limit table rounds text.now → (result ≡ loaded table rounds) ⊎ IsSingleWithoutMemory settings text.now result }
 {
     match load_at_once(alloc, settings, text) {

@@ -56,3 +56,7 @@ pub mod MoreRounds
 pub mod WrittenMachine
 pub mod Configured
 mod Examples
+mod Room
+mod Unlimited
+pub mod ClosedMain
+mod LetThrough

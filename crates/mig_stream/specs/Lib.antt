@@ -16,6 +16,7 @@ pub mod Giving
 pub mod Wanted
 pub mod Law
 pub mod Flushed
+pub mod Limited
 pub mod Shown
 pub mod FaultNumber
 -- The values that reading keeps, and how it goes back. Only private contracts cite these.

@@ -7,6 +7,7 @@
 ghost use Rattle.mig_stream.specs.MachineWritten.{MachineSinglesAreTexts, MachineMainsAreTexts, WrittenIsClosed, ConfiguredIsWritten, ConfiguredIsClosed};
 ghost use Rattle.mig_stream.specs.Law.{HasOneReading, SpelledIsRead, ReadIsSpelled, ClosedIsText, MachineClosedIsText, HasOneText, SinglesAreTexts, MainsAreTexts, RecordsStandForPages, ReadingsKeepLimits, LongerTextsStay};
 ghost use Rattle.mig_stream.specs.Flushed.{SectionsAreFlushed, SectionsHaveNoTail, SectionsAreMore};
+ghost use Rattle.mig_stream.specs.Limited.{WaitingIsBounded, FullRoundIsRefused, LimitOnlyRefuses, LimitLetsThrough};
 ghost use Rattle.mig_stream.specs.Shown.{ShownIsOneOfBoth, MachineShownIsOneOfBoth, FlushIsShown, MachineFlushIsShown, EosIsShown, MachineEosIsShown};
 ghost use Rattle.mig_stream.specs.Law.{IsValidUpToOnePlace, LongerTextsStayValid, ClosedIsValid, BadIsValidBefore};
 
@@ -115,4 +116,13 @@ pub fn shown_is_one_of_both()
     ensures machine_flush { MachineFlushIsShown }
     ensures eos { EosIsShown }
     ensures machine_eos { MachineEosIsShown }
+{}
+
+/// Of the page records of a section, or of a round of a main stream, no more wait than the caller's
+/// limit. A stream that would have more is at fault. The limit does nothing but refuse.
+pub fn waiting_is_bounded()
+    ensures bounded { WaitingIsBounded }
+    ensures full { FullRoundIsRefused }
+    ensures only { LimitOnlyRefuses }
+    ensures through { LimitLetsThrough }
 {}

@@ -41,7 +41,7 @@ pub use laws::{
     bytes_have_one_text, closed_is_text, configured_is_written, longer_texts_stay,
     machine_closed_is_text, machine_written_is_text, read_is_spelled, readings_keep_limits,
     sections_are_flushed, shown_is_one_of_both, spelled_is_read, text_has_one_reading,
-    text_is_valid_up_to_one_place, written_is_text,
+    text_is_valid_up_to_one_place, waiting_is_bounded, written_is_text,
 };
 pub use reader::StreamReader;
 pub use round::StreamRound;

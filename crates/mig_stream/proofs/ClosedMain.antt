@@ -8,9 +8,6 @@ use Rattle.mig_stream.specs.declared.fault.StreamFault.TheVariants as stream_fau
 use Rattle.mig_stream.specs.declared.item.Frame.{Frame}
 use Rattle.mig_stream.specs.declared.item.Mode.{Mode}
 use Rattle.mig_stream.specs.declared.item.Mode.TheVariants.{Single, Main, MainBySection, MainAsShown}
-use Rattle.mig_single_load.specs.declared.settings.RoundEnd.{RoundEnd}
-use Rattle.mig_single_load.specs.declared.settings.RoundEnd.TheVariants.{Flush as by_flush, Eos as by_eos, AsShown as as_shown}
-use Rattle.mig_single_load.specs.Settings.{mode_of}
 use Rattle.mig_stream.specs.declared.item.Section.TheVariants as section
 use Rattle.mig_stream.specs.declared.item.Before.{Before}
 use Rattle.mig_stream.specs.declared.item.Before.TheVariants as before
@@ -32,21 +29,11 @@ use Rattle.mig_stream.specs.Items.{is_page_size, entry_due, id_in, is_single, is
 use Rattle.mig_stream.specs.Fields.{be32_at}
 use Rattle.mig_stream.specs.Reading.{AreFaultless, after_all, Front}
 use Rattle.mig_stream.proofs.Feeding.{front_item}
-use Rattle.mig_stream.proofs.Steps.{IsLater-front}
-
-passed : {X : Type 0} (b : Bool) (f : X) (more : List (Bool × X)) → first_of ((b, f) ∷ more) ≡ None → (b ≡ false) × (first_of more ≡ None)
-passed true f more e = absurd cc
-passed false f more e = (refl, e)
+use Rattle.mig_stream.proofs.Steps.{passed, IsLater-front}
 
 not_false : (b : Bool) → not b ≡ false → b ≡ true
 not_false true e = refl
 not_false false e = absurd cc
-
--- a main stream is none that is single, whatever ends its rounds
-pub main_is_not_single : (r : RoundEnd) → is_single (mode_of r) ≡ false
-main_is_not_single by_flush = refl
-main_is_not_single by_eos = refl
-main_is_not_single as_shown = refl
 
 open_nil : (m : Mode) (records : List PageRecord) → records ≡ [] → open_records m records ≡ []
 open_nil Single records none = refl
