@@ -9,24 +9,23 @@ use Rattle.std.proofs.lemmas.List.Elements.{All-get_or, All-from_get_or}
 use Rattle.std.proofs.lemmas.List.Sums.{passes_at_first, fails_before_first}
 use Rattle.mig_mem.specs.declared.place.Place.{Place}
 use Rattle.mig_mem.specs.declared.fault.NoMemory.{NoMemory}
-use Rattle.mig_mem.specs.RamTable.{RamTable, block}
+use Rattle.mig_mem.specs.RamTable.{RamTable}
 use Rattle.mig_mem.specs.Place.{IsPlace, place_at}
-use Rattle.mig_mem.specs.Image.{Page, Image, IsImage, content_at, pages_of}
+use Rattle.mig_mem.specs.Image.{Image, IsImage, content_at}
 use Rattle.mig_mem.specs.Parts.{part_at}
-use Rattle.mig_mem.specs.Round.{round_of}
 use Rattle.mig_mem.proofs.Images.{image_from, content_at-image_of}
-use Rattle.mig_mem.proofs.Members.{map_agree}
 use Rattle.mig_mem.proofs.PageSizes.{page_before}
 use Rattle.mig_mem.specs.PageSize.{IsPageSize}
 use Rattle.mig_packet.specs.PageSize.{page_limit}
 use Rattle.mig_send.specs.declared.channel_worker.Hand.{Hand}
 use Rattle.mig_send.specs.declared.channel_worker.Hand.TheVariants.{Drawing, Claimed, Ending, Ended, Moving}
 use Rattle.mig_send.specs.Batches.{BatchOfPages, batch_places}
-use Rattle.mig_send.specs.Packing.{PackedBatch, packed_of, packet_of}
+use Rattle.mig_send.specs.Packing.{PackedBatch, packed_of}
 use Rattle.mig_send.specs.Work.{no_batch}
 use Rattle.mig_send.specs.Dealing.{sync_packet}
 use Rattle.mig_send.specs.ChannelWork.{RoundTerms, ChannelWork, IsHand, HasClaimed, HasEnded, HasPackedTo, IsStep, hand_bytes, after_packet, batch_in}
 use Rattle.mig_send.proofs.Stepping.{step_packed}
+use Rattle.mig_send.proofs.Copies.{same_packet}
 use Rattle.mig_c_calls.specs.Status.{IsOneOf, done, running, no_memory, bad_length, out_of_turn}
 use Rattle.mig_c_calls.specs.Copied.{HasCopied, HasPages, HasBatch, OfClaim, index_in, copied_image}
 
@@ -117,24 +116,6 @@ copied_agrees image table batch bytes same are copied =
     ap (λ (n : ℕ). content_at image (place_at batch.block n)) (sym index.1) ∙ copied j index.0 ∙ ap (λ (t : RamTable). part_at t.page_size bytes j) same in
     subst (λ (p : Place). content_at (copied_image table batch.pages bytes) p ≡ content_at image p) (sym at)
     (copied_content table batch.pages bytes (place_at batch.block page) is ∙ sym has))
-
--- ---- packets
-
-abbrev page_in : Image → Place → Page
-page_in m p = record { place = p; content = content_at m p }
-
--- memories that agree at the pages of a batch make one packet of it
-pub same_packet : (a b : Image) (batch : BatchOfPages) (number : ℕ) → a.table ≡ b.table → All (λ p. content_at a p ≡ content_at b p) (batch_places batch)
-    → packed_of a batch number ≡ packed_of b batch number
-unfolding pages_of
-same_packet a b batch number tables agree =
-    let rounds : round_of a (batch_places batch) ≡ round_of b (batch_places batch) =
-    map_agree (page_in a) (page_in b) (batch_places batch)
-    (All-from_get_or (λ p. page_in a p ≡ page_in b p) (batch_places batch) (place_at batch.block 0) (λ i lt.
-    ap (λ (l : List ℕ). record { place = get_or (batch_places batch) i (place_at batch.block 0); content = l })
-    (All-get_or (λ p. content_at a p ≡ content_at b p) (batch_places batch) i (place_at batch.block 0) lt agree))) in
-    ap (λ (t : RamTable). record { page_size = t.page_size; number = number; bytes = packet_of t.page_size number (block t.blocks batch.block).id (round_of a (batch_places batch)) }) tables
-    ∙ ap (λ (r : List Page). record { page_size = b.table.page_size; number = number; bytes = packet_of b.table.page_size number (block b.table.blocks batch.block).id r }) rounds
 
 -- ---- the worker's number
 

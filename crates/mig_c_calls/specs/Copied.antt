@@ -5,11 +5,11 @@ use Rattle.std.specs.List.{position}
 use Rattle.std.specs.Option.{unwrap_or}
 use Rattle.mig_mem.specs.RamTable.{RamTable}
 use Rattle.mig_mem.specs.declared.fault.NoMemory.{NoMemory}
-use Rattle.mig_mem.specs.Place.{place_at}
-use Rattle.mig_mem.specs.Image.{Image, content_at, image_of}
+use Rattle.mig_mem.specs.Image.{Image, image_of}
 use Rattle.mig_mem.specs.Parts.{part_at}
 use Rattle.mig_send.specs.Batches.{BatchOfPages, IsBatch}
 use Rattle.mig_send.specs.Packing.{packed_of}
+use Rattle.mig_send.specs.Copies.{HasContents}
 use Rattle.mig_send.specs.declared.channel_worker.Hand.{Hand}
 use Rattle.mig_send.specs.declared.channel_worker.Hand.TheVariants.{Drawing, Claimed, Ending, Ended, Moving}
 use Rattle.mig_send.specs.Work.{no_batch}
@@ -21,8 +21,7 @@ use Rattle.mig_c_calls.specs.Multi.{Packs}
 
 -- At the pages of a batch a memory has the content of a buffer, one page after another.
 abbrev pub HasCopied : Image → BatchOfPages → List ℕ → Type 0
-HasCopied image batch bytes = (i : ℕ) → i < length batch.pages
-    → content_at image (place_at batch.block (get_or batch.pages i 0)) ≡ part_at image.table.page_size bytes i
+HasCopied image batch bytes = HasContents image batch (part_at image.table.page_size bytes)
 
 -- ---- such a memory
 

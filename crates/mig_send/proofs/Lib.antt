@@ -10,4 +10,6 @@ pub mod Sendings
 pub mod Counting
 pub mod ReadBack
 pub mod Stepping
+pub mod SentImages
+pub mod Copies
 pub mod OpenRounds

@@ -1,9 +1,9 @@
 -- An open round: begun, its workers given out and given back, and ended.
-use Rattle.std.proofs.Common.{ℕ, ◌≡◌, ◌+◌, ◌<◌, List, [], ◌∷◌, ◌++◌, length, get_or, ap, sym, subst, refl, ◌∙◌, arith, inl, inr, append-nil, append_assoc}
+use Rattle.std.proofs.Common.{ℕ, ◌≡◌, ◌+◌, ◌-◌, ◌<◌, List, [], ◌∷◌, ◌++◌, length, get_or, ap, sym, subst, refl, ◌∙◌, ◌==◌, cond, false, arith, inl, inr, append-nil, append_assoc}
 use Rattle.std.specs.List.{All, slice_set}
 use Rattle.std.proofs.lemmas.List.{length-append, length-set, length-replicate, get_or-set_other, get_or_append_left, get_or_push}
 use Rattle.std.proofs.lemmas.List.Elements.{All-nil, All-push, All-replicate}
-use Rattle.std.proofs.lemmas.Bool.{cases_lt}
+use Rattle.std.proofs.lemmas.Bool.{cases_Bool, cases_lt, cond-true, cond-false, eqb-true, eq-eqb}
 use Rattle.std.proofs.lemmas.Grind.{get_or-set_at}
 use Rattle.std.proofs.lemmas.Slice.Zip.{AllZip-long}
 use Rattle.mig_mem.specs.RamTable.{RamTable}
@@ -11,20 +11,22 @@ use Rattle.mig_mem.specs.declared.place.Place.{Place}
 use Rattle.mig_mem.specs.Image.{Image, IsImage}
 use Rattle.mig_mem.specs.PlaceSet.{PlaceSet, IsPlaceSet}
 use Rattle.mig_mem.specs.Tracking.{Snapshot}
-use Rattle.mig_deal.specs.Deal.{SeatView, HasEachOnce, new_seat, all_drawn, end_of_deal}
+use Rattle.mig_deal.specs.Deal.{SeatView, HasEachOnce, new_seat, all_drawn, end_of_work, end_of_deal}
 use Rattle.mig_stream.specs.Writer.{Writer}
 use Rattle.mig_send.specs.declared.channel_worker.Hand.{Hand}
 use Rattle.mig_send.specs.declared.channel_worker.Hand.TheVariants.{Drawing, Ended}
 use Rattle.mig_send.specs.Batches.{IsCut}
-use Rattle.mig_send.specs.Work.{Share, HasShare}
+use Rattle.mig_send.specs.Work.{Share, HasShare, no_batch}
 use Rattle.mig_send.specs.Dealing.{IsDealing, share_text}
 use Rattle.mig_send.specs.DealtRounds.{DealtRound, IsDealtRound, packet_count, no_share}
 use Rattle.mig_send.specs.MultiSending.{MultiSending, HasSentOne, KeepsSetting}
-use Rattle.mig_send.specs.ChannelWork.{RoundTerms, ChannelWork, HasPackedTo, HasPackedShare, seats_of}
-use Rattle.mig_send.specs.MultiRound.{OpenMulti, IsOpenMulti, IsRoundSoFar, HasSentRound, HandsOut, TakesBack, EndsRound, HasBegun, IsDealtOut, dirty_of, handed_out, none_drained, with_channels}
+use Rattle.mig_send.specs.ChannelWork.{RoundTerms, ChannelWork, HasPackedTo, HasPackedSoFar, HasPackedShare, seats_of}
+use Rattle.mig_send.specs.Copies.{HasPagesOf, HasPagesBelow, HasPagesPacked}
+use Rattle.mig_send.specs.MultiRound.{OpenMulti, IsOpenMulti, AreWaiting, IsRoundSoFar, IsRoundOfEach, HasPagesSent, HasSentRound, HasSentEach, HandsOut, TakesBack, EndsRound, HasBegun, IsDealtOut, dirty_of, handed_out, none_drained, with_channels, with_memories}
 use Rattle.mig_send.proofs.Dealings.{shares_are_dealt}
 use Rattle.mig_send.proofs.Gathering.{zip_push, all_end}
 use Rattle.mig_send.proofs.Sendings.{HasFlushed, sent_on}
+use Rattle.mig_send.proofs.SentImages.{sent_image, sent_table, sent_is_image, sent_has_pages, drawn_by}
 
 -- ---- begun
 
@@ -72,9 +74,25 @@ has_begun dirty sender terms seats spents same dealt none = record {
   all_left = ap length dealt.is_dealt.are_seats ∙ length-replicate (length sender.channels) (new_seat terms.deal);
   none_back = none;
   has_come = λ image drained. begun image drained sender terms seats spents none;
+  each_come = λ memories drained. record {
+    same_channels = refl;
+    are_waiting = λ channel from lt. refl;
+    is_of_each = λ image same pages. begun image drained sender terms seats spents none;
+  };
 }
 
 -- ---- a worker given out
+
+-- the other channels' bytes stay
+out_waiting : (sender : MultiSending) (old : OpenMulti) (seats : List SeatView) (at : ℕ) → IsOpenMulti old → at ≡ handed_out old
+    → length old.seats ≡ length seats + 1 → AreWaiting sender old
+    → AreWaiting sender record old { sender = record old.sender { channels = slice_set old.sender.channels at [] }; seats = seats }
+out_waiting sender old seats at is next fewer waiting = λ channel from lt.
+    let channels = old.sender.channels in
+    let long = length-set channels at [] in
+    let few = is.are_few in
+    get_or-set_other channels at channel [] [] (λ same. absurd (omega (arith, from, next, fewer, few, same, long)))
+    ∙ waiting channel (omega (arith, from, next, fewer, few, long)) lt
 
 -- one channel's bytes are out
 pub out : (image : Image) (drained : ℕ → List ℕ) (sender : MultiSending) (old : OpenMulti) (seats : List SeatView) (at : ℕ) → IsOpenMulti old
@@ -93,9 +111,30 @@ out image drained sender old seats at is next fewer come =
           ap (λ (l : List ℕ). drained channel ++ l)
           (get_or-set_other channels at channel [] [] (λ same. absurd (omega (arith, lt, next, fewer, few, same))))
           ∙ come.have_texts channel lt;
-      are_waiting = λ channel from lt.
-          get_or-set_other channels at channel [] [] (λ same. absurd (omega (arith, from, next, fewer, few, same, long)))
-          ∙ come.are_waiting channel (omega (arith, from, next, fewer, few, long)) lt;
+      are_waiting = out_waiting sender old seats at is next fewer come.are_waiting;
+    }
+
+out_each : (memories : ℕ → ℕ → Image) (drained : ℕ → List ℕ) (sender : MultiSending) (old : OpenMulti) (seats : List SeatView) (at : ℕ) → IsOpenMulti old
+    → at ≡ handed_out old → length old.seats ≡ length seats + 1 → IsRoundOfEach memories drained sender old
+    → IsRoundOfEach memories drained sender record old { sender = record old.sender { channels = slice_set old.sender.channels at [] }; seats = seats }
+out_each memories drained sender old seats at is next fewer come = record {
+  same_channels = length-set old.sender.channels at [] ∙ come.same_channels;
+  are_waiting = out_waiting sender old seats at is next fewer come.are_waiting;
+  is_of_each = λ image same pages. out image drained sender old seats at is next fewer (come.is_of_each image same pages);
+}
+
+-- a new worker has packed nothing
+new_packed : (image : Image) (first : MultiSending) (old : OpenMulti) (seats : List SeatView) (seat : SeatView) (at : ℕ) (text : List ℕ) → IsOpenMulti old
+    → at ≡ handed_out old → old.seats ≡ seats ++ seat ∷ [] → text ≡ get_or old.sender.channels at [] → length old.sender.channels ≡ length first.channels
+    → AreWaiting first old → HasPackedSoFar image old.terms seat (get_or first.channels at []) text
+new_packed image first old seats seat at text is next last has_text same waiting =
+    let fewer : length old.seats ≡ length seats + 1 = ap length last ∙ length-append seats (seat ∷ []) in
+    record {
+      numbers = [];
+      has_drawn = all_end (λ (s : SeatView). s ≡ new_seat old.terms.deal) seats seat (subst (All (λ (s : SeatView). s ≡ new_seat old.terms.deal)) last is.are_new);
+      claim_batches = λ i d lt. absurd (omega (arith, lt));
+      rise = λ i j d before within. absurd (omega (arith, within));
+      has_text = has_text ∙ waiting at (omega (arith, next)) (omega (arith, next, fewer, is.are_few, same)) ∙ sym (append-nil (get_or first.channels at []));
     }
 
 pub hands_out : (old : OpenMulti) (sender : MultiSending) (seats : List SeatView) (seat : SeatView) (at : ℕ) (text : List ℕ) → IsOpenMulti old
@@ -115,15 +154,12 @@ hands_out old sender seats seat at text is next last same has_text =
       has_come = λ image drained first come. (
         subst (λ (s : MultiSending). IsRoundSoFar image drained first (record old { sender = s; seats = seats })) (sym same)
             (out image drained first old seats at is next fewer come),
-        record {
-          numbers = [];
-          has_drawn = all_end (λ (s : SeatView). s ≡ new_seat old.terms.deal) seats seat
-              (subst (All (λ (s : SeatView). s ≡ new_seat old.terms.deal)) last is.are_new);
-          claim_batches = λ i d lt. absurd (omega (arith, lt));
-          rise = λ i j d before within. absurd (omega (arith, within));
-          has_text = has_text ∙ come.are_waiting at (omega (arith, next)) (omega (arith, next, fewer, few, come.same_channels))
-              ∙ sym (append-nil (get_or first.channels at []));
-        },
+        new_packed image first old seats seat at text is next last has_text come.same_channels come.are_waiting,
+      );
+      each_come = λ memories drained first come. (
+        subst (λ (s : MultiSending). IsRoundOfEach memories drained first (record old { sender = s; seats = seats })) (sym same)
+            (out_each memories drained first old seats at is next fewer come),
+        λ own image _ _. new_packed image first old seats seat at text is next last has_text come.same_channels come.are_waiting,
       );
     }
 
@@ -150,6 +186,16 @@ back_open old sender spents spent at text is few own same more =
       are_own = subst (All P) (sym more) (All-push P old.spents spent is.are_own own);
       are_few = omega (arith, few, grown, long);
     }
+
+-- the other channels' bytes stay
+back_waiting : (sender : MultiSending) (old : OpenMulti) (spents : List SeatView) (at : ℕ) (text : List ℕ) → IsOpenMulti old → at ≡ length old.spents
+    → length old.spents < handed_out old → AreWaiting sender old
+    → AreWaiting sender record old { sender = record old.sender { channels = slice_set old.sender.channels at text }; spents = spents }
+back_waiting sender old spents at text is turn few waiting = λ channel from lt.
+    let channels = old.sender.channels in
+    let long = length-set channels at text in
+    get_or-set_other channels at channel text [] (λ same. absurd (omega (arith, from, turn, few, same, long)))
+    ∙ waiting channel (omega (arith, from, long)) lt
 
 pub back : (image : Image) (drained : ℕ → List ℕ) (sender : MultiSending) (old : OpenMulti) (spent : SeatView) (at : ℕ) (text : List ℕ) → IsOpenMulti old
     → at ≡ length old.spents → length old.spents < handed_out old
@@ -184,17 +230,52 @@ back image drained sender old spent at text is turn few come packed =
                 ∙ ap (λ (s : Share). get_or sender.channels channel [] ++ share_bytes s)
                 (sym (get_or_push come.shares packed.share no_share channel (sym last)))
           ];
-      are_waiting = λ channel from lt.
-          get_or-set_other channels at channel text [] (λ same. absurd (omega (arith, from, turn, few, same, long)))
-          ∙ come.are_waiting channel (omega (arith, from, long)) lt;
+      are_waiting = back_waiting sender old (old.spents ++ spent ∷ []) at text is turn few come.are_waiting;
     }
+
+-- an image that has the pages of all channels has those of the earlier ones, and of this one
+earlier_sent : (memories : ℕ → ℕ → Image) (own : ℕ → Image) (old : OpenMulti) (sender : MultiSending) (spent : SeatView) (at : ℕ) (image : Image) → at ≡ length old.spents
+    → HasPagesSent (with_memories memories at own) (record old { sender = sender; spents = old.spents ++ spent ∷ [] }) image
+    → HasPagesSent memories old image × HasPagesBelow (end_of_work old.terms.deal) image old.terms spent own
+earlier_sent memories own old sender spent at image turn pages =
+    let deal = old.terms.deal in
+    let more = length-append old.spents (spent ∷ []) in
+    let Has : SeatView → (ℕ → Image) → Type 0 = HasPagesBelow (end_of_work deal) image old.terms in (
+      λ channel lt.
+          subst (λ (own : ℕ → Image). Has (get_or old.spents channel (new_seat deal)) own)
+          (cond-false (channel == at) own (memories channel) (other_channel channel at (omega (arith, lt, turn))))
+          (subst (λ (s : SeatView). Has s (cond (channel == at) own (memories channel))) (get_or_append_left old.spents (spent ∷ []) (new_seat deal) channel lt)
+          (pages channel (omega (arith, lt, more)))),
+      subst (λ (own : ℕ → Image). Has spent own) (cond-true (at == at) own (memories at) (eq-eqb at at refl))
+          (subst (λ (s : SeatView). Has s (cond (at == at) own (memories at))) (get_or_push old.spents spent (new_seat deal) at (sym turn))
+          (pages at (omega (arith, turn, more)))),
+    )
+  where
+    other_channel : (channel at : ℕ) → channel < at → (channel == at) ≡ false
+    other_channel channel at lt = elim (cases_Bool (channel == at)) [
+      | inl same ↦ absurd (omega (arith, lt, eqb-true channel at same))
+      | inr other ↦ other
+    ]
+
+back_each : (memories : ℕ → ℕ → Image) (own : ℕ → Image) (drained : ℕ → List ℕ) (sender : MultiSending) (old : OpenMulti) (spent : SeatView) (at : ℕ) (text : List ℕ) → IsOpenMulti old
+    → at ≡ length old.spents → length old.spents < handed_out old → IsRoundOfEach memories drained sender old
+    → ((image : Image) → image.table ≡ old.terms.table → HasPagesBelow (end_of_work old.terms.deal) image old.terms spent own
+    → HasPackedShare image old.terms spent (get_or sender.channels at []) (drained at ++ text))
+    → IsRoundOfEach (with_memories memories at own) drained sender record old { sender = record old.sender { channels = slice_set old.sender.channels at text }; spents = old.spents ++ spent ∷ [] }
+back_each memories own drained sender old spent at text is turn few come packed = record {
+  same_channels = length-set old.sender.channels at text ∙ come.same_channels;
+  are_waiting = back_waiting sender old (old.spents ++ spent ∷ []) at text is turn few come.are_waiting;
+  is_of_each = λ image same pages.
+      let have = earlier_sent memories own old (record old.sender { channels = slice_set old.sender.channels at text }) spent at image turn pages in
+      back image drained sender old spent at text is turn few (come.is_of_each image same have.0) (packed image same have.1);
+}
 
 -- its bytes are its channel's, and its seat is the round's
 pub takes_back : (worker : ChannelWork) (old : OpenMulti) (sender : MultiSending) (spents : List SeatView) (spent : SeatView) → IsOpenMulti old
     → worker.terms ≡ old.terms → worker.channel ≡ length old.spents → length old.spents < handed_out old → worker.hand ≡ Ended spent
     → sender ≡ record old.sender { channels = slice_set old.sender.channels worker.channel worker.text } → spents ≡ old.spents ++ spent ∷ []
     → TakesBack worker old (record old { sender = sender; spents = spents })
-takes_back worker old sender spents spent is own turn few ended same more = record {
+takes_back worker old sender spents spent is own_terms turn few ended same more = record {
   same_terms = refl;
   same_seats = refl;
   one_more = more ∙ ap (λ (hand : Hand). old.spents ++ seats_of hand) (sym ended);
@@ -203,12 +284,23 @@ takes_back worker old sender spents spent is own turn few ended same more = reco
       let before = get_or first.channels worker.channel [] in
       let whole = drained worker.channel ++ worker.text in
       let share : HasPackedShare image old.terms spent before whole =
-      subst (λ (terms : RoundTerms). HasPackedTo image terms before whole (Ended spent)) own
+      subst (λ (terms : RoundTerms). HasPackedTo image terms before whole (Ended spent)) own_terms
       (subst (λ (hand : Hand). HasPackedTo image worker.terms before whole hand) ended packed) in
       subst (λ (s : MultiSending). IsRoundSoFar image drained first (record old { sender = s; spents = spents })) (sym same)
       (subst (λ (l : List SeatView). IsRoundSoFar image drained first
       (record old { sender = record old.sender { channels = slice_set old.sender.channels worker.channel worker.text }; spents = l })) (sym more)
       (back image drained first old spent worker.channel worker.text is turn few come share));
+  each_come = λ memories own drained first come packed.
+      let before = get_or first.channels worker.channel [] in
+      let whole = drained worker.channel ++ worker.text in
+      let all = with_memories memories worker.channel own in
+      let share : (image : Image) → image.table ≡ old.terms.table → HasPagesBelow (end_of_work old.terms.deal) image old.terms spent own → HasPackedShare image old.terms spent before whole =
+      subst (λ (terms : RoundTerms). (image : Image) → image.table ≡ terms.table → HasPagesPacked image terms own (Ended spent) → HasPackedTo image terms before whole (Ended spent)) own_terms
+      (subst (λ (hand : Hand). (image : Image) → image.table ≡ worker.terms.table → HasPagesPacked image worker.terms own hand → HasPackedTo image worker.terms before whole hand) ended packed) in
+      subst (λ (s : MultiSending). IsRoundOfEach all drained first (record old { sender = s; spents = spents })) (sym same)
+      (subst (λ (l : List SeatView). IsRoundOfEach all drained first
+      (record old { sender = record old.sender { channels = slice_set old.sender.channels worker.channel worker.text }; spents = l })) (sym more)
+      (back_each memories own drained first old spent worker.channel worker.text is turn few come share));
 }
 
 -- ---- ended
@@ -292,6 +384,44 @@ undrained snapshot old new sent = record {
       };
 }
 
+-- if the steps had different memories, it has sent an image that has the pages of each
+sent_each : (memories : ℕ → ℕ → Image) (drained : ℕ → List ℕ) (old : MultiSending) (round : OpenMulti) (main : Writer) (base rounds next : ℕ) → IsOpenMulti round
+    → ((channel number : ℕ) → IsImage (memories channel number) × ((memories channel number).table ≡ round.terms.table)) → IsRoundOfEach memories drained old round
+    → length round.spents ≡ length round.sender.channels
+    → next ≡ end_of_deal round.terms.deal → HasEachOnce round.terms.deal.base next (all_drawn round.spents)
+    → main.table ≡ round.sender.main.table → HasFlushed round.sender.main main
+    → base ≡ round.sender.base + (length round.terms.batches + length round.sender.channels) → rounds ≡ round.sender.rounds + 1
+    → HasSentEach memories drained round old (record round.sender { main = main; base = base; rounds = rounds })
+sent_each memories drained old round main base rounds next is are come all end once same_table flushed has_base has_rounds =
+    let terms = round.terms in
+    let deal = terms.deal in
+    let image = sent_image terms.table deal.base terms.batches round.spents memories in
+    let of_table = sent_table terms.table deal.base terms.batches round.spents memories in
+    let is_image = sent_is_image terms.table deal.base terms.batches round.spents memories are in
+    let pages : HasPagesSent memories round image = λ channel within number drew below.
+    sent_has_pages terms.table deal.base next terms.batches round.spents memories channel number (new_seat deal) is.claims.are_batches is.are_places.is_ascending once
+    (omega (arith, below, end)) (omega (arith, below, is.claims.as_many)) within drew in
+    record {
+      image = image;
+      is_image = is_image;
+      has_table = of_table;
+      has_pages = pages;
+      has_batches = λ i lt.
+          let number = deal.base + i in
+          let before : number < next = omega (arith, lt, end, is.claims.as_many) in
+          let by = drawn_by deal.base next number round.spents (new_seat deal) once (omega arith) before in
+          let back : number - deal.base ≡ i = omega arith in
+          record {
+            channel = by.0;
+            is_back = by.1;
+            has_drawn = by.2;
+            has_pages = subst (λ k. HasPagesOf image (get_or terms.batches k no_batch) (memories by.0 number)) back
+                (pages by.0 by.1 number by.2 (omega (arith, lt, is.claims.as_many)));
+          };
+      has_sent = ended image drained old round main base rounds next is_image (of_table ∙ is.same_table) is (come.is_of_each image of_table pages) all end once same_table flushed has_base
+          has_rounds;
+    }
+
 pub ends_round : (round : OpenMulti) (main : Writer) (base rounds next : ℕ) → IsOpenMulti round → length round.spents ≡ length round.sender.channels
     → next ≡ end_of_deal round.terms.deal → HasEachOnce round.terms.deal.base next (all_drawn round.spents)
     → main.table ≡ round.sender.main.table → HasFlushed round.sender.main main
@@ -303,4 +433,6 @@ ends_round round main base rounds next is all end once same_table flushed has_ba
       ended image drained old round main base rounds next is_image of_table is come all end once same_table flushed has_base has_rounds;
   has_sent_undrained = λ image old is_image of_table come.
       undrained _ old _ (ended image none_drained old round main base rounds next is_image of_table is come all end once same_table flushed has_base has_rounds);
+  has_sent_each = λ memories drained old are come.
+      sent_each memories drained old round main base rounds next is are come all end once same_table flushed has_base has_rounds;
 }

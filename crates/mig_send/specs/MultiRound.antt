@@ -1,20 +1,21 @@
 -- A round on several channels whose workers run on threads of the caller's.
-use Rattle.std.specs.Prelude.{ℕ, ◌≡◌, ◌+◌, ◌-◌, ◌<◌, ◌≤◌, ◌^◌, List, [], ◌∷◌, ◌++◌, length, flat_map, replicate, get_or, All}
+use Rattle.std.specs.Prelude.{ℕ, ◌≡◌, ◌+◌, ◌-◌, ◌<◌, ◌≤◌, ◌^◌, List, [], ◌∷◌, ◌++◌, ◌==◌, if◌then◌else◌, length, flat_map, replicate, get_or, All}
 use Rattle.std.specs.List.{AllZip, slice_set}
 use Rattle.mig_mem.specs.RamTable.{RamTable}
 use Rattle.mig_mem.specs.declared.place.Place.{Place}
 use Rattle.mig_mem.specs.Image.{Image, IsImage}
 use Rattle.mig_mem.specs.PlaceSet.{PlaceSet, IsPlaceSet}
 use Rattle.mig_mem.specs.Tracking.{Snapshot}
-use Rattle.mig_deal.specs.Deal.{SeatView, new_seat}
+use Rattle.mig_deal.specs.Deal.{SeatView, new_seat, times, end_of_work}
 use Rattle.mig_send.specs.declared.fault.SendFault.{SendFault}
 use Rattle.mig_send.specs.declared.fault.SendFault.TheVariants.{Channels, Limit, OtherTable, NoMemory}
 use Rattle.mig_send.specs.Batches.{BatchOfPages, IsCut, batch_places}
-use Rattle.mig_send.specs.Work.{Share, HasShare, ClaimsBatches}
+use Rattle.mig_send.specs.Work.{Share, HasShare, ClaimsBatches, no_batch}
 use Rattle.mig_send.specs.Dealing.{share_text}
 use Rattle.mig_send.specs.DealtRounds.{DealtRound, IsDealtRound, packet_count, no_share}
 use Rattle.mig_send.specs.MultiSending.{MultiSending, Drained, KeepsSetting, HasSentRounds, HasSentOne}
 use Rattle.mig_send.specs.ChannelWork.{RoundTerms, ChannelWork, HasPacked, seats_of}
+use Rattle.mig_send.specs.Copies.{HasPagesOf, HasPagesBelow, HasPackedEach}
 
 -- An open round: its sender, without the bytes of the channels whose workers are out; what the
 -- workers share; the seats of those that weren't given out, and what is left of the seats of those
@@ -54,6 +55,11 @@ pub record IsOpenMulti (round : OpenMulti) : Type 0 where
 abbrev pub none_drained : ℕ → List ℕ
 none_drained = λ _. []
 
+-- The channels whose workers are still to be given out have what they had.
+abbrev pub AreWaiting : MultiSending → OpenMulti → Type 0
+AreWaiting old round = (channel : ℕ) → handed_out round ≤ channel → channel < length old.channels
+    → get_or round.sender.channels channel [] ≡ get_or old.channels channel []
+
 -- The round was begun by a sender, and the workers that were given back packed what they drew from
 -- the pages of this image: each of their channels has, after what it had, what is sent of a share.
 -- These bytes of it were drained in the round. The channels whose workers are still to be given out
@@ -66,8 +72,26 @@ pub record IsRoundSoFar (image : Image) (drained : ℕ → List ℕ) (old : Mult
   pub have_texts : (channel : ℕ) → channel < length round.spents
       → drained channel ++ get_or round.sender.channels channel []
       ≡ get_or old.channels channel [] ++ share_text round.terms.deal.base image round.terms.batches (get_or shares channel no_share)
-  pub are_waiting : (channel : ℕ) → handed_out round ≤ channel → channel < length old.channels
-      → get_or round.sender.channels channel [] ≡ get_or old.channels channel []
+  pub are_waiting : AreWaiting old round
+
+-- ---- the progress of a round of a guest that runs on
+
+-- An image has the pages of each batch of the workers that were given back, each worker with
+-- memories of its own.
+abbrev pub HasPagesSent : (ℕ → ℕ → Image) → OpenMulti → Image → Type 0
+HasPagesSent memories round image = (channel : ℕ) → channel < length round.spents
+    → HasPagesBelow (end_of_work round.terms.deal) image round.terms (get_or round.spents channel (new_seat round.terms.deal)) (memories channel)
+
+-- As `IsRoundSoFar`, but the workers packed each batch from the memory with their channel and its
+-- number: so far the round is that of every image which has the pages that were packed.
+pub record IsRoundOfEach (memories : ℕ → ℕ → Image) (drained : ℕ → List ℕ) (old : MultiSending) (round : OpenMulti) : Type 0 where
+  pub same_channels : length round.sender.channels ≡ length old.channels
+  pub are_waiting : AreWaiting old round
+  pub is_of_each : (image : Image) → image.table ≡ round.terms.table → HasPagesSent memories round image → IsRoundSoFar image drained old round
+
+-- the memories, with these for a channel
+abbrev pub with_memories : (ℕ → ℕ → Image) → ℕ → (ℕ → Image) → ℕ → ℕ → Image
+with_memories memories channel own = λ other. if other == channel then own else memories other
 
 -- ---- its calls
 
@@ -80,6 +104,7 @@ pub record HasBegun (dirty : PlaceSet) (old : MultiSending) (round : OpenMulti) 
   pub all_left : length round.seats ≡ length old.channels
   pub none_back : round.spents ≡ []
   pub has_come : (image : Image) (drained : ℕ → List ℕ) → IsRoundSoFar image drained old round
+  pub each_come : (memories : ℕ → ℕ → Image) (drained : ℕ → List ℕ) → IsRoundOfEach memories drained old round
 
 -- why a round can't be begun: the first reason that applies
 abbrev pub IsBeginFault : RamTable → RamTable → SendFault → Type 0
@@ -114,6 +139,8 @@ pub record HandsOut (old new : OpenMulti) (worker : ChannelWork) : Type 0 where
   pub same_sender : new.sender ≡ record old.sender { channels = slice_set old.sender.channels worker.channel [] }
   pub has_come : (image : Image) (drained : ℕ → List ℕ) (sender : MultiSending) → IsRoundSoFar image drained sender old
       → IsRoundSoFar image drained sender new × HasPacked image (get_or sender.channels worker.channel []) worker.text worker
+  pub each_come : (memories : ℕ → ℕ → Image) (drained : ℕ → List ℕ) (sender : MultiSending) → IsRoundOfEach memories drained sender old
+      → IsRoundOfEach memories drained sender new × ((own : ℕ → Image) → HasPackedEach own (get_or sender.channels worker.channel []) worker.text worker)
 
 -- A worker that has ended is given back: its bytes that weren't drained are its channel's.
 pub record TakesBack (worker : ChannelWork) (old new : OpenMulti) : Type 0 where
@@ -124,6 +151,9 @@ pub record TakesBack (worker : ChannelWork) (old new : OpenMulti) : Type 0 where
   pub has_come : (image : Image) (drained : ℕ → List ℕ) (sender : MultiSending) → IsRoundSoFar image drained sender old
       → HasPacked image (get_or sender.channels worker.channel []) (drained worker.channel ++ worker.text) worker
       → IsRoundSoFar image drained sender new
+  pub each_come : (memories : ℕ → ℕ → Image) (own : ℕ → Image) (drained : ℕ → List ℕ) (sender : MultiSending) → IsRoundOfEach memories drained sender old
+      → HasPackedEach own (get_or sender.channels worker.channel []) (drained worker.channel ++ worker.text) worker
+      → IsRoundOfEach (with_memories memories worker.channel own) drained sender new
 
 -- ---- the round sent
 
@@ -142,8 +172,26 @@ pub record HasSentRound (drained : ℕ → List ℕ) (snapshot : Snapshot) (old 
   pub has_sent : (before : Drained) (rounds : List DealtRound) → HasSentRounds before old rounds
       → HasSentRounds (with_channels before drained) new (rounds ++ round ∷ [])
 
+-- An image has the pages of a batch from the memory of a worker which drew the batch's number.
+pub record HasBatchPacked (memories : ℕ → ℕ → Image) (round : OpenMulti) (image : Image) (i : ℕ) : Type 0 where
+  pub channel : ℕ
+  pub is_back : channel < length round.spents
+  pub has_drawn : 0 < times (round.terms.deal.base + i) (get_or round.spents channel (new_seat round.terms.deal)).drawn
+  pub has_pages : HasPagesOf image (get_or round.terms.batches i no_batch) (memories channel (round.terms.deal.base + i))
+
+-- As `HasSentRound`, of an image that has the pages of each batch from the memory from which it was
+-- packed. So it has what was packed at each dirty place.
+pub record HasSentEach (memories : ℕ → ℕ → Image) (drained : ℕ → List ℕ) (round : OpenMulti) (old new : MultiSending) : Type 0 where
+  pub image : Image
+  pub is_image : IsImage image
+  pub has_table : image.table ≡ round.terms.table
+  pub has_pages : HasPagesSent memories round image
+  pub has_batches : (i : ℕ) → i < length round.terms.batches → HasBatchPacked memories round image i
+  pub has_sent : HasSentRound drained (record { image = image; dirty = dirty_of round.terms }) old new
+
 -- The round is ended: if it was begun by a sender and has this progress, that sender has sent it,
--- as `MultiSender::round` does.
+-- as `MultiSender::round` does. If the steps had different memories, it has sent an image that has
+-- the pages which were packed.
 pub record EndsRound (round : OpenMulti) (sender : MultiSending) : Type 0 where
   pub same_setting : KeepsSetting round.sender sender
   pub has_sent : (image : Image) (drained : ℕ → List ℕ) (old : MultiSending) → IsImage image → image.table ≡ round.sender.main.table
@@ -152,3 +200,6 @@ pub record EndsRound (round : OpenMulti) (sender : MultiSending) : Type 0 where
   pub has_sent_undrained : (image : Image) (old : MultiSending) → IsImage image → image.table ≡ round.sender.main.table
       → IsRoundSoFar image none_drained old round
       → HasSentOne (record { image = image; dirty = dirty_of round.terms }) old sender
+  pub has_sent_each : (memories : ℕ → ℕ → Image) (drained : ℕ → List ℕ) (old : MultiSending)
+      → ((channel number : ℕ) → IsImage (memories channel number) × ((memories channel number).table ≡ round.terms.table))
+      → IsRoundOfEach memories drained old round → HasSentEach memories drained round old sender

@@ -10,6 +10,7 @@ ghost use Rattle.mig_mem.specs.Image.{Image};
 ghost use Rattle.mig_send.specs.Batches.{IsBatch};
 ghost use Rattle.mig_send.specs.Packing.{IsPrefix};
 ghost use Rattle.mig_send.specs.ChannelWork.{IsHand, HasNumber, HasClaimed, HasEnded, HasStepped, HasPacked, IsStep, after_packet, hand_bytes, batch_in};
+ghost use Rattle.mig_send.specs.Copies.{HasPackedEach, PacksPages};
 
 use crate::Batch;
 use crate::packed::{Offsets, append_packet};
@@ -209,6 +210,7 @@ impl<A: Allocator> ChannelWorker<A> {
         ensures hand { IsHand self.new.terms.deal self.new.hand }
         ensures rest { self.new ≡ record self.old { hand = self.new.hand } }
         ensures packed { (image : Image) (before whole : List ℕ) → HasPacked image before whole self.old → HasPacked image before whole self.new }
+        ensures packed_each { (memories : ℕ → Image) (before whole : List ℕ) → HasPackedEach memories before whole self.old → HasPackedEach memories before whole self.new }
     {
         claim_in(&self.shared, &mut self.hand);
     }
@@ -223,7 +225,12 @@ impl<A: Allocator> ChannelWorker<A> {
     }
 
     /// Writes one packet: that of the next batch that no worker of the round has, or, if none is
-    /// left, the channel's SYNC packet. All steps of a round must be passed the same memory.
+    /// left, the channel's SYNC packet.
+    ///
+    /// The packet depends on the pages of that batch, and on no other page of `memory`. So a guest
+    /// may run on while a round is sent: call `claim`, copy the pages of `batch`, and pass a memory
+    /// that has the copies. The round is sent of an image that has the pages which its steps were
+    /// passed (`MultiRound::end_round`).
     ///
     /// # Errors
     ///
@@ -234,6 +241,7 @@ impl<A: Allocator> ChannelWorker<A> {
         ensures step { HasStepped (M.image memory.now) result self.old self.new }
         ensures packed { (before drained : List ℕ) → HasPacked (M.image memory.now) before (drained ++ self.old.text) self.old
             → HasPacked (M.image memory.now) before (drained ++ self.new.text) self.new }
+        ensures pages { PacksPages (M.image memory.now) result self.old self.new }
     {
         step_parts(
             &self.shared,
@@ -252,6 +260,8 @@ impl<A: Allocator> ChannelWorker<A> {
         ensures rest { self.new ≡ record self.old { text = [] } }
         ensures packed { (image : Image) (before drained : List ℕ) → HasPacked image before (drained ++ self.old.text) self.old
             → HasPacked image before ((drained ++ bytes.new.items) ++ self.new.text) self.new }
+        ensures packed_each { (memories : ℕ → Image) (before drained : List ℕ) → HasPackedEach memories before (drained ++ self.old.text) self.old
+            → HasPackedEach memories before ((drained ++ bytes.new.items) ++ self.new.text) self.new }
     {
         bytes.clear();
         mem::swap(&mut self.text, bytes);

@@ -14,8 +14,8 @@
 //! when to send a round.
 //!
 //! Definitions to read first, in this order: `Sending`, `Batches`, `Packing`, `Work`, `Dealing`,
-//! `DealtRounds`, `MultiSending`; for workers that are stepped `ChannelWork` and `MultiRound`
-//! (`specs/`).
+//! `DealtRounds`, `MultiSending`; for workers that are stepped `ChannelWork`, `Copies` and
+//! `MultiRound` (`specs/`).
 #![tactic(auto)]
 
 mod batch;

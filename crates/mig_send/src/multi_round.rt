@@ -255,6 +255,10 @@ impl<A: Allocator> MultiRound<A> {
 
     /// Ends the round with a FLUSH on the main stream. All workers have been given back.
     ///
+    /// If all steps were passed memories of one image, the round is of that image. If not, it is of
+    /// an image that has the pages which were packed, those of each batch from the memory that its
+    /// step was passed (`has_sent_each` of `EndsRound`).
+    ///
     /// # Errors
     ///
     /// The round, as it was: an allocation was refused.
