@@ -16,7 +16,7 @@ use Rattle.mig_session.specs.declared.source.Source.{Source}
 use Rattle.mig_session.specs.declared.source.Source.TheVariants as source
 use Rattle.mig_session.specs.Session.{HasSource, count_of, feed_step, end_step, with_fed, with_end, IsSourceValidUpTo}
 use Rattle.mig_in_place.specs.Sources.{counts_of}
-use Rattle.mig_in_place.specs.Session.{InPlaceLoad, StandsFor, LacksMemory, StepsOn, StillLacks, RunsOut, Tells, TakesBytes, HasFault, HasAllRounds}
+use Rattle.mig_in_place.specs.Session.{InPlaceLoad, StandsFor, LacksMemory, StepsOn, StillLacks, RunsOut, Tells, TakesBytes, HasFault, HasAllRounds, MoreMayCome}
 use Rattle.mig_c_calls.specs.Status.{IsOneOf, done, running, no_memory, bad_channels, bad_source, is_over, too_long, bad_length, bad_frame, bad_round_end}
 use Rattle.mig_c_loads.specs.Frames.{frame_of, round_end_of, with_round_end}
 use Rattle.mig_c_loads.specs.declared.fault.FoundFault.{FoundFault}
@@ -164,5 +164,6 @@ pub record TellsFault (from : Source) (status : ℕ) (before after : FoundFault)
 -- whether all rounds are in
 pub record TellsAllRounds (told : Bool) (s : InPlaceLoad) : Type 0 where
   pub all : IsTrue told → (memory : Image) → IsImage memory → Tells memory s (λ given uuid first texts. HasAllRounds (for_table first.table given) uuid first texts memory s.rounds)
+  pub more : IsFalse told → s.verdict ≡ Running → (memory : Image) → Tells memory s (λ given uuid first texts. MoreMayCome (for_table first.table given) uuid texts s.rounds)
   pub done : s.verdict ≡ Done → IsTrue told
   pub failed : IsTrue told → (s.verdict ≡ Running) ⊎ (s.verdict ≡ Done)

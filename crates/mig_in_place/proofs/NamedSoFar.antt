@@ -27,7 +27,7 @@ use Rattle.mig_assemble.specs.Judging.{places_of}
 use Rattle.mig_single_load.specs.declared.settings.LoadSettings.{LoadSettings}
 use Rattle.mig_single_load.specs.Settings.{main_of}
 use Rattle.mig_answer.specs.Texts.{Text, IsMainReading}
-use Rattle.mig_in_place.specs.Named.{MainNames, ChannelNames, round_so_far, begun, packet_places}
+use Rattle.mig_in_place.specs.Named.{MainNames, ChannelNames, HasPacket, round_so_far, begun, packet_places}
 use Rattle.mig_in_place.specs.Sources.{KeptMain, KeptChannel, HoldsMain, HoldsChannel, heads_given, heads_begun, packets_given, head_places, rounds_come}
 use Rattle.mig_in_place.proofs.Channels.{read_as_given}
 use Rattle.mig_in_place.proofs.Heading.{all_places_named, places_front}
@@ -162,4 +162,50 @@ channel_named given table k text so_far c p holds t =
             ∙ ap (λ (l : List Place). has_place l p) (flat_map-append (packet_places table) read.packets (begun read read.hello rest))
             ∙ has_append A B p ∙ either
       ]);
+    }
+
+-- ---- a packet whose head arrived
+
+no_parts : {X : Type 0} (xs ys : List X) → xs ++ ys ≡ [] → (xs ≡ []) × (ys ≡ [])
+no_parts [] ys e = (refl, e)
+no_parts (x ∷ xs) ys e = absurd cc
+
+-- what was begun is left
+none_begun : (size : ℕ) (read : ChannelProgress) (o : Option OpenPacket) (kept : List ℕ) → read.page_size ≡ size → IfSome o (IsOpenPacket size) → IfSome o (λ packet. read.hello ≢ None)
+    → IfSome o (λ packet. IsFalse (is_complete packet)) → IfSome o (λ packet. due_fault read (bytes_of packet ++ kept) ≡ None) → begun read read.hello (open_bytes o ++ kept) ≡ []
+    → heads_begun o ≡ []
+none_begun size read None kept same is hello missing due none = refl
+none_begun size read (Some q) kept same is hello missing due none = absurd (
+    let left : open_bytes (Some q) ++ kept ≡ bytes_of q ++ kept = ap (λ (b : Bool). (if b then [] else bytes_of q) ++ kept) missing in
+    let one : begun read read.hello (open_bytes (Some q) ++ kept) ≡ (bytes_of q ++ kept) ∷ [] =
+    ap (λ (l : List ℕ). begun read read.hello l) left ∙ begun_left read q kept read.hello hello (subst (λ (n : ℕ). IsOpenPacket n q) (sym same) is) due in
+    let clash : [] ≡ (bytes_of q ++ kept) ∷ [] = sym none ∙ one in cc)
+
+-- a channel that gave a head has a packet
+pub channel_has : (given : Settings) (table : RamTable) (k : ℕ) (text : Text) (so_far : GivenSoFar) (c : KeptChannel) → HoldsChannel given table k text so_far c
+    → heads_given k so_far ≢ [] → HasPacket given k text
+channel_has given table k text so_far c holds some =
+    let read : ChannelProgress = so_far.read in
+    let to : ChannelProgress = read_to read so_far.packet in
+    let rest : List ℕ = open_bytes so_far.packet ++ c.reader.kept in
+    let same : to ≡ read = read_as_given read so_far.packet holds.has_missing in
+    let size : read.page_size ≡ given.page_size = page_size_of given table k text so_far c holds in
+    record {
+      reading = record { hello = to.hello; rounds = to.rounds; state = state_at text.ended to rest c.reader.found };
+      is_reading = record { to = to; rest = rest; found = c.reader.found; reads = holds.gives.reads; has_hello = refl; has_rounds = refl; has_state = refl };
+      has_packet = subst (λ (x : ChannelProgress). round_so_far k x.rounds (x.packets ++ begun x x.hello rest) ≢ []) (sym same) (λ none. some (elim (cases_Bool c.is_whole) [
+        | inl whole ↦
+            let closed : so_far.packet ≡ None = (holds.is_between whole).1 in
+            let below : k < length read.rounds = (let n = holds.has_rounds ∙ ap (rounds_come k) whole in omega (arith, n)) in
+            ap (λ (o : Option OpenPacket). packets_given k so_far ++ heads_begun o) closed ∙ append-nil (packets_given k so_far)
+            ∙ get_or_default read.rounds k read.packets (read.packets ++ begun read read.hello rest) below ∙ none
+        | inr open_ ↦
+            let past : length read.rounds ≤ k = (let n = holds.has_rounds ∙ ap (rounds_come k) open_ in omega (arith, n)) in
+            let parts = no_parts read.packets (begun read read.hello rest) (sym (get_or-eq_default read.rounds (read.packets ++ begun read read.hello rest) past) ∙ none) in
+            let last : heads_begun so_far.packet ≡ [] = none_begun given.page_size read so_far.packet c.reader.kept size holds.gives.is_open holds.has_hello holds.has_missing
+            (none_due (start given.page_size given.uuid given.channels given.waiting) read text.bytes so_far.packet c.reader.kept c.reader.found holds.has_missing
+            holds.gives.is_reading holds.gives.reads) parts.1 in
+            ap (λ (l : List (List ℕ)). l ++ heads_begun so_far.packet) (get_or-eq_default read.rounds read.packets past)
+            ∙ ap (λ (l : List (List ℕ)). l ++ heads_begun so_far.packet) parts.0 ∙ last
+      ]));
     }

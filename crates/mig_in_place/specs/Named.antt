@@ -1,6 +1,6 @@
 -- The places that a round names so far: those of its page records, and those of the pages of each
 -- packet whose head has arrived.
-use Rattle.std.specs.Prelude.{ℕ, ◌⊎◌, ◌&&◌, if◌then◌else◌, nat_le, is_none, IsTrue, List, [], ◌∷◌, ◌++◌, length, map, get_or, Option, Some, None, Contains}
+use Rattle.std.specs.Prelude.{ℕ, ◌≢◌, ◌⊎◌, ◌&&◌, if◌then◌else◌, nat_le, is_none, IsTrue, List, [], ◌∷◌, ◌++◌, length, map, get_or, Option, Some, None, Contains}
 use Rattle.std.specs.List.{flat_map}
 use Rattle.mig_mem.specs.declared.place.Place.{Place}
 use Rattle.mig_mem.specs.RamTable.{RamTable}
@@ -43,6 +43,15 @@ pub record ChannelNames (given : channel.Settings) (table : RamTable) (k : ℕ) 
   pub is_reading : channel.IsReading given text.bytes text.ended reading
   pub has_packet : IsTrue (has_place (flat_map (packet_places table)
       (round_so_far k reading.rounds (is_reading.to.packets ++ begun is_reading.to is_reading.to.hello is_reading.rest))) p)
+
+-- The channel has a packet whose head arrived in round k.
+pub record HasPacket (given : channel.Settings) (k : ℕ) (text : Text) : Type 0 where
+  pub reading : channel.ChannelReading
+  pub is_reading : channel.IsReading given text.bytes text.ended reading
+  pub has_packet : round_so_far k reading.rounds (is_reading.to.packets ++ begun is_reading.to is_reading.to.hello is_reading.rest) ≢ []
+
+abbrev pub SomeHasPacket : channel.Settings → ℕ → List Text → Type 0
+SomeHasPacket given k texts = (text : Text) × Contains texts text × HasPacket given k text
 
 abbrev pub SomeChannelNames : channel.Settings → RamTable → ℕ → List Text → Place → Type 0
 SomeChannelNames given table k texts p = (text : Text) × Contains texts text × ChannelNames given table k text p

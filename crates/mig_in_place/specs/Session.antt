@@ -29,6 +29,7 @@ use Rattle.mig_session.specs.declared.source.Source.TheVariants as source
 use Rattle.mig_session.specs.Session.{with_fed, feed_step, end_step}
 use Rattle.mig_in_place.specs.Answer.{rounds_onto, IsInPlaceAnswer, IsInPlaceWithoutMemory}
 use Rattle.mig_in_place.specs.declared.main_stream.SizeList.{SizeList}
+use Rattle.mig_in_place.specs.Named.{SomeHasPacket}
 use Rattle.mig_in_place.specs.Round.{KeptRound, Keeps, KeepsSome}
 use Rattle.mig_in_place.specs.Sources.{KeptMain, KeptSources, counts_of, StandsAt, HasGiven, IsChannelOf, TellsList, TellsTakes, HasHelloAlone, WritesPages, HoldsMain, HoldsChannel, HoldsRound}
 
@@ -91,6 +92,13 @@ pub record HasAllRounds (given : LoadSettings) (uuid : List ℕ) (first : Image)
   pub has_all : length readings.main.rounds ≡ k
   pub have_passed : (j : ℕ) → j < k → IsTrue (passes j readings)
   pub has_memory : memory ≡ rounds_onto first k readings
+
+-- More than k rounds may come: the main stream isn't closed with k rounds, or a packet of a further
+-- round has begun.
+pub record MoreMayCome (given : LoadSettings) (uuid : List ℕ) (texts : Texts) (k : ℕ) : Type 0 where
+  pub readings : Readings
+  pub are_readings : AreReadings given uuid texts readings
+  pub has_more : (readings.main.state ≢ stream_state.Closed) ⊎ (length readings.main.rounds ≢ k) ⊎ SomeHasPacket (channel_of given uuid (length texts.channels)) k texts.channels
 
 -- ---- the streams that it represents
 

@@ -24,7 +24,7 @@ ghost use Rattle.mig_stream.specs.Reader.{HasTable, HasClosedAt};
 ghost use Rattle.mig_answer.specs.Texts.{Text, Texts};
 ghost use Rattle.mig_in_place.specs.Round.{KeepsSome};
 ghost use Rattle.mig_in_place.specs.Sources.{counts_of, main_count, channel_count, at_next_round, StandsAt, HoldsChannel, TellsChannelStatus, TellsHello, HasTakenRecords};
-ghost use Rattle.mig_in_place.specs.Session.{TakesBytes, StandsFor, LacksMemory, StepsOn, StillLacks, RunsOut, Tells, HasFault, HasAllRounds, HaveTaken, Loading, Loads, Stands, IsDue, TellsVerdict, PassesAt, IsUnsettled, Lacks, LacksBehind, with_bytes, with_over, TakesNoMore, IsOpenAt, IsMainOf};
+ghost use Rattle.mig_in_place.specs.Session.{TakesBytes, StandsFor, LacksMemory, StepsOn, StillLacks, RunsOut, Tells, HasFault, HasAllRounds, MoreMayCome, HaveTaken, Loading, Loads, Stands, IsDue, TellsVerdict, PassesAt, IsUnsettled, Lacks, LacksBehind, with_bytes, with_over, TakesNoMore, IsOpenAt, IsMainOf};
 
 use crate::channel::Channel;
 use crate::main_stream::{MainStream, is_clean, is_pending};
@@ -719,6 +719,8 @@ impl<A: Allocator> InPlaceSession<A> {
     pub fn has_all_rounds(&self) -> bool
         ensures all { IsTrue result → (memory : Image) → IsImage memory
             → Tells memory self.now (λ given uuid first texts. HasAllRounds (for_table first.table given) uuid first texts memory self.now.rounds) }
+        ensures more { IsFalse result → self.now.verdict ≡ running → (memory : Image)
+            → Tells memory self.now (λ given uuid first texts. MoreMayCome (for_table first.table given) uuid texts self.now.rounds) }
         ensures done { self.now.verdict ≡ done → IsTrue result }
         ensures failed { IsTrue result → (self.now.verdict ≡ running) ⊎ (self.now.verdict ≡ done) }
     {
@@ -732,7 +734,8 @@ impl<A: Allocator> InPlaceSession<A> {
     // Returns whether a load that runs has all rounds: the main stream is closed at the current
     // round, and no packet of that round has begun.
     fn lacks_ends(&self) -> bool
-        ensures { IsTrue result → (f : Loading) (memory : Image) → Loads f memory self.now → HasAllRounds (for_table f.first.table f.given) f.uuid f.first f.texts memory self.now.rounds }
+        ensures all { IsTrue result → (f : Loading) (memory : Image) → Loads f memory self.now → HasAllRounds (for_table f.first.table f.given) f.uuid f.first f.texts memory self.now.rounds }
+        ensures more { IsFalse result → (f : Loading) (memory : Image) → Loads f memory self.now → MoreMayCome (for_table f.first.table f.given) f.uuid f.texts self.now.rounds }
     {
         if self.round.len() != 0 {
             return false;
