@@ -1,7 +1,7 @@
 //! Tests of guest memory, packets and channels: memories that are compared, and rounds that are
 //! written, by several threads; a round that is judged as it arrives; channels up to where they are
-//! valid, with a limit on what waits, and read by the lengths that they want. Also tests of the
-//! allocator that refuses.
+//! valid, with a limit on what waits, and read by the lengths that they want. Also tests of a memory
+//! that was zeros, and of the allocator that refuses.
 //!
 //! The worked examples are cases of `mig_rows`.
 #![tactic(auto)]
@@ -12,6 +12,8 @@ mod arrivals;
 mod channel_valid;
 #[cfg(test)]
 mod compared;
+#[cfg(test)]
+mod fresh;
 #[cfg(test)]
 mod heap;
 #[cfg(test)]

@@ -1,5 +1,6 @@
 pub mod Values
 pub mod Comparing
+pub mod Counting
 pub mod EveryPage
 pub mod Tracking
 pub mod Pumping

@@ -1,14 +1,17 @@
 //! Loads a guest where it is to run: into the blocks that a hypervisor has mapped for it already.
 
 ghost use Rattle.std.specs.Prelude.{◌≡◌, ◌≤◌, ◌^◌, List, All, MatchResult};
-ghost use Rattle.mig_mem.specs.Image.{Page};
-ghost use Rattle.mig_mem.specs.Round.{IsRound, with_rounds};
+ghost use Rattle.mig_mem.specs.Image.{Page, zero_image};
+ghost use Rattle.mig_mem.specs.Round.{IsRound, all_pages, with_rounds};
+ghost use Rattle.mig_marking.specs.Marking.{IsPageOfBytes, missing, none_written, with_written};
 ghost use Rattle.mig_stream.specs.Text.{total_bytes};
 ghost use Rattle.mig_stream.specs.Written.{single};
 ghost use Rattle.mig_single_load.specs.declared.fault.Fault.TheVariants.{NoMemory as fault_no_memory};
 
 use std::alloc::Allocator;
-use zimgasol::{Fault, GuestTarget, InPlaceLoader, LoadFault, Origin};
+use zimgasol::{
+    Fault, Fresh, GuestTarget, InPlaceLoader, LoadFault, Marking, Memory, Origin, Table,
+};
 
 // Returns the fault of an allocation that was refused before any round.
 fn without_memory() -> LoadFault
@@ -50,6 +53,59 @@ pub fn load_onto<A: Allocator + Copy, M: GuestTarget + Drop>(
     Ok(loader.into_memory())
 }
 
+/// Does the same, and returns also how many pages of the memory had no record. A stream of a whole
+/// guest has one for each page.
+///
+/// # Errors
+///
+/// As of `load_onto`.
+pub fn load_counted<A: Allocator + Copy, M: GuestTarget + Drop>(
+    alloc: A,
+    memory: M,
+    text: &[u8],
+    limit: u64,
+) -> Result<(M, u64), LoadFault>
+    requires { limit ≤ 2 ^ 40 }
+    ensures { (rounds : List (List Page)) → total_bytes (M.image memory).table ≤ limit → All (IsRound (M.image memory).table) rounds
+        → All (IsPageOfBytes (M.image memory).table.page_size) (all_pages rounds) → text.now ≡ single (M.image memory).table rounds
+        → MatchResult result (λ r. (M.image r.0 ≡ with_rounds (M.image memory) rounds)
+        × (r.1 ≡ missing (with_written (none_written (M.image memory)) (all_pages rounds)))) (λ fault. fault.fault ≡ fault_no_memory) }
+{
+    let Ok(marking) = Marking::new(alloc, memory) else {
+        return Err(without_memory());
+    };
+    let marking = load_onto(alloc, marking, text, limit)?;
+    let missing = marking.missing();
+    let (memory, _) = marking.into_parts();
+    Ok((memory, missing))
+}
+
+/// Loads a complete stream into new memory. No page of it is touched until the stream has a content
+/// for it.
+///
+/// # Errors
+///
+/// As of `load_onto`.
+pub fn load_fresh<A: Allocator + Copy>(
+    alloc: A,
+    table: &Table<A>,
+    text: &[u8],
+    limit: u64,
+) -> Result<Memory<A>, LoadFault>
+    requires { limit ≤ 2 ^ 40 }
+    ensures { (rounds : List (List Page)) → total_bytes table.now ≤ limit → All (IsRound table.now) rounds → text.now ≡ single table.now rounds
+        → MatchResult result (λ m. m ≡ with_rounds (zero_image table.now) rounds) (λ fault. fault.fault ≡ fault_no_memory) }
+{
+    let Ok(memory) = Memory::zeroed(alloc, table) else {
+        return Err(without_memory());
+    };
+    let Ok(fresh) = Fresh::new(alloc, memory) else {
+        return Err(without_memory());
+    };
+    let fresh = load_onto(alloc, fresh, text, limit)?;
+    Ok(fresh.into_memory())
+}
+
 #[cfg(test)]
 mod tests {
     use super::*;
@@ -57,7 +113,7 @@ mod tests {
     use mig_fixtures::table;
     use std::alloc::AllocGlobal;
     use std::process::Abort;
-    use zimgasol::{LentMemoryMut, Table};
+    use zimgasol::LentMemoryMut;
 
     // Returns the values as an array.
     fn both<T: Drop>(one: T, other: T) -> [T; 2] {
@@ -96,6 +152,33 @@ mod tests {
             .ok()
             .expect(rt, "a memory");
         number_of(rt.alloc(), memory, text)
+    }
+
+    // Returns how many pages had no record, if the stream loads over two blocks of zeros.
+    fn missing_of(rt: &(impl AllocGlobal + Abort), table: &Table, text: &[u8]) -> u64 {
+        let (mut first, mut second) = ([0u8; 4096], [0u8; 8192]);
+        let mut blocks = both(first.as_mut_slice(), second.as_mut_slice());
+        let memory = LentMemoryMut::new(table, &mut blocks)
+            .ok()
+            .expect(rt, "a memory");
+        let loaded = load_counted(rt.alloc(), memory, text, 1 << 20);
+        let (_, missing) = loaded.ok().expect(rt, "a guest");
+        missing
+    }
+
+    // A page that is sent twice came once, and a page of zeros came, too.
+    #[test]
+    fn pages_without_a_record_are_counted(rt: HostRuntime) {
+        let table = table(rt.alloc(), &[("a", 1), ("b", 2)]).expect(&rt, "a table");
+        let mut guest = LiveGuest::new(rt.alloc(), &table).expect(&rt, "a guest");
+        assert!(rt; guest.write(1, 4096, 7) && guest.send_round() == Ok(()));
+        assert!(rt; guest.write(1, 4096, 8));
+        let twice = guest.finish().expect(&rt, "a stream");
+        assert_eq!(rt; missing_of(&rt, &table, &twice), 2);
+        let mut guest = LiveGuest::new(rt.alloc(), &table).expect(&rt, "a guest");
+        assert!(rt; guest.write(0, 0, 0) && guest.write(1, 0, 7) && guest.write(1, 4096, 7));
+        let whole = guest.finish().expect(&rt, "a stream");
+        assert_eq!(rt; missing_of(&rt, &table, &whole), 0);
     }
 
     #[test]

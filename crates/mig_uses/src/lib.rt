@@ -45,7 +45,7 @@ pub use comparison::{Comparison, compare};
 #[cfg(test)]
 pub use first::copy;
 #[cfg(test)]
-pub use in_place::load_onto;
+pub use in_place::{load_counted, load_fresh, load_onto};
 pub use incoming::{Incoming, take_piece};
 pub use live_guest::LiveGuest;
 #[cfg(test)]

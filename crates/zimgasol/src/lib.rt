@@ -15,6 +15,8 @@
 //! | a main stream and channels, in pieces or from readers | `Session`, `pump` |
 //! | a main stream and channels, and the blocks of the guest | `InPlaceSession` |
 //! | the same from live connections | `SourceReader`, `pump_by_turns` |
+//! | a load in place, to know which pages had a record | `Marking` around the memory |
+//! | blocks of zeros, whose pages of zeros stay untouched | `Fresh` around the memory |
 //! | a whole machine's stream, as QEMU writes it | the calls `.._in`, with `LoadSettings` |
 //! | a fault of a load of whole streams | `single_valid_up_to`, `multi_valid_up_to`: its byte |
 //! | two memories to compare | `first_difference`, `differences` |
@@ -95,6 +97,38 @@
 //! let memory = LentMemoryMut::new(table, &mut blocks)
 //!     .ok()
 //!     .expect(rt, "a memory");
+//! ```
+//!
+//! # Marking
+//!
+//! A `Marking` around a memory marks the pages that a load in place writes, so that it tells how
+//! many had no record:
+//!
+//! <!-- quoted from crates/mig_uses/src/in_place.rt -->
+//! ```rust
+//! let Ok(marking) = Marking::new(alloc, memory) else {
+//!     return Err(without_memory());
+//! };
+//! let marking = load_onto(alloc, marking, text, limit)?;
+//! let missing = marking.missing();
+//! let (memory, _) = marking.into_parts();
+//! Ok((memory, missing))
+//! ```
+//!
+//! # Fresh
+//!
+//! A `Fresh` around a memory of zeros leaves pages alone that come as zeros. So they aren't backed:
+//!
+//! <!-- quoted from crates/mig_uses/src/in_place.rt -->
+//! ```rust
+//! let Ok(memory) = Memory::zeroed(alloc, table) else {
+//!     return Err(without_memory());
+//! };
+//! let Ok(fresh) = Fresh::new(alloc, memory) else {
+//!     return Err(without_memory());
+//! };
+//! let fresh = load_onto(alloc, fresh, text, limit)?;
+//! Ok(fresh.into_memory())
 //! ```
 //!
 //! # Dirty
@@ -325,6 +359,7 @@ pub use mig_load::{
     load_multi, load_multi_in, load_single, load_single_in, multi_valid_up_to, pump,
     single_closed_at, single_valid_up_to,
 };
+pub use mig_marking::{Fresh, Marking};
 pub use mig_mem::{
     Dirty, GuestPages, GuestTarget, LentMemory, LentMemoryMut, MAX_TOTAL, Memory, NoMemory,
     PAGE_SIZE_4K, PAGE_SIZE_8K, Place, Table, TableFault, differences, first_difference,

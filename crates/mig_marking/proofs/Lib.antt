@@ -1,0 +1,4 @@
+pub mod Ascending
+pub mod Known
+pub mod Marks
+pub mod Zeros
