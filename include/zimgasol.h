@@ -49,7 +49,9 @@
  * the copy marks the page as dirty: the page is sent again in a later round, and the last round is
  * sent with the guest stopped. What the copy itself may read while it is written is the caller's
  * affair: C calls a plain read then a race, and `memcpy` from memory that a vCPU writes is what
- * hypervisors do.
+ * hypervisors do. On several channels a page need not be copied: zimgasol_worker_head writes what
+ * comes before the pages of a packet, and the caller sends them from where they lie. No call reads
+ * them then.
  */
 #ifndef ZIMGASOL_H
 #define ZIMGASOL_H
@@ -238,7 +240,8 @@ typedef enum zimgasol_status {
     /* a buffer of another length than is needed */
     ZIMGASOL_BAD_LENGTH = 108,
     /* a call out of turn: a round is open, or none is, or the stream is ended; a worker isn't the
-     * next one, or hasn't ended; no page comes next (zimgasol_in_place_page_read) */
+     * next one, hasn't ended, has drawn no batch, or has bytes to be drained; no page comes next
+     * (zimgasol_in_place_page_read) */
     ZIMGASOL_OUT_OF_TURN = 109,
     /* more pages than a packet has: 128 of 4096 bytes, 64 of 8192 */
     ZIMGASOL_TOO_MANY_PAGES = 110,
@@ -338,6 +341,14 @@ typedef struct zimgasol_place {
     size_t block;
     uint64_t page;
 } zimgasol_place;
+
+/* The dirty bitmap of a block, lent for reading: `len` words of 64 bits. The bit of a page is bit
+ * `page % 64` of word `page / 64`, counted from the least significant: as in QEMU's bitmaps on a
+ * host of 64 bits, and as KVM's dirty log gives them on a host that is little-endian. */
+typedef struct zimgasol_bitmap {
+    const uint64_t *words;
+    size_t len;
+} zimgasol_bitmap;
 
 /* The pages of one packet: the block that all of them are of, how many there are, and their numbers
  * in it, ascending. The numbers after the first `count` say nothing. */
@@ -874,11 +885,11 @@ ZIMGASOL_API void zimgasol_sender_free(zimgasol_sender *sender);
 /* ---- a sender on several channels, whose rounds are packed by workers on threads of the
  *      caller's
  *
- * A round is begun with the dirty pages, which are cut into packets of at most `limit` pages.
- * Each channel has a worker, with a handle of its own, which any thread may step: workers of one
- * round run at once, each on its own thread, and draw packet after packet until none is left. No
- * handle is shared between threads, and no call waits for another thread. A handle passes to
- * another thread as above: by a thread's start and join, or a lock. One round:
+ * A round is begun with the dirty pages, as a list or as bitmaps. They are sent in packets of at
+ * most `limit` pages. Each channel has a worker, with a handle of its own, which any thread may
+ * step: workers of one round run at once, each on its own thread, and draw packet after packet
+ * until none is left. No handle is shared between threads, and no call waits for another thread. A
+ * handle passes to another thread as above: by a thread's start and join, or a lock. One round:
  *
  *     zimgasol_multi_begin_round(&multi, dirty, count);
  *     for each channel: zimgasol_multi_worker(&multi, &workers[j]);
@@ -892,8 +903,16 @@ ZIMGASOL_API void zimgasol_sender_free(zimgasol_sender *sender);
  *
  * All steps of a round are passed the same blocks, of the same bytes: nobody writes to them from
  * the first step to the last. So it is for a guest that is stopped, for a snapshot, or for pages
- * that are write-protected meanwhile. Of a guest that runs on the pages of a packet are copied, by
- * zimgasol_worker_next and zimgasol_worker_pack in place of a step.
+ * that are write-protected meanwhile. Of a guest that runs on each packet's pages are sent from
+ * where they lie, or copied. On a thread for each worker, in place of the steps above:
+ *
+ *     what zimgasol_worker_drain gives is sent, until 0: at first the hello
+ *     while ((status = zimgasol_worker_next(&workers[j], &batch)) == ZIMGASOL_RUNNING) {
+ *         the marks of the batch's pages are cleared; then zeros[i]: whether page i is zeros
+ *         zimgasol_worker_head(&workers[j], zeros, batch.count, head, sizeof head, &len);
+ *         the head and the pages that aren't zeros are sent, by writev or sendmsg
+ *     }
+ *     what zimgasol_worker_drain gives is sent, until 0: the SYNC packet
  *
  * A worker is given back to the sender that made it, and to no other one. Nothing checks that:
  * another sender may take it, and its streams are wrong then. A load finds packets that are missing
@@ -918,6 +937,20 @@ ZIMGASOL_API zimgasol_status zimgasol_multi_new_named(zimgasol_multi *multi,
  * them, or NO_MEMORY. */
 ZIMGASOL_API zimgasol_status zimgasol_multi_begin_round(zimgasol_multi *multi,
     const zimgasol_place *dirty, size_t count);
+
+/* Begins a round as zimgasol_multi_begin_round does, of the pages whose bit is set in the bitmap of
+ * their block: `count` bitmaps, one for each block of the table, in its order. A bitmap has a bit
+ * for each page of its block, and may be longer: bits after the last page aren't read. The round
+ * keeps one copy of the bitmaps and no list of pages, so they may change once the call returns.
+ * Returns DONE, OUT_OF_TURN if a round is open or the streams are ended, BAD_LENGTH if there are
+ * more or fewer bitmaps than blocks or one of them is too short, or NO_MEMORY. */
+ZIMGASOL_API zimgasol_status zimgasol_multi_begin_round_bitmaps(zimgasol_multi *multi,
+    const zimgasol_bitmap *bitmaps, size_t count);
+
+/* Takes the open round back, of which no worker was made: it sends nothing, and the sender is as it
+ * was before the round was begun. Returns DONE, or OUT_OF_TURN if no round is open or a worker of
+ * it was made. */
+ZIMGASOL_API zimgasol_status zimgasol_multi_take_back_round(zimgasol_multi *multi);
 
 /* Makes the worker of the next channel, from channel 0 on, in an empty handle. Its bytes
  * begin with those of its channel that weren't drained before, at first the hello. Returns DONE,
@@ -976,19 +1009,37 @@ ZIMGASOL_API void zimgasol_multi_free(zimgasol_multi *multi);
 ZIMGASOL_API zimgasol_status zimgasol_worker_step(zimgasol_worker *worker,
     const zimgasol_lent *blocks, size_t count);
 
-/* The two calls below are zimgasol_worker_step in two halves, for a guest that runs on: the caller
- * copies the pages of one packet to a buffer of its own, between the two. Of a page that is written
- * meanwhile the copy may be torn, as above: clear its mark before the copy begins, so that a write
- * sets it again, and the page is sent again. A worker may take some packets by _step and others
- * so. */
+/* The three calls below are zimgasol_worker_step in two halves, for a guest that runs on. _next
+ * reports the pages of one packet. Then either _head writes the packet's head alone, and the caller
+ * sends the pages after it from where they lie; or he copies them to a buffer of his own, and _pack
+ * writes the packet of the copy. A page that is written meanwhile may be sent or copied torn, as
+ * above: clear its mark before it is read, so that a write sets it again, and the page is sent
+ * again. Each packet of a worker may be written another way. */
 
 /* Reports in *batch which pages the next packet of the worker has. The packet isn't written yet:
- * until zimgasol_worker_pack, or a _step, has written it, each call reports the same pages. Where
+ * until a _head, a _pack or a _step has written it, each call reports the same pages. Where
  * no batch is left it writes the channel's SYNC packet. Returns RUNNING, with a batch; DONE, where
  * the worker has ended, and once more changes nothing; or NO_MEMORY, where nothing was written, and
  * the next call writes the SYNC packet. With DONE and NO_MEMORY *batch stays as it is. */
 ZIMGASOL_API zimgasol_status zimgasol_worker_next(zimgasol_worker *worker,
     zimgasol_batch *batch);
+
+/* Writes the head of the packet of the batch that zimgasol_worker_next reported to the front of
+ * `out`, and its length to *written: 1,344 bytes, or 832 where a page has 8192. `zeros` has a byte
+ * for each page of the batch, in its order, which is 0 unless the page is zeros. On the channel the
+ * caller sends the head, and after it the contents of the other pages, in the batch's order. That
+ * is the packet which a _step writes of a memory that has these contents, and zeros where `zeros`
+ * says so. If a page wasn't zeros when it was tested, and is when it is sent, it is loaded all the
+ * same, but no contract covers such a stream.
+ *
+ * Returns RUNNING; OUT_OF_TURN, where no batch is drawn, or its packet is written, or where bytes
+ * of the channel wait for zimgasol_worker_drain, as the hello does at first; BAD_LENGTH, where
+ * `zeros_len` isn't the batch's count, or `out` is shorter than the head; or NO_MEMORY. After
+ * anything but RUNNING nothing was written, the batch still waits for its packet, and *written
+ * stays. After RUNNING the pages have to be sent before the channel's next bytes: a caller who
+ * can't send them gives the streams up (zimgasol_multi_cancel_round). */
+ZIMGASOL_API zimgasol_status zimgasol_worker_head(zimgasol_worker *worker, const uint8_t *zeros,
+    size_t zeros_len, uint8_t *out, size_t len, size_t *written);
 
 /* Writes the packet of the batch that zimgasol_worker_next reported into the worker's channel.
  * `pages` has the contents of its pages, one after another, in the batch's order. Returns RUNNING;

@@ -702,12 +702,13 @@ def live():
 
 def channels():
     """A guest is migrated on several channels while it runs, a thread for each worker."""
-    for words in ((), ("-c", 1, "-m", 3, "-b", 1), ("-c", 8, "-m", 2)):
+    for words in ((), ("-c", 1, "-m", 3, "-b", 1), ("-c", 8, "-m", 2), ("-k",), ("-k", "-c", 2, "-m", 2, "-b", 1)):
         run(OUT / "channels", *words, wanted="0 pages differ")
-    run(OUT / "channels_asan", "-m", 4, wanted="0 pages differ")
-    if VALGRIND:
-        run(*VALGRIND, "--fair-sched=yes", OUT / "channels", "-m", 1, wanted="0 pages differ")
-    subprocess.run([OUT / "channels", "-m", "64", "-t"], check=True, stdout=subprocess.DEVNULL)
+    for words in ((), ("-k",)):
+        run(OUT / "channels_asan", "-m", 4, *words, wanted="0 pages differ")
+        if VALGRIND:
+            run(*VALGRIND, "--fair-sched=yes", OUT / "channels", "-m", 1, *words, wanted="0 pages differ")
+        subprocess.run([OUT / "channels", "-m", "64", "-t", *words], check=True, stdout=subprocess.DEVNULL)
 
 
 def next_buffer():
@@ -806,6 +807,7 @@ def main():
     build("channels", "examples/c/channels.c", "-pthread")
     build("channels_asan", "examples/c/channels.c", "-pthread", "-fsanitize=address,undefined")
     build("channel_calls", "examples/c/tests/channels.c")
+    build("heads", "examples/c/tests/heads.c")
     build("round_ends", "examples/c/tests/round_ends.c")
     build("next_buffer", "examples/c/tests/next_buffer.c")
     build("held", "examples/c/tests/held.c")
@@ -827,6 +829,7 @@ def main():
         print(run(*before, OUT / "refused").decode().strip() + under)
         print(run(*before, OUT / "channels_refused").decode().strip() + under)
         print(run(*before, OUT / "channel_calls").decode().strip() + under)
+        print(run(*before, OUT / "heads").decode().strip() + under)
         print(run(*before, OUT / "round_ends").decode().strip() + under)
     failing_read()
     live()

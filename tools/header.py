@@ -31,8 +31,9 @@ STRUCTS = {
     "AskedSettings": "zimgasol_settings",
     "StatusText": "zimgasol_text",
 }
-# slices of bytes, in a slice: each is a pointer and a length to C
+# slices of numbers, in a slice: each is a pointer and a length to C
 SLICES = {
+    "&[&[u64]]": ("zimgasol_bitmap", ["const uint64_t *words", "size_t len"]),
     "&[&[u8]]": ("zimgasol_lent", ["const uint8_t *bytes", "size_t len"]),
     "&[&mut [u8]]": ("zimgasol_buffer", ["uint8_t *bytes", "size_t len"]),
     "&mut [&mut [u8]]": ("zimgasol_buffer", ["uint8_t *bytes", "size_t len"]),

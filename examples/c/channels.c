@@ -2,16 +2,17 @@
  * writing to a guest's memory while its pages are sent, by a thread for each channel, and another
  * thread loads them into blocks of its own.
  *
- *   channels [-m MIB] [-c CHANNELS] [-b PAGES] [-t]
+ *   channels [-m MIB] [-c CHANNELS] [-b PAGES] [-k] [-t]
  *
  * The guest has two blocks, `pc.ram` of MIB (16) and `vga.vram` of 1 MiB, and CHANNELS (4) channels
  * carry packets of at most PAGES (128) pages. Each round sends the pages written since the round
- * before: each worker copies the pages of one packet at a time, while the guest runs. The last
- * round is packed from the guest's own memory, with the writer stopped. At the end both memories
- * are compared: it prints `0 pages differ`, with status 0; 1 where pages differ, and 3 where it
- * can't go on. -t then sends the stopped guest once more, without zero pages, and does so plainly:
- * as many threads `write` their part of each block, and others `read` it into place. It writes both
- * times to standard error.
+ * before, while the guest runs: each worker writes the head of a packet, and its thread sends the
+ * head and the pages, from where they lie, by one `writev`. With -k it copies the pages instead,
+ * and the worker packs the copy. The last round is sent with the writer stopped, with -k by steps,
+ * from the guest's own memory. At the end both memories are compared: it prints `0 pages differ`,
+ * with status 0; 1 where pages differ, and 3 where it can't go on. -t then sends the stopped guest
+ * once more, without zero pages, and does so plainly: as many threads `write` their part of each
+ * block, and others `read` it into place. It writes both times to standard error.
  */
 #define _GNU_SOURCE
 #include "zimgasol.h"
@@ -23,13 +24,15 @@
 #include <string.h>
 #include <sys/mman.h>
 #include <sys/socket.h>
+#include <sys/uio.h>
 #include <time.h>
 #include <unistd.h>
 
 enum { PAGE = 4096, BLOCKS = 2, WORDS = PAGE / 8, PIECE = 1 << 16, MOST = 16, ROUNDS = 4 };
+enum { PACKET = 128, HEAD = 1344 }; /* the most pages of a packet, and its bytes before them */
 
 /* A block: the guest's words, the blocks that are loaded, and a mark for each page that was written
- * since it was copied. */
+ * since it was sent. */
 static struct ram {
     _Atomic uint64_t *guest;
     uint8_t *loaded;
@@ -41,6 +44,7 @@ static zimgasol_block blocks[BLOCKS] = {{.id = "pc.ram"}, {.id = "vga.vram", .pa
 static const uint8_t uuid[16] = {7, 1};
 static size_t channels = 4, limit = 128;
 static int sockets[1 + MOST][2]; /* the sender's end, and the loader's */
+static bool copies;
 static _Atomic bool is_running;
 
 static void check(zimgasol_status status, const char *call) {
@@ -64,6 +68,19 @@ static void send_all(int to, const uint8_t *bytes, size_t len) {
     }
 }
 
+/* Writes all of some buffers, of which it changes the list. */
+static void send_parts(int to, struct iovec *parts, int count) {
+    while (count > 0) {
+        ssize_t sent = writev(to, parts, count);
+        if (sent < 0) taken(NULL, "writev");
+        for (; count > 0 && (size_t)sent >= parts->iov_len; parts++, count--)
+            sent -= (ssize_t)parts->iov_len;
+        if (count == 0) return;
+        parts->iov_base = (uint8_t *)parts->iov_base + sent;
+        parts->iov_len -= (size_t)sent;
+    }
+}
+
 /* The guest: writes a word, and then marks its page. */
 static void *write_guest(void *arg) {
     uint64_t seed = 1;
@@ -77,13 +94,53 @@ static void *write_guest(void *arg) {
     return arg;
 }
 
-/* Lists the pages that were written since they were copied. */
+/* Lists the pages that were written since they were sent. */
 static size_t list_dirty(zimgasol_place *dirty) {
     size_t count = 0;
     for (size_t b = 0; b < BLOCKS; b++)
         for (uint64_t p = 0; p < rams[b].pages; p++)
             if (atomic_load(&rams[b].dirty[p])) dirty[count++] = (zimgasol_place){b, p};
     return count;
+}
+
+static bool is_zero(const struct ram *r, uint64_t page) {
+    for (size_t w = 0; w < WORDS; w++)
+        if (atomic_load_explicit(&r->guest[page * WORDS + w], memory_order_relaxed)) return false;
+    return true;
+}
+
+/* Lists a packet's head, and its pages that aren't zeros, one after another where they adjoin. */
+static int list_parts(const zimgasol_batch *batch, const uint8_t *zeros, struct iovec *parts) {
+    int count = 1;
+    for (size_t i = 0; i < batch->count; i++) {
+        uint8_t *page = (uint8_t *)rams[batch->block].guest + batch->pages[i] * PAGE;
+        struct iovec *last = &parts[count - 1];
+        if (zeros[i]) continue;
+        if ((uint8_t *)last->iov_base + last->iov_len == page) last->iov_len += PAGE;
+        else parts[count++] = (struct iovec){page, PAGE};
+    }
+    return count;
+}
+
+/* Sends the next packet of a guest that may run on, without a copy. A page's mark is cleared before
+ * the page is read: if it is written from then on it is marked again, and so comes in the next
+ * round, too. */
+static zimgasol_status send_packet(zimgasol_worker *worker, int to) {
+    struct iovec parts[1 + PACKET];
+    uint8_t zeros[PACKET], head[HEAD];
+    zimgasol_batch batch;
+    size_t len;
+    zimgasol_status status = zimgasol_worker_next(worker, &batch);
+    if (status != ZIMGASOL_RUNNING) return status;
+    for (size_t i = 0; i < batch.count; i++) {
+        atomic_exchange(&rams[batch.block].dirty[batch.pages[i]], 0);
+        zeros[i] = is_zero(&rams[batch.block], batch.pages[i]);
+    }
+    status = zimgasol_worker_head(worker, zeros, batch.count, head, sizeof head, &len);
+    if (status != ZIMGASOL_RUNNING) return status;
+    parts[0] = (struct iovec){head, len};
+    send_parts(to, parts, list_parts(&batch, zeros, parts));
+    return status;
 }
 
 /* Copies the pages of a packet. A page's mark is cleared before its copy begins: if it is written
@@ -115,22 +172,27 @@ static zimgasol_status pack_stopped(zimgasol_worker *worker) {
     return zimgasol_worker_step(worker, lent, BLOCKS);
 }
 
+static void drain_worker(zimgasol_worker *worker, int to) {
+    uint8_t out[PIECE];
+    size_t len;
+    while ((len = zimgasol_worker_drain(worker, out, sizeof out)) > 0) send_all(to, out, len);
+}
+
 /* One channel's part of a round, on a thread of its own. */
 static void *work(void *arg) {
     zimgasol_worker *worker = arg;
-    uint8_t *out = taken(malloc(PIECE), "malloc");
     uint64_t *copy = taken(malloc(limit * PAGE), "malloc");
     int to = sockets[1 + zimgasol_worker_channel(worker)][0];
     bool stopped = !atomic_load(&is_running);
     zimgasol_status status;
-    size_t len;
+    drain_worker(worker, to); /* the hello, of which no head is given before it is drained */
     do {
-        status = stopped ? pack_stopped(worker) : pack_copied(worker, copy);
+        if (!copies) status = send_packet(worker, to);
+        else status = stopped ? pack_stopped(worker) : pack_copied(worker, copy);
         if (status != ZIMGASOL_RUNNING) check(status, "worker");
-        while ((len = zimgasol_worker_drain(worker, out, PIECE)) > 0) send_all(to, out, len);
+        if (copies || status == ZIMGASOL_DONE) drain_worker(worker, to);
     } while (status == ZIMGASOL_RUNNING);
     free(copy);
-    free(out);
     return NULL;
 }
 
@@ -317,11 +379,12 @@ int main(int count, char **words) {
     size_t all = 0;
     bool times = false;
     int option;
-    while ((option = getopt(count, words, "m:c:b:t")) != -1) {
+    while ((option = getopt(count, words, "m:c:b:kt")) != -1) {
         unsigned long number = optarg != NULL ? strtoul(optarg, NULL, 10) : 0;
         if (option == 'm') mib = number;
         else if (option == 'c' && number >= 1 && number <= MOST) channels = number;
         else if (option == 'b') limit = number;
+        else if (option == 'k') copies = true;
         else if (option == 't') times = true;
         else return 3;
     }

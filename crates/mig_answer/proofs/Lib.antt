@@ -14,7 +14,6 @@ mod Dealt
 pub mod Sent
 pub mod SentRounds
 pub mod Headline
-mod LetThrough
 pub mod SentWithin
 mod TwicePages
 pub mod ToldSources

@@ -21,12 +21,12 @@ use Rattle.mig_stream.proofs.Longer.{longer_law}
 use Rattle.mig_stream.proofs.WrittenText.{written_main}
 use Rattle.mig_stream.proofs.WrittenMachine.{machine_mains}
 use Rattle.mig_stream.proofs.SpelledText.{spelled_law}
-use Rattle.mig_single_load.proofs.LetThrough.{through_law as stream_through}
+use Rattle.mig_stream.proofs.LetThrough.{through_law as stream_through}
 use Rattle.mig_packet.specs.declared.state.ChannelState.TheVariants as channel_state
 use Rattle.mig_packet.specs.Reading.{Settings, ChannelReading, IsReading}
 use Rattle.mig_packet.specs.Reading as channel
 use Rattle.mig_packet.specs.Waiting.{IsWithin}
-use Rattle.mig_answer.proofs.LetThrough.{through_law as channel_through}
+use Rattle.mig_packet.proofs.LetThrough.{through_law as channel_through}
 use Rattle.mig_send.specs.DealtRounds.{DealtRound}
 use Rattle.mig_send.specs.ReadBack.{channel_told, SendingsAreReadBack, MachineSendingsAreReadBack}
 use Rattle.mig_send.proofs.ReadBack.{sendings_are_read_back, machine_sendings_are_read_back}

@@ -3,11 +3,12 @@
 //! two threads share a handle.
 
 ghost use Rattle.std.specs.Prelude.{◌≡◌, ◌≢◌, ◌≤◌, ◌<◌, ◌∷◌, [], IsSome, IfOk, IfErr, OnOk, None, Some, map, length, true, false, IsTrue, ◌↔◌};
+ghost use Rattle.mig_mem.specs.Bitmaps.{lent_words};
 ghost use Rattle.mig_stream.specs.Format.{most_name_bytes};
 ghost use Rattle.mig_packet.specs.PageSize.{page_limit as most_pages};
 ghost use Rattle.mig_c_calls.specs.Status.{done};
 ghost use Rattle.mig_c.specs.Kinds.{table_in, multi_in, worker_in, Turns, Tells};
-ghost use Rattle.mig_c_calls.specs.Multi.{StartsOf, OpensMulti, OfTable, Refuses, place_of, ChangesMulti, BeginsRound, HandsOutWorker, TakesBackWorker, AreOfRound, TurnsBoth, EndsRound, CancelsRound, Finishes, DrainsMain, DrainsChannel};
+ghost use Rattle.mig_c_calls.specs.Multi.{StartsOf, OpensMulti, OfTable, Refuses, place_of, ChangesMulti, BeginsRound, BeginsBitmaps, TakesBackRound, HandsOutWorker, TakesBackWorker, AreOfRound, TurnsBoth, EndsRound, CancelsRound, Finishes, DrainsMain, DrainsChannel};
 
 use crate::handle::{Handle, MultiHandle, TableHandle, WorkerHandle};
 use crate::object::Object;
@@ -198,7 +199,7 @@ fn begin_round(alloc: Global, object: &mut Object, places: &[NamedPlace]) -> u32
     }
 }
 
-/// Begins a round of these dirty pages: cuts them into batches, which its workers pack.
+/// Begins a round of these dirty pages, whose batches its workers pack.
 #[unsafe(no_mangle)]
 pub extern "C" fn zimgasol_multi_begin_round(
     alloc: Global,
@@ -210,6 +211,54 @@ pub extern "C" fn zimgasol_multi_begin_round(
 {
     let mut object = multi.handle.take().into_box(alloc);
     let status = begin_round(alloc, &mut object, dirty);
+    multi.handle = Handle::of(object);
+    status
+}
+
+fn begin_round_bitmaps(alloc: Global, object: &mut Object, bitmaps: &[&[u64]]) -> u32
+    requires { IsSome (multi_in (Some object.old)) }
+    ensures { Turns (ChangesMulti (BeginsBitmaps (lent_words bitmaps.now) result)) (multi_in (Some object.old)) (multi_in (Some object.new)) }
+{
+    match object {
+        Object::Multi(multi) => multi.begin_round_bitmaps(alloc, bitmaps),
+        _ => unreachable!(),
+    }
+}
+
+/// Begins a round of the pages whose bit is set in the bitmap of their block.
+#[unsafe(no_mangle)]
+pub extern "C" fn zimgasol_multi_begin_round_bitmaps(
+    alloc: Global,
+    multi: &mut MultiHandle,
+    bitmaps: &[&[u64]],
+) -> u32
+    requires multi { IsSome (multi_in multi.old.handle.value) }
+    ensures begins { Turns (ChangesMulti (BeginsBitmaps (lent_words bitmaps.now) result)) (multi_in multi.old.handle.value) (multi_in multi.new.handle.value) }
+{
+    let mut object = multi.handle.take().into_box(alloc);
+    let status = begin_round_bitmaps(alloc, &mut object, bitmaps);
+    multi.handle = Handle::of(object);
+    status
+}
+
+fn take_back_round(alloc: Global, object: &mut Object) -> u32
+    requires { IsSome (multi_in (Some object.old)) }
+    ensures { Turns (ChangesMulti (TakesBackRound result)) (multi_in (Some object.old)) (multi_in (Some object.new)) }
+{
+    match object {
+        Object::Multi(multi) => multi.take_back_round(alloc),
+        _ => unreachable!(),
+    }
+}
+
+/// Takes the open round back, of which no worker was given out: the sender is as it was before.
+#[unsafe(no_mangle)]
+pub extern "C" fn zimgasol_multi_take_back_round(alloc: Global, multi: &mut MultiHandle) -> u32
+    requires multi { IsSome (multi_in multi.old.handle.value) }
+    ensures takes { Turns (ChangesMulti (TakesBackRound result)) (multi_in multi.old.handle.value) (multi_in multi.new.handle.value) }
+{
+    let mut object = multi.handle.take().into_box(alloc);
+    let status = take_back_round(alloc, &mut object);
     multi.handle = Handle::of(object);
     status
 }

@@ -6,6 +6,7 @@ ghost use Rattle.mig_mem.specs.Lent.{lent_bytes};
 ghost use Rattle.mig_c.specs.Kinds.{worker_in, Turns, Tells};
 ghost use Rattle.mig_c_calls.specs.Multi.{Steps, DrainsWorker};
 ghost use Rattle.mig_c_calls.specs.Copied.{NamesBatch, PacksCopied};
+ghost use Rattle.mig_c_calls.specs.Heads.{GivesHead};
 
 use crate::handle::{Handle, WorkerHandle};
 use crate::object::Object;
@@ -61,6 +62,36 @@ pub extern "C" fn zimgasol_worker_next(
 {
     let mut object = worker.handle.take().into_box(alloc);
     let status = next(&mut object, batch);
+    worker.handle = Handle::of(object);
+    status
+}
+
+fn head(object: &mut Object, zeros: &[u8], out: &mut [u8], written: &mut usize) -> u32
+    requires { IsSome (worker_in (Some object.old)) }
+    ensures { Turns (GivesHead zeros.now result out.old out.new written.old written.new) (worker_in (Some object.old)) (worker_in (Some object.new)) }
+{
+    match object {
+        Object::Worker(worker) => worker.head(zeros, out, written),
+        _ => unreachable!(),
+    }
+}
+
+/// Writes the head of the packet of the batch that `zimgasol_worker_next` reported to the front of
+/// a buffer, and reports its length. The caller sends it, and after it the contents of the pages
+/// that aren't zeros, from where they lie.
+#[unsafe(no_mangle)]
+pub extern "C" fn zimgasol_worker_head(
+    alloc: Global,
+    worker: &mut WorkerHandle,
+    zeros: &[u8],
+    out: &mut [u8],
+    written: &mut usize,
+) -> u32
+    requires worker { IsSome (worker_in worker.old.handle.value) }
+    ensures gives { Turns (GivesHead zeros.now result out.old out.new written.old written.new) (worker_in worker.old.handle.value) (worker_in worker.new.handle.value) }
+{
+    let mut object = worker.handle.take().into_box(alloc);
+    let status = head(&mut object, zeros, out, written);
     worker.handle = Handle::of(object);
     status
 }

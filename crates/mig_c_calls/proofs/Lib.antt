@@ -1,8 +1,11 @@
 pub mod Named
 pub mod SenderSteps
 pub mod Sends
+pub mod RoundsBack
+pub mod Held
 pub mod Drains
 pub mod Calls
 pub mod Ends
 pub mod Places
 pub mod Copies
+pub mod Heads

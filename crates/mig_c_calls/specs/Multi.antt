@@ -10,6 +10,7 @@ use Rattle.mig_mem.specs.Place.{IsPlace, place_at}
 use Rattle.mig_mem.specs.PlaceSet.{PlaceSet, with_place}
 use Rattle.mig_mem.specs.Image.{Image, IsImage}
 use Rattle.mig_mem.specs.Lent.{FitTable, lent_image}
+use Rattle.mig_mem.specs.Bitmaps.{AreBitmaps, bitmap_set}
 use Rattle.mig_stream.specs.Written.{FlushPart, written_so_far, main}
 use Rattle.mig_stream.specs.MachineWritten.{machine_written, machine_closed}
 use Rattle.mig_packet.specs.PageSize.{page_limit}
@@ -183,6 +184,10 @@ pub record Packs (image : Image) (sent given more : List ℕ) (w : HeldWorker) :
   pub has_sent : sent ≡ given ++ own
   pub has_packed : HasPacked image own ((more ++ waiting_in w.drained) ++ w.worker.text) w.worker
 
+-- the bytes of a worker's channel that weren't copied out
+abbrev pub left_in : HeldWorker → List ℕ
+left_in w = waiting_in w.drained ++ w.worker.text
+
 -- ---- the calls
 
 -- a sender that has sent nothing
@@ -248,6 +253,37 @@ pub record BeginsRound (places : List Place) (status : ℕ) (old new : MultiStat
 abbrev pub Deals : List Place → ℕ → MultiSending → MultiState → Type 0
 Deals places status s new = BeginsRound places status (Idle s) new × (status ≢ out_of_turn)
 
+-- The effect of `begin_round_bitmaps` with bitmaps of these words: the pages whose bits are set are
+-- dirty.
+pub record BeginsBitmaps (bitmaps : List (List ℕ)) (status : ℕ) (old new : MultiState) : Type 0 where
+  pub is_named : IsOneOf (done ∷ no_memory ∷ bad_length ∷ out_of_turn ∷ []) status
+  pub begins : status ≡ done → (setting : MultiSetting) (image : Image) (drained : Drained) (rounds : List DealtRound) → SendsTo setting drained rounds old
+      → InRoundTo setting image (bitmap_set setting.table bitmaps).marked drained rounds new
+  pub all_left : status ≡ done → OfRound (λ r. (length r.seats ≡ length r.sender.channels) × (r.spents ≡ [])) new
+  pub same : status ≢ done → IsSame new old
+  pub wrong : status ≡ out_of_turn → IsIdle old → ⊥
+  pub in_turn : status ≢ out_of_turn → IsIdle old
+  pub unfit : status ≡ bad_length → IdleOf (λ table. AreBitmaps table bitmaps → ⊥) old
+  pub fits : status ≢ out_of_turn → status ≢ bad_length → IdleOf (λ table. AreBitmaps table bitmaps) old
+
+-- what it does to a sender that is idle
+abbrev pub DealsBitmaps : List (List ℕ) → ℕ → MultiSending → MultiState → Type 0
+DealsBitmaps bitmaps status s new = BeginsBitmaps bitmaps status (Idle s) new × (status ≢ out_of_turn)
+
+-- no worker of the round was given out
+abbrev pub HasAllWorkers : OpenMulti → Type 0
+HasAllWorkers r = length r.seats ≡ length r.sender.channels
+
+-- The effect of `take_back_round`: the round is gone, and the sender has sent what it had before.
+pub record TakesBackRound (status : ℕ) (old new : MultiState) : Type 0 where
+  pub is_named : IsOneOf (done ∷ out_of_turn ∷ []) status
+  pub takes : status ≡ done → (setting : MultiSetting) (image : Image) (dirty : List Place) (drained : Drained) (rounds : List DealtRound)
+      → InRoundTo setting image dirty drained rounds old → SendsTo setting drained rounds new
+  pub idle : status ≡ done → IsIdle new
+  pub same : status ≢ done → IsSame new old
+  pub wrong : status ≡ out_of_turn → OfRound HasAllWorkers old → ⊥
+  pub in_turn : status ≢ out_of_turn → OfRound HasAllWorkers old
+
 -- this is the worker of the next channel, and of the open round
 pub record IsNext (old : OpenMulti) (w : HeldWorker) : Type 0 where
   pub has_terms : w.worker.terms ≡ old.terms
@@ -311,6 +347,7 @@ pub record DrainsWorker (count : ℕ) (out : List ℕ) (old new : HeldWorker) : 
 pub record RefillsWorker (old new : HeldWorker) : Type 0 where
   pub keeps : (image : Image) (sent given more : List ℕ) → Packs image sent given more old → Packs image sent given more new
   pub none : waiting_in new.drained ≡ [] → new.worker.text ≡ []
+  pub same_left : left_in new ≡ left_in old
   pub same_work : (new.worker.terms ≡ old.worker.terms) × (new.worker.channel ≡ old.worker.channel) × (new.worker.hand ≡ old.worker.hand)
 
 -- The worker is one of the open round, if one is open.

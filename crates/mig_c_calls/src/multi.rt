@@ -4,14 +4,15 @@
 ghost use Rattle.std.specs.Prelude.{◌≡◌, ◌≢◌, ◌+◌, ◌≤◌, ◌<◌, [], IsSome, IsTrue, ◌↔◌, true, false, IfOk, IfErr, OnOk, OnErr, None, Some, length, All, map, replicate};
 ghost use Rattle.mig_mem.specs.Place.{IsPlace};
 ghost use Rattle.mig_mem.specs.PlaceSet.{PlaceSet};
+ghost use Rattle.mig_mem.specs.Bitmaps.{lent_words};
 ghost use Rattle.mig_stream.specs.Format.{most_name_bytes};
 ghost use Rattle.mig_packet.specs.PageSize.{page_limit as most_pages};
 ghost use Rattle.mig_send.specs.MultiRound.{TakesBack};
 ghost use Rattle.mig_c_calls.specs.declared.sending.MultiState.TheVariants.{Idle, Round, Over};
-ghost use Rattle.mig_c_calls.specs.Multi.{MultiSetting, Starts, place_of, set_of, ChangesMulti, BeginsRound, Deals, GivesNext, HandsOutWorker, CanComeBack, TakesBackWorker, IsOfRound, EndsRound, CancelsRound, EndsStreams, Finishes, DrainsMain, RefillsMain, DrainsChannel, IsOpen, HasNothingLeft};
+ghost use Rattle.mig_c_calls.specs.Multi.{MultiSetting, Starts, place_of, set_of, ChangesMulti, BeginsRound, Deals, BeginsBitmaps, DealsBitmaps, TakesBackRound, GivesNext, HandsOutWorker, CanComeBack, TakesBackWorker, IsOfRound, EndsRound, CancelsRound, EndsStreams, Finishes, DrainsMain, RefillsMain, DrainsChannel, IsOpen, HasNothingLeft};
 
 use crate::sending::{DealtRound, EndedStreams, HeldWorker, Multi, MultiState, NamedPlace};
-use crate::status::{DONE, NO_MEMORY, NO_PAGE, OUT_OF_TURN};
+use crate::status::{BAD_LENGTH, DONE, NO_MEMORY, NO_PAGE, OUT_OF_TURN};
 use crate::waiting::{Waiting, behind, copy_front};
 use mig_mem::{Dirty, NoMemory, Place, Table};
 use mig_send::{MultiRound, MultiSender, Sent};
@@ -66,7 +67,7 @@ fn dealt(alloc: Global, sender: MultiSender<Global>, places: &[NamedPlace]) -> (
     let Ok(dirty) = marked(alloc, sender.table(), places) else {
         return (MultiState::Idle(sender), NO_MEMORY);
     };
-    match sender.begin_round(&dirty) {
+    match sender.begin_round_with(dirty) {
         Ok(round) => (MultiState::Round(DealtRound { round }), DONE),
         Err((sender, _)) => (MultiState::Idle(sender), NO_MEMORY),
     }
@@ -79,6 +80,59 @@ fn begun(alloc: Global, state: MultiState, places: &[NamedPlace]) -> (MultiState
     match state {
         MultiState::Idle(sender) => dealt(alloc, sender, places),
         MultiState::Round(round) => (MultiState::Round(round), OUT_OF_TURN),
+        MultiState::Over(streams) => (MultiState::Over(streams), OUT_OF_TURN),
+    }
+}
+
+// Begins a round of the pages that bitmaps mark.
+fn dealt_bitmaps(
+    alloc: Global,
+    sender: MultiSender<Global>,
+    bitmaps: &[&[u64]],
+) -> (MultiState, u32)
+    ensures { DealsBitmaps (lent_words bitmaps.now) result.1 sender result.0 }
+{
+    if !sender.table().has_bitmaps(bitmaps) {
+        return (MultiState::Idle(sender), BAD_LENGTH);
+    }
+    let Ok(dirty) = Dirty::from_bitmaps(alloc, sender.table(), bitmaps) else {
+        return (MultiState::Idle(sender), NO_MEMORY);
+    };
+    match sender.begin_round_with(dirty) {
+        Ok(round) => (MultiState::Round(DealtRound { round }), DONE),
+        Err((sender, _)) => (MultiState::Idle(sender), NO_MEMORY),
+    }
+}
+
+// Begins a round of the pages that bitmaps mark, if none is open.
+fn begun_bitmaps(alloc: Global, state: MultiState, bitmaps: &[&[u64]]) -> (MultiState, u32)
+    ensures { BeginsBitmaps (lent_words bitmaps.now) result.1 state result.0 }
+{
+    match state {
+        MultiState::Idle(sender) => dealt_bitmaps(alloc, sender, bitmaps),
+        MultiState::Round(round) => (MultiState::Round(round), OUT_OF_TURN),
+        MultiState::Over(streams) => (MultiState::Over(streams), OUT_OF_TURN),
+    }
+}
+
+// Takes a round back, if no worker of it was given out.
+fn taken_back_round(dealt: DealtRound) -> (MultiState, u32)
+    ensures { TakesBackRound result.1 (Round dealt) result.0 }
+{
+    let DealtRound { round } = dealt;
+    if round.workers_left() != round.channels() {
+        return (MultiState::Round(DealtRound { round }), OUT_OF_TURN);
+    }
+    (MultiState::Idle(round.take_back()), DONE)
+}
+
+// Takes the open round back.
+fn taken_back(state: MultiState) -> (MultiState, u32)
+    ensures { TakesBackRound result.1 state result.0 }
+{
+    match state {
+        MultiState::Round(dealt) => taken_back_round(dealt),
+        MultiState::Idle(sender) => (MultiState::Idle(sender), OUT_OF_TURN),
         MultiState::Over(streams) => (MultiState::Over(streams), OUT_OF_TURN),
     }
 }
@@ -385,6 +439,27 @@ impl Multi {
         ensures { ChangesMulti (BeginsRound (map place_of places.now) result) self.old self.new }
     {
         let (state, status) = begun(alloc, take_state(alloc, self), places);
+        self.state = state;
+        status
+    }
+
+    /// Begins a round of the pages whose bit is set in the bitmap of their block. It allocates one
+    /// copy of the bitmaps, which the round keeps. Returns the status: `DONE`, `NO_MEMORY`,
+    /// `BAD_LENGTH` or `OUT_OF_TURN`.
+    pub fn begin_round_bitmaps(&mut self, alloc: Global, bitmaps: &[&[u64]]) -> u32
+        ensures { ChangesMulti (BeginsBitmaps (lent_words bitmaps.now) result) self.old self.new }
+    {
+        let (state, status) = begun_bitmaps(alloc, take_state(alloc, self), bitmaps);
+        self.state = state;
+        status
+    }
+
+    /// Takes the open round back, of which no worker was given out. Returns the status: `DONE` or
+    /// `OUT_OF_TURN`.
+    pub fn take_back_round(&mut self, alloc: Global) -> u32
+        ensures { ChangesMulti (TakesBackRound result) self.old self.new }
+    {
+        let (state, status) = taken_back(take_state(alloc, self));
         self.state = state;
         status
     }

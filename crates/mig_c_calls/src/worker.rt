@@ -1,18 +1,21 @@
 //! The calls of a worker of a round on several channels. Each worker runs on a thread of the
 //! caller's.
 
-ghost use Rattle.std.specs.Prelude.{◌≡◌, ◌*◌, ◌≤◌, ◌++◌, IsTrue, IsFalse, IfOk, IfErr, None, List, ℕ, length, ◌↔◌};
+ghost use Rattle.std.specs.Prelude.{◌≡◌, ◌*◌, ◌≤◌, ◌++◌, IsTrue, IsFalse, IfOk, IfErr, IfSome, IfNone, None, List, [], ℕ, length, take, ◌↔◌};
 ghost use Rattle.mig_mem.specs.PageSize.{IsPageSize};
 ghost use Rattle.mig_mem.specs.Image.{Image};
 ghost use Rattle.mig_mem.specs.Lent.{lent_bytes, lent_image, FitTable};
 ghost use Rattle.mig_send.specs.ChannelWork.{IsHand, HasClaimed, HasPacked, batch_in};
-ghost use Rattle.mig_c_calls.specs.Multi.{StepsOn, Steps, DrainsWorker, RefillsWorker};
-ghost use Rattle.mig_c_calls.specs.Copied.{HasBatch, OfClaim, ListsPages, NamesBatch, PacksCopied, PacksOn, RefusesPages, EndsChannel};
+ghost use Rattle.mig_c_calls.specs.Multi.{StepsOn, Steps, DrainsWorker, RefillsWorker, waiting_in};
+ghost use Rattle.mig_c_calls.specs.Copied.{HasBatch, OfClaim, ListsPages, NamesBatch, PacksCopied, PacksOn, RefusesPages, EndsChannel, OfBatch};
+ghost use Rattle.mig_c_calls.specs.Heads.{GivesHead, TakesHead, RefusesHead, WritesOut, flags_of};
 
 use crate::copied::{CopiedPages, page_of_zeros};
 use crate::sending::{HeldWorker, NamedBatch};
 use crate::status::{BAD_LENGTH, DONE, NO_MEMORY, OUT_OF_TURN, RUNNING};
+use crate::waiting::{Waiting, copy_front};
 use mig_mem::{LentMemory, NoMemory};
+use mig_packet::head_len;
 use mig_send::{Batch, ChannelWorker};
 use std::alloc::Global;
 
@@ -125,6 +128,76 @@ fn claimed_pages(
     }
 }
 
+// Returns the status with which the head of the claimed batch is refused. `None` if each of its
+// pages has a byte in `zeros`, there is room for the head, and no drained byte waits.
+fn head_refused(held: &HeldWorker, zeros: &[u8], room: usize) -> Option<u32>
+    ensures none { IfNone result (OfBatch (λ batch number. TakesHead held.now.worker.terms.table zeros.now room batch) held.now × (waiting_in held.now.drained ≡ [])) }
+    ensures some { IfSome result (λ status. RefusesHead zeros.now room status held.now) }
+{
+    let Some(batch) = held.worker.batch() else {
+        return Some(OUT_OF_TURN);
+    };
+    if !held.drained.is_empty() {
+        return Some(OUT_OF_TURN);
+    }
+    held.table.keeps_limits();
+    if zeros.len() != batch.pages.len() || room < head_len(held.table.page_size()) {
+        return Some(BAD_LENGTH);
+    }
+    None
+}
+
+// Writes to `flags` which bytes aren't 0.
+fn set_flags(bytes: &[u8], flags: &mut [bool])
+    requires { length flags.old ≡ length bytes.now }
+    ensures { flags.new ≡ flags_of bytes.now }
+{
+    for i in 0..bytes.len() {
+        flags[i] = bytes[i] != 0;
+    }
+}
+
+// Moves the bytes of a worker to the front of a buffer that has room for them. Returns how many.
+fn move_out(worker: &mut ChannelWorker<Global>, drained: &mut Waiting, out: &mut [u8]) -> usize
+    requires { length worker.old.text ≤ length out.old }
+    ensures front { take result out.new ≡ worker.old.text }
+    ensures len { result ≡ length worker.old.text }
+    ensures rest { worker.new ≡ record worker.old { text = [] } }
+    ensures none { waiting_in drained.new ≡ [] }
+{
+    worker.drain_into(&mut drained.bytes);
+    let count = copy_front(&drained.bytes, out);
+    drained.given = count;
+    count
+}
+
+// Writes the head of the packet of the claimed batch to the front of `out`, and its length to
+// `written`. No byte of the channel waits.
+fn give_head(
+    worker: &mut ChannelWorker<Global>,
+    drained: &mut Waiting,
+    zeros: &[u8],
+    out: &mut [u8],
+    written: &mut usize,
+) -> u32
+    requires batch { OfClaim (λ batch number. TakesHead worker.old.terms.table zeros.now (length out.old) batch) worker.old.terms worker.old.hand }
+    requires none { worker.old.text ≡ [] }
+    ensures { WritesOut zeros.now result out.old out.new written.old written.new worker.old worker.new drained.old drained.new }
+{
+    // the page size bounds the pages of a batch
+    worker.table().keeps_limits();
+    let mut flags = [false; 128];
+    let flags = &mut flags[..zeros.len()];
+    set_flags(zeros, flags);
+    match worker.put_head(flags) {
+        Ok(()) => {
+            *written = move_out(worker, drained, out);
+            RUNNING
+        }
+        Err(NoMemory) => NO_MEMORY,
+    }
+}
+
 impl HeldWorker {
     /// Draws the number of the worker's next packet, and writes the batch that it claims to
     /// `named`. If no batch is left, writes the SYNC packet into the channel, and `named` stays as
@@ -155,6 +228,25 @@ impl HeldWorker {
                 pack_on(&mut self.worker, &memory)
             }
             Err(status) => status,
+        }
+    }
+
+    /// Writes the head of the packet of the batch that `next` named to the front of `out`, and its
+    /// length to `written`. A byte of `zeros` that isn't 0 says that its page is zeros. The caller
+    /// sends the head, and after it the contents of the other pages, in the batch's order.
+    ///
+    /// Returns the status: `RUNNING`, or the first that applies of
+    ///
+    /// - `OUT_OF_TURN`: no batch waits for its packet, or bytes of the channel wait to be drained;
+    /// - `BAD_LENGTH`: `zeros` hasn't one byte for each page, or `out` is shorter than a head;
+    /// - `NO_MEMORY`: an allocation was refused. The batch still waits for its packet.
+    pub fn head(&mut self, zeros: &[u8], out: &mut [u8], written: &mut usize) -> u32
+        ensures { GivesHead zeros.now result out.old out.new written.old written.new self.old self.new }
+    {
+        refill(self);
+        match head_refused(self, zeros, out.len()) {
+            Some(status) => status,
+            None => give_head(&mut self.worker, &mut self.drained, zeros, out, written),
         }
     }
 

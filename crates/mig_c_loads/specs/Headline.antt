@@ -49,12 +49,13 @@ DrainedMachineStreamIsLoaded = (table : RamTable) (name : Option (List ℕ)) (le
 
 -- ---- several channels
 
--- the channels' bytes that were copied out
+-- the channels' bytes that were copied out, with the pages that were sent after heads
 abbrev pub channels_out : ℕ → Drained → List (List ℕ)
 channels_out channels given = map given.channel (range_with_len 0 channels)
 
 -- All bytes of a sender on several channels, which was ended, were copied out: of its main stream,
--- and of each channel. Each drain promises it once it returns 0.
+-- and of each channel. Each drain promises it once it returns 0. Pages that C sent after the head of
+-- their packet count among them (`GivesHead`).
 pub record IsAllOf (setting : MultiSetting) (given : Drained) (rounds : List DealtRound) (sender : Multi) : Type 0 where
   pub sends : Sends setting given rounds sender
   pub is_over : IsOver sender.state

@@ -15,7 +15,8 @@ pub fn drained_machine_stream_is_loaded()
 {}
 
 /// What was copied out of a sender on several channels is loaded into blocks, in whatever pieces it
-/// was fed, and in whatever order of the sources.
+/// was fed, and in whatever order of the sources. Pages that were sent after the head of their
+/// packet, and not copied out, count among it.
 pub fn drained_channels_are_loaded()
     ensures { DrainedChannelsAreLoaded }
 {}

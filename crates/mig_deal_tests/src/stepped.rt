@@ -1,5 +1,6 @@
 //! Rounds on several channels whose workers the caller steps: on threads of its own, and one after
-//! another, drained after each step, with the bytes made by hand.
+//! another, drained after each step, with the bytes made by hand; and workers that write heads alone,
+//! whose pages the caller sends.
 
 ghost use Rattle.std.specs.Prelude.{◌≡◌};
 ghost use Rattle.mig_send.specs.ChannelWork.{HasEnded};
@@ -11,7 +12,7 @@ use crate::multi::{
     Round, finish, first_round, main_by_hand, numbers_in, packets_by_hand, second_round, sender_on,
     uuid,
 };
-use mig_mem::{Dirty, Memory};
+use mig_mem::{Dirty, Memory, Place};
 use mig_packet::hello;
 use mig_send::{ChannelWorker, MultiRound, MultiSender, Sent};
 use std::alloc::{AllocGlobal, Global};
@@ -64,7 +65,10 @@ fn give_back(rt: &impl Abort, round: &mut MultiRound, worker: ChannelWorker)
     assert!(rt; worker.has_ended());
     assert!(rt; worker.channel() == round.given_back());
     assert!(rt; round.given_back() < round.channels().saturating_sub(round.workers_left()));
-    assert!(rt; round.give_back(worker).is_ok());
+    match round.give_back(worker) {
+        Ok(()) => {}
+        Err(_) => panic!(rt; "memory"),
+    }
 }
 
 fn end(rt: &impl Abort, round: MultiRound) -> MultiSender
@@ -130,6 +134,20 @@ fn workers_on_threads(rt: HostRuntime) {
     assert!(rt; are_on_two_channels(&sent, &main, &packets_by_hand(&rt, 2)) == Some(true));
 }
 
+// A round that is taken back leaves nothing behind.
+#[test]
+fn rounds_taken_back(rt: HostRuntime) {
+    let mut sender = sender_on(&rt, 2);
+    for given in [first_round(&rt), second_round(&rt)] {
+        let round = begin(&rt, sender, &given.dirty);
+        assert!(rt; round.workers_left() == round.channels());
+        sender = on_threads(&rt, round.take_back(), &given);
+    }
+    let sent = finish(&rt, sender);
+    let main = main_by_hand(&rt);
+    assert!(rt; are_on_two_channels(&sent, &main, &packets_by_hand(&rt, 2)) == Some(true));
+}
+
 // ---- drained after each step
 
 // Steps a worker to its end, and appends its bytes after each step.
@@ -180,4 +198,91 @@ fn worker_drained_after_each_step(rt: HostRuntime) {
     let packets = packets.get(..5).expect(&rt, "packets");
     let wanted = channel_by_hand(rt.alloc(), packets).expect(&rt, "a channel");
     assert!(rt; drained(&rt, &first_round(&rt)).as_slice() == wanted.as_slice());
+}
+
+// ---- heads alone, with the pages from where they lie
+
+// Which pages of the worker's batch are zeros, and the contents of the others. None if the next
+// packet is the SYNC packet.
+fn next_pages(
+    worker: &ChannelWorker,
+    memory: &Memory,
+    zeros: &mut Vec<bool>,
+    contents: &mut Vec<u8>,
+) -> Option<usize> {
+    let batch = worker.batch()?;
+    zeros.clear();
+    contents.clear();
+    for page in batch.pages.as_slice() {
+        let place = Place {
+            block: batch.block,
+            page: *page,
+        };
+        let content = memory.page(place)?;
+        let is_zero = content.iter().all(|byte| *byte == 0);
+        zeros.push(is_zero).ok()?;
+        if !is_zero {
+            contents.extend_from_slice(content).ok()?;
+        }
+    }
+    Some(zeros.len())
+}
+
+// Writes the head of the next packet if it has pages, or makes a step, and appends the channel's
+// bytes with the contents behind them.
+fn send_next(
+    worker: &mut ChannelWorker,
+    memory: &Memory,
+    zeros: &mut Vec<bool>,
+    contents: &mut Vec<u8>,
+    bytes: &mut Vec<u8>,
+) -> Option<()>
+    ensures { worker.new.terms ≡ worker.old.terms }
+{
+    let mut buffer = Vec::new(*bytes.allocator());
+    worker.claim();
+    let has_pages = next_pages(worker, memory, zeros, contents).is_some();
+    let count = worker.batch().map(|batch| batch.pages.len());
+    match count {
+        Some(count) if has_pages && count == zeros.len() => worker.put_head(zeros).ok()?,
+        _ => {
+            if !memory.table().same(worker.table()) {
+                return None;
+            }
+            contents.clear();
+            worker.step(memory).ok()?;
+        }
+    }
+    worker.drain_into(&mut buffer);
+    bytes.extend_from_slice(&buffer).ok()?;
+    bytes.extend_from_slice(contents).ok()
+}
+
+// Sends a round on one channel. Returns its bytes.
+fn sent_by_heads(rt: &(impl AllocGlobal + Abort), given: &Round) -> Vec<u8> {
+    let mut round = begin(rt, sender_on(rt, 1), &given.dirty);
+    let mut worker = worker_of(rt, &mut round);
+    let mut bytes = Vec::new(rt.alloc());
+    let (mut zeros, mut contents) = (Vec::new(rt.alloc()), Vec::new(rt.alloc()));
+    'packets: for _ in 0..5u8 {
+        let sent = send_next(
+            &mut worker,
+            &given.memory,
+            &mut zeros,
+            &mut contents,
+            &mut bytes,
+        );
+        assert!(rt; sent.is_some());
+    }
+    give_back(rt, &mut round, worker);
+    end(rt, round);
+    bytes
+}
+
+#[test]
+fn heads_and_pages_sent_apart(rt: HostRuntime) {
+    let packets = packets_by_hand(&rt, 1);
+    let packets = packets.get(..5).expect(&rt, "packets");
+    let wanted = channel_by_hand(rt.alloc(), packets).expect(&rt, "a channel");
+    assert!(rt; sent_by_heads(&rt, &first_round(&rt)).as_slice() == wanted.as_slice());
 }

@@ -57,7 +57,7 @@ fn add_packets(arrivals: &mut Arrivals, bytes: &[u8]) -> Option<()> {
         if arrivals.table().page_size() != packet.page_size() {
             return None;
         }
-        arrivals.packet(&packet).ok()?;
+        arrivals.packet(&packet.head()).ok()?;
         rest = rest.get(len..)?;
     }
     Some(())

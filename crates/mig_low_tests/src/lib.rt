@@ -1,5 +1,5 @@
-//! Tests of guest memory, packets and channels: memories that are compared, and rounds that are
-//! written, by several threads; a round that is judged as it arrives; channels up to where they are
+//! Tests of guest memory, packets and channels: sets of pages from bitmaps; memories that are
+//! compared, and rounds that are written, by several threads; a round that is judged as it arrives; channels up to where they are
 //! valid, with a limit on what waits, and read by the lengths that they want. Also tests of a memory
 //! that was zeros, and of the allocator that refuses.
 //!
@@ -8,6 +8,8 @@
 
 #[cfg(test)]
 mod arrivals;
+#[cfg(test)]
+mod bitmaps;
 #[cfg(test)]
 mod channel_valid;
 #[cfg(test)]

@@ -47,7 +47,7 @@ sum_by-flat_map {X} f g (x ∷ xs) =
     ∙ sym (sum_by-cons (λ (y : X). sum_by f (g y)) x xs)
 
 -- a run further on
-count_later : (f : ℕ → Bool) (d a b n : ℕ) → a + d ≡ b → count_by f (range_with_len b n) ≡ count_by (λ i. f (i + d)) (range_with_len a n)
+pub count_later : (f : ℕ → Bool) (d a b n : ℕ) → a + d ≡ b → count_by f (range_with_len b n) ≡ count_by (λ i. f (i + d)) (range_with_len a n)
 count_later f d a b zero e = refl
 count_later f d a b (suc n) e =
     sum_by-cons (λ (i : ℕ). cond (f i) 1 0) b (range_with_len (b + 1) n)

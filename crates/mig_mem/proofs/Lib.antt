@@ -19,6 +19,8 @@ pub mod Bits
 pub mod Sets
 pub mod Counts
 pub mod Differing
+pub mod BitmapRows
+pub mod Skips
 pub mod Walks
 pub mod BytePuts
 pub mod BlockRegions

@@ -8,6 +8,8 @@ pub mod Image
 pub mod Round
 pub mod PlaceSet
 pub mod Difference
+pub mod Bitmaps
+pub mod Skipping
 pub mod Tracking
 pub mod Lent
 -- How the types keep their values. Only private contracts cite these.

@@ -31,11 +31,11 @@ use std::marker::Model;
 /// ```
 #[derive(Drop)]
 pub struct Dirty<A: Allocator = Global> {
-    table: Table<A>,
+    pub(crate) table: Table<A>,
     // the marks of each block, 64 to a word
-    words: Vec<Vec<u64, A>, A>,
+    pub(crate) words: Vec<Vec<u64, A>, A>,
     // how many marks there are
-    count: u64,
+    pub(crate) count: u64,
 }
 
 impl<A: Allocator> Model for Dirty<A> {

@@ -5,6 +5,7 @@
 //! as an `Image` and a `Dirty` as a `PlaceSet`, and never how they are kept.
 #![tactic(auto)]
 
+mod bitmaps;
 mod comparing;
 mod difference;
 mod dirty;
@@ -23,6 +24,7 @@ mod putting;
 mod refusal;
 mod region_puts;
 mod regions;
+mod skipping;
 mod slots;
 mod table;
 

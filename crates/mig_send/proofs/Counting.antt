@@ -67,7 +67,7 @@ few_pages : (total page_size : ℕ) → (page_size ≡ 4096) ⊎ (page_size ≡ 
 few_pages total page_size (inl e) room = let room' : total * 4096 ≤ 2 ^ 40 = subst (λ (n : ℕ). total * n ≤ 2 ^ 40) e room in omega (arith, room')
 few_pages total page_size (inr e) room = let room' : total * 8192 ≤ 2 ^ 40 = subst (λ (n : ℕ). total * n ≤ 2 ^ 40) e room in omega (arith, room')
 
-batches_few : (batches : List BatchOfPages) (limit : ℕ) → All (λ batch. (0 < length batch.pages) × (length batch.pages ≤ limit)) batches
+pub batches_few : (batches : List BatchOfPages) (limit : ℕ) → All (λ batch. (0 < length batch.pages) × (length batch.pages ≤ limit)) batches
     → length batches ≤ length (flat_map batch_places batches)
 batches_few [] limit sizes = omega arith
 batches_few (b ∷ batches) limit sizes =
@@ -83,9 +83,13 @@ batches_few (b ∷ batches) limit sizes =
       rest,
     )
 
--- so a round has no more batches than a deal can number
-pub few_batches : (set : PlaceSet) (limit : ℕ) (batches : List BatchOfPages) → IsPlaceSet set → IsCut limit set.marked batches → length batches ≤ 2 ^ 28
-few_batches set limit batches is cut =
+-- a set has at most as many places
+pub few_places : (set : PlaceSet) → IsPlaceSet set → length set.marked ≤ 2 ^ 28
+few_places set is =
     let places = few set.table set.marked is.is_within (order_from_AllPairs place_lt set.marked is.is_ascending) in
     let total = few_pages (total_pages set.table.blocks) set.table.page_size is.has_table.has_page_size is.has_table.has_room in
-    omega (arith, batches_few batches limit cut.has_sizes, ap length cut.has_all, places, total)
+    omega (arith, places, total)
+
+-- so a round has no more batches than a deal can number
+pub few_batches : (set : PlaceSet) (limit : ℕ) (batches : List BatchOfPages) → IsPlaceSet set → IsCut limit set.marked batches → length batches ≤ 2 ^ 28
+few_batches set limit batches is cut = omega (arith, batches_few batches limit cut.has_sizes, ap length cut.has_all, few_places set is)

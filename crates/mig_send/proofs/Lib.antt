@@ -1,6 +1,8 @@
 pub mod Sending
 pub mod PlacesFrom
 pub mod Cutting
+pub mod Skips
+pub mod Walking
 pub mod Packing
 pub mod Working
 pub mod Dealings
@@ -9,7 +11,11 @@ pub mod Channels
 pub mod Sendings
 pub mod Counting
 pub mod ReadBack
+pub mod Claimed
 pub mod Stepping
 pub mod SentImages
 pub mod Copies
+pub mod Heads
+pub mod DealtSets
 pub mod OpenRounds
+pub mod TakenBack

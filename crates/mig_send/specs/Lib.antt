@@ -2,7 +2,7 @@
 -- packets, one worker's draws, the sink that it fills with its packets, and the dealing that
 -- workers make together. Then rounds that are dealt over several channels, what their streams are
 -- read as, and the sender of these. Last the workers of a round, a worker that its caller steps,
--- its steps over different memories, and the round of such workers.
+-- how it finds its batches, its steps over different memories, and the round of such workers.
 pub mod Sending
 pub mod Batches
 pub mod Packing
@@ -14,6 +14,8 @@ pub mod ReadBack
 pub mod MultiSending
 pub mod Workers
 pub mod ChannelWork
+pub mod Finding
 pub mod Copies
+pub mod Heads
 pub mod MultiRound
 pub mod SendFaultNumber

@@ -142,6 +142,14 @@ pub record HandsOut (old new : OpenMulti) (worker : ChannelWork) : Type 0 where
   pub each_come : (memories : ℕ → ℕ → Image) (drained : ℕ → List ℕ) (sender : MultiSending) → IsRoundOfEach memories drained sender old
       → IsRoundOfEach memories drained sender new × ((own : ℕ → Image) → HasPackedEach own (get_or sender.channels worker.channel []) worker.text worker)
 
+-- A round of which no worker was given out is taken back: the sender is as it was before the round
+-- was begun.
+pub record IsTakenBack (round : OpenMulti) (sender : MultiSending) : Type 0 where
+  pub same_sender : sender ≡ round.sender
+  pub none_back : round.spents ≡ []
+  pub was : (dirty : PlaceSet) (old : MultiSending) → HasBegun dirty old round → sender ≡ old
+  pub had_come : (image : Image) (drained : ℕ → List ℕ) (old : MultiSending) → IsRoundSoFar image drained old round → sender ≡ old
+
 -- A worker that has ended is given back: its bytes that weren't drained are its channel's.
 pub record TakesBack (worker : ChannelWork) (old new : OpenMulti) : Type 0 where
   pub same_terms : new.terms ≡ old.terms

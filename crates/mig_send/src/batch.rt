@@ -1,7 +1,7 @@
 //! Batches: the dirty pages of a round in groups, each for one packet. `MultiSender::round` cuts
 //! them.
 
-ghost use Rattle.std.specs.Prelude.{◌≡◌, ◌<◌, ◌≤◌, ◌∷◌, All, IfOk, Some};
+ghost use Rattle.std.specs.Prelude.{◌≡◌, ◌<◌, ◌≤◌, [], ◌∷◌, ◌++◌, All, IfOk, Some, vec_len, vec_capacity};
 ghost use Rattle.mig_mem.specs.PlaceSet.{IsPlaceSet};
 ghost use Rattle.mig_packet.specs.PageSize.{page_limit};
 ghost use Rattle.mig_send.specs.Batches.{IsCut, IsBatch, IsFirstBatch, IsInSet, places_from, HasOneCut};
@@ -78,22 +78,51 @@ fn batch_from<A: Allocator, C: Allocator>(
     ensures batch { IfOk result (λ r. IsFirstBatch limit (places_from dirty.now.marked (Some first)) r.0 (places_from dirty.now.marked r.1)) }
     ensures behind { IfOk result (λ r. IsInSet dirty.now.marked r.1) }
 {
-    let mut pages = Vec::with_capacity(alloc, limit)?;
+    let pages = Vec::with_capacity(alloc, limit)?;
+    Ok(unpacked(dirty, first, limit, pages))
+}
+
+// Adds a page to a list that has room for it, so it allocates nothing.
+fn put<A: Allocator>(pages: &mut Vec<u64, A>, page: u64)
+    requires { vec_len pages.old < vec_capacity pages.old }
+    ensures items { pages.new.items ≡ pages.old.items ++ page ∷ [] }
+    ensures capacity { vec_capacity pages.old ≤ vec_capacity pages.new }
+{
+    let Ok(()) = pages.push(page) else {
+        unreachable!()
+    };
+}
+
+/// Returns the batch that begins with the dirty place `first`, in `pages`, which has room for it,
+/// and the first dirty place after it. It allocates nothing.
+pub(crate) fn unpacked<A: Allocator, C: Allocator>(
+    dirty: &Dirty<C>,
+    first: Place,
+    limit: usize,
+    pages: Vec<u64, A>,
+) -> (Batch<A>, Option<Place>)
+    requires limit { 0 < limit }
+    requires set { IsPlaceSet dirty.now }
+    requires first { IsInSet dirty.now.marked (Some first) }
+    requires room { limit ≤ vec_capacity pages }
+    ensures batch { IsFirstBatch limit (places_from dirty.now.marked (Some first)) result.0 (places_from dirty.now.marked result.1) }
+    ensures behind { IsInSet dirty.now.marked result.1 }
+{
+    let mut pages = pages;
+    pages.clear();
     let mut next = Some(first);
     'pages: while let Some(place) = next {
         if place.block != first.block || pages.len() == limit {
             break;
         }
-        pages.push(place.page)?;
+        put(&mut pages, place.page);
         next = first_behind(dirty, place);
     }
-    Ok((
-        Batch {
-            block: first.block,
-            pages,
-        },
-        next,
-    ))
+    let batch = Batch {
+        block: first.block,
+        pages,
+    };
+    (batch, next)
 }
 
 // Returns the first dirty place after another one.

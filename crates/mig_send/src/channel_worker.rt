@@ -4,16 +4,19 @@
 //! A worker starts no thread and waits for no other. It shares the round's deal with the other
 //! workers, and nothing else that is written.
 
-ghost use Rattle.std.specs.Prelude.{◌≡◌, ◌↔◌, ◌++◌, [], List, ℕ, IsTrue, IfSome, OnOk, OnErr};
+ghost use Rattle.std.specs.Prelude.{◌≡◌, ◌↔◌, ◌++◌, ◌⊎◌, None, [], List, ℕ, IsTrue, IfSome, IsSomeAnd, OnOk, OnErr, length};
 ghost use Rattle.std.specs.Option.{option_copied};
 ghost use Rattle.mig_mem.specs.Image.{Image};
 ghost use Rattle.mig_send.specs.Batches.{IsBatch};
 ghost use Rattle.mig_send.specs.Packing.{IsPrefix};
 ghost use Rattle.mig_send.specs.ChannelWork.{IsHand, HasNumber, HasClaimed, HasEnded, HasStepped, HasPacked, IsStep, after_packet, hand_bytes, batch_in};
+ghost use Rattle.mig_send.specs.Finding.{HasFound, IsFinder, batch_held};
 ghost use Rattle.mig_send.specs.Copies.{HasPackedEach, PacksPages};
+ghost use Rattle.mig_send.specs.Heads.{WritesHead, PutsHead};
 
 use crate::Batch;
-use crate::packed::{Offsets, append_packet};
+use crate::finder::Finder;
+use crate::packed::{Offsets, append_head, append_packet};
 use crate::round_work::RoundWork;
 use crate::share::put_sync;
 use mig_deal::{Deal, Drawn, Seat, Spent};
@@ -49,17 +52,19 @@ pub struct ChannelWorker<A: Allocator = Global> {
     pub(crate) hand: Hand,
     pub(crate) text: Vec<u8, A>,
     pub(crate) offsets: Offsets<A>,
+    pub(crate) finder: Finder<A>,
 }
 
 impl<A: Allocator> Model for ChannelWorker<A> {
     ghost use Rattle.std.specs.Arc.{arc_value};
     ghost use Rattle.mig_send.specs.ChannelWork.{ChannelWork, IsHand};
+    ghost use Rattle.mig_send.specs.Finding.{HasFound};
 
     ghost Value = { ChannelWork };
 
     ghost view = { λ w. record { terms = arc_value w.shared; channel = w.channel; hand = w.hand; text = w.text.items } };
 
-    ghost invariant = { λ w. IsHand (arc_value w.shared).deal w.hand };
+    ghost invariant = { λ w. IsHand (arc_value w.shared).deal w.hand × HasFound (arc_value w.shared) w.hand w.finder };
 }
 
 impl<A: Allocator> Debug for ChannelWorker<A> {
@@ -91,19 +96,23 @@ fn claimed<A: Allocator>(deal: &Deal<A>, hand: Hand) -> Hand
 fn put_in_hand<A: Allocator, M: GuestPages>(
     work: &RoundWork<A>,
     hand: &Hand,
+    finder: &Finder<A>,
     text: &mut Vec<u8, A>,
     offsets: &mut Offsets<A>,
     memory: &M,
 ) -> Result<(), NoMemory>
     requires table { (M.image memory.now).table ≡ work.now.table }
     requires hand { IsHand work.now.deal hand.now }
+    requires found { HasFound work.now hand.now finder.now }
     ensures ok { OnOk result (text.new.items ≡ text.old.items ++ hand_bytes (M.image memory.now) work.now hand.now) }
     ensures prefix { IsPrefix text.old.items text.new.items }
     ensures refused { OnErr result (HasNumber hand.now) }
 {
     match hand {
         Hand::Claimed(_, number) => {
-            let batch = &work.batches[(*number - work.deal.base()) as usize];
+            let Some(batch) = batch_of(work, hand, finder) else {
+                unreachable!()
+            };
             append_packet(text, offsets, memory, batch, *number)
         }
         Hand::Ending(_, last) => put_sync(text, memory, *last),
@@ -126,53 +135,158 @@ fn written(hand: Hand) -> Hand
     }
 }
 
-// Draws a number for `hand`, if it has none and one is left.
-fn claim_in<A: Allocator>(work: &RoundWork<A>, hand: &mut Hand)
-    requires { IsHand work.now.deal hand.old }
+// Draws a number for `hand`, if it has none and one is left, and finds the batch that it claims.
+fn claim_in<A: Allocator>(work: &RoundWork<A>, hand: &mut Hand, finder: &mut Finder<A>)
+    requires hand { IsHand work.now.deal hand.old }
+    requires found { HasFound work.now hand.old finder.old }
     ensures hand { IsHand work.now.deal hand.new }
     ensures claimed { HasClaimed work.now.deal hand.old hand.new }
+    ensures found { HasFound work.now hand.new finder.new }
 {
     *hand = claimed(&work.deal, mem::replace(hand, Hand::Moving));
+    find_batch(work, hand, finder);
+}
+
+// Finds the batch that the number of `hand` claims, if it isn't found yet.
+fn find_batch<A: Allocator>(work: &RoundWork<A>, hand: &Hand, finder: &mut Finder<A>)
+    requires hand { IsHand work.now.deal hand.now }
+    requires finder { IsFinder work.now finder.old }
+    requires held { (batch_held finder.old.buffer ≡ None) ⊎ (batch_held finder.old.buffer ≡ batch_in work.now hand.now) }
+    ensures { HasFound work.now hand.now finder.new }
+{
+    if finder.batch().is_some() {
+        return;
+    }
+    if let Hand::Claimed(_, number) = hand {
+        let _count = work.len();
+        finder.find(work, *number - work.deal.base());
+    }
 }
 
 // Returns the batch that the number of `hand` claims.
-fn batch_of<'a, A: Allocator>(work: &'a RoundWork<A>, hand: &Hand) -> Option<&'a Batch<A>>
-    requires { IsHand work.now.deal hand.now }
+fn batch_of<'a, A: Allocator>(
+    work: &RoundWork<A>,
+    hand: &Hand,
+    finder: &'a Finder<A>,
+) -> Option<&'a Batch<A>>
+    requires hand { IsHand work.now.deal hand.now }
+    requires found { HasFound work.now hand.now finder.now }
     ensures value { option_copied result ≡ batch_in work.now hand.now }
     ensures batch { IfSome result (λ batch. IsBatch work.now.table batch.now) }
 {
-    match hand {
-        Hand::Claimed(_, number) => Some(&work.batches[(*number - work.deal.base()) as usize]),
-        Hand::Drawing(_) => None,
-        Hand::Ending(_, _) => None,
-        Hand::Ended(_) => None,
-        Hand::Moving => None,
-    }
+    let _count = work.len();
+    finder.batch()
 }
 
 // Takes one step, on the fields of a worker.
 fn step_parts<A: Allocator, M: GuestPages>(
     work: &RoundWork<A>,
     hand: &mut Hand,
+    finder: &mut Finder<A>,
     text: &mut Vec<u8, A>,
     offsets: &mut Offsets<A>,
     memory: &M,
 ) -> Result<(), NoMemory>
     requires table { (M.image memory.now).table ≡ work.now.table }
     requires hand { IsHand work.now.deal hand.old }
+    requires found { HasFound work.now hand.old finder.old }
     ensures hand { IsHand work.now.deal hand.new }
+    ensures found { HasFound work.now hand.new finder.new }
     ensures step { IsStep (M.image memory.now) work.now result hand.old hand.new text.old.items text.new.items }
 {
-    let in_hand = claimed(&work.deal, mem::replace(hand, Hand::Moving));
+    claim_in(work, hand, finder);
     let len = text.len();
-    match put_in_hand(work, &in_hand, text, offsets, memory) {
+    match put_packet(work, hand, finder, text, offsets, memory) {
         Ok(()) => {
-            *hand = written(in_hand);
+            *hand = written(mem::replace(hand, Hand::Moving));
             Ok(())
         }
         Err(NoMemory) => {
             text.truncate(len);
-            *hand = in_hand;
+            Err(NoMemory)
+        }
+    }
+}
+
+// Appends the packet of the worker's number, if it has one, and forgets its batch. After an `Err` a
+// part of it may have been appended, and the batch is kept.
+fn put_packet<A: Allocator, M: GuestPages>(
+    work: &RoundWork<A>,
+    hand: &Hand,
+    finder: &mut Finder<A>,
+    text: &mut Vec<u8, A>,
+    offsets: &mut Offsets<A>,
+    memory: &M,
+) -> Result<(), NoMemory>
+    requires table { (M.image memory.now).table ≡ work.now.table }
+    requires hand { IsHand work.now.deal hand.now }
+    requires found { HasFound work.now hand.now finder.old }
+    ensures ok { OnOk result (text.new.items ≡ text.old.items ++ hand_bytes (M.image memory.now) work.now hand.now) }
+    ensures forgets { OnOk result (HasFound work.now (after_packet hand.now) finder.new) }
+    ensures prefix { IsPrefix text.old.items text.new.items }
+    ensures refused { OnErr result (HasNumber hand.now) }
+    ensures kept { OnErr result (HasFound work.now hand.now finder.new) }
+{
+    put_in_hand(work, hand, finder, text, offsets, memory)?;
+    finder.forget()
+}
+
+// Appends the head of the packet of the batch that the worker's number claims.
+fn put_head_in<A: Allocator>(
+    work: &RoundWork<A>,
+    hand: &Hand,
+    finder: &Finder<A>,
+    text: &mut Vec<u8, A>,
+    offsets: &mut Offsets<A>,
+    zeros: &[bool],
+) -> Result<(), NoMemory>
+    requires hand { IsHand work.now.deal hand.now }
+    requires found { HasFound work.now hand.now finder.now }
+    requires zeros { IsSomeAnd (batch_in work.now hand.now) (λ batch. length zeros.now ≡ length batch.pages) }
+    ensures ok { OnOk result (WritesHead work.now hand.now zeros.now text.old.items text.new.items) }
+    ensures err { OnErr result (text.new.items ≡ text.old.items) }
+{
+    match hand {
+        Hand::Claimed(_, number) => {
+            let Some(batch) = batch_of(work, hand, finder) else {
+                unreachable!()
+            };
+            append_head(text, offsets, work.table(), batch, *number, zeros)
+        }
+        Hand::Drawing(_) => unreachable!(),
+        Hand::Ending(_, _) => unreachable!(),
+        Hand::Ended(_) => unreachable!(),
+        Hand::Moving => unreachable!(),
+    }
+}
+
+// Writes the head of a packet, on the fields of a worker.
+fn head_parts<A: Allocator>(
+    work: &RoundWork<A>,
+    hand: &mut Hand,
+    finder: &mut Finder<A>,
+    text: &mut Vec<u8, A>,
+    offsets: &mut Offsets<A>,
+    zeros: &[bool],
+) -> Result<(), NoMemory>
+    requires hand { IsHand work.now.deal hand.old }
+    requires found { HasFound work.now hand.old finder.old }
+    requires zeros { IsSomeAnd (batch_in work.now hand.old) (λ batch. length zeros.now ≡ length batch.pages) }
+    ensures hand { IsHand work.now.deal hand.new }
+    ensures found { HasFound work.now hand.new finder.new }
+    ensures ok { OnOk result ((hand.new ≡ after_packet hand.old) × WritesHead work.now hand.old zeros.now text.old.items text.new.items) }
+    ensures err { OnErr result ((hand.new ≡ hand.old) × (text.new.items ≡ text.old.items)) }
+{
+    let before = text.len();
+    put_head_in(work, hand, finder, text, offsets, zeros)?;
+    match finder.forget() {
+        Ok(()) => {
+            let sent = mem::replace(hand, Hand::Moving);
+            *hand = written(sent);
+            Ok(())
+        }
+        Err(NoMemory) => {
+            text.truncate(before);
             Err(NoMemory)
         }
     }
@@ -183,7 +297,7 @@ impl<A: Allocator> ChannelWorker<A> {
     pub fn table(&self) -> &Table<A>
         ensures { result.now ≡ self.now.terms.table }
     {
-        &self.shared.table
+        self.shared.table()
     }
 
     /// Returns the number of its channel.
@@ -212,7 +326,7 @@ impl<A: Allocator> ChannelWorker<A> {
         ensures packed { (image : Image) (before whole : List ℕ) → HasPacked image before whole self.old → HasPacked image before whole self.new }
         ensures packed_each { (memories : ℕ → Image) (before whole : List ℕ) → HasPackedEach memories before whole self.old → HasPackedEach memories before whole self.new }
     {
-        claim_in(&self.shared, &mut self.hand);
+        claim_in(&self.shared, &mut self.hand, &mut self.finder);
     }
 
     /// Returns the batch whose packet the next step writes. `None` before the worker has drawn a
@@ -221,7 +335,7 @@ impl<A: Allocator> ChannelWorker<A> {
         ensures value { option_copied result ≡ batch_in self.now.terms self.now.hand }
         ensures batch { IfSome result (λ batch. IsBatch self.now.terms.table batch.now) }
     {
-        batch_of(&self.shared, &self.hand)
+        batch_of(&self.shared, &self.hand, &self.finder)
     }
 
     /// Writes one packet: that of the next batch that no worker of the round has, or, if none is
@@ -246,9 +360,37 @@ impl<A: Allocator> ChannelWorker<A> {
         step_parts(
             &self.shared,
             &mut self.hand,
+            &mut self.finder,
             &mut self.text,
             &mut self.offsets,
             memory,
+        )
+    }
+
+    /// Writes the head of the next packet, whose pages the caller sends from where they lie, with
+    /// no copy. Call `claim` before, and pass for each page of `batch`, in its order, whether it is
+    /// zeros. What the channel gets then are the worker's bytes, drained or not, and after them the
+    /// contents of the other pages, in the order of the batch.
+    ///
+    /// The packet is that of the contents which are sent. So a guest may run on: what it writes
+    /// meanwhile is dirty, and is sent in a later round. A page that isn't zeros when it is tested
+    /// and is when it is sent is loaded all the same, but no contract says so.
+    ///
+    /// # Errors
+    ///
+    /// `NoMemory`: an allocation was refused. Nothing was written, and the call can be made again.
+    pub fn put_head(&mut self, zeros: &[bool]) -> Result<(), NoMemory>
+        requires zeros { IsSomeAnd (batch_in self.old.terms self.old.hand) (λ batch. length zeros.now ≡ length batch.pages) }
+        ensures head { OnOk result (PutsHead zeros.now self.old self.new) }
+        ensures err { OnErr result (self.new ≡ self.old) }
+    {
+        head_parts(
+            &self.shared,
+            &mut self.hand,
+            &mut self.finder,
+            &mut self.text,
+            &mut self.offsets,
+            zeros,
         )
     }
 

@@ -7,20 +7,22 @@
 //! packets of the batches that these claim.
 //!
 //! A caller with threads of its own begins a round by `MultiSender::begin_round`, and steps the
-//! workers that the `MultiRound` gives out, each a packet at a time. `work` is a worker that
+//! workers that the `MultiRound` gives out, each a packet at a time. Such a round keeps the dirty
+//! set, a bit a page, and each worker finds its batches in it (`finder`). `work` is a worker that
 //! returns its packets as a list. `pack` creates a single packet.
 //!
 //! `mig_stream` and `mig_packet` define the streams. The caller knows which pages are dirty, and
 //! when to send a round.
 //!
 //! Definitions to read first, in this order: `Sending`, `Batches`, `Packing`, `Work`, `Dealing`,
-//! `DealtRounds`, `MultiSending`; for workers that are stepped `ChannelWork`, `Copies` and
-//! `MultiRound` (`specs/`).
+//! `DealtRounds`, `MultiSending`; for workers that are stepped `ChannelWork`, `Finding`, `Copies`
+//! and `MultiRound` (`specs/`).
 #![tactic(auto)]
 
 mod batch;
 mod channel_worker;
 mod fault;
+mod finder;
 mod laws;
 mod multi;
 mod multi_round;

@@ -1,17 +1,18 @@
 //! A round of a sender on several channels whose workers run on threads of the caller's. It gives
 //! out a worker for each channel, takes them back once they have ended, and ends with a FLUSH.
 
-ghost use Rattle.std.specs.Prelude.{◌≡◌, ◌<◌, [], length, get_or, slice_set, All, IfOk, IfErr, OnOk, OnErr};
+ghost use Rattle.std.specs.Prelude.{◌≡◌, ◌<◌, ◌≤◌, ◌^◌, [], length, get_or, slice_set, IfOk, IfErr, OnOk, OnErr};
 ghost use Rattle.std.specs.Arc.{arc_value};
 ghost use Rattle.mig_mem.specs.PlaceSet.{IsPlaceSet};
-ghost use Rattle.mig_deal.specs.Deal.{IsWithinLimits};
-ghost use Rattle.mig_send.specs.Batches.{IsBatch};
+ghost use Rattle.mig_packet.specs.PageSize.{page_limit};
+ghost use Rattle.mig_send.specs.Batches.{IsCut};
+ghost use Rattle.mig_send.specs.Finding.{cut_of};
 ghost use Rattle.mig_send.specs.ChannelWork.{HasEnded};
-ghost use Rattle.mig_send.specs.MultiRound.{HasBegun, IsBeginFault, IsDealtTo, IsDealtOut, HandsOut, TakesBack, EndsRound, handed_out};
+ghost use Rattle.mig_send.specs.MultiRound.{HasBegun, IsBeginFault, IsDealtTo, IsDealtOut, HandsOut, IsTakenBack, TakesBack, EndsRound, handed_out};
 
 use crate::SendFault;
-use crate::batch::{Batch, cut};
 use crate::channel_worker::{ChannelWorker, Hand};
+use crate::finder::{Finder, count_batches};
 use crate::multi::{LAST_BASE, MultiSender};
 use crate::packed::Offsets;
 use crate::round_work::RoundWork;
@@ -53,26 +54,30 @@ impl<A: Allocator> Debug for MultiRound<A> {
     }
 }
 
-// Deals batches of a table to `seats` seats.
+// Deals the batches of a dirty set to `seats` seats.
 fn deal_out<A: Allocator + Copy>(
     alloc: A,
     base: u64,
-    table: &Table<A>,
-    batches: Vec<Batch<A>, A>,
+    dirty: Dirty<A>,
+    limit: usize,
     seats: usize,
 ) -> Result<(Arc<RoundWork<A>, A>, Vec<Seat, A>), NoMemory>
-    requires limits { IsWithinLimits base (length batches.items) seats }
-    requires batches { All (IsBatch table.now) batches.items }
-    ensures { IfOk result (λ r. IsDealtTo base table.now batches.items seats (arc_value r.0) r.1.items) }
+    requires base { base ≤ 2 ^ 63 }
+    requires set { IsPlaceSet dirty }
+    requires limit { (0 < limit) × (limit ≤ page_limit dirty.table.page_size) }
+    requires seats { (0 < seats) × (seats ≤ 255) }
+    ensures dealt { IfOk result (λ r. IsDealtTo base dirty.table (cut_of limit dirty.marked) seats (arc_value r.0) r.1.items) }
+    ensures cut { OnOk result (IsCut limit dirty.marked (cut_of limit dirty.marked)) }
 {
-    let table = table.copy_in(alloc)?;
-    let Ok((deal, seats)) = Deal::new(alloc, base, batches.len() as u64, seats) else {
+    let count = count_batches(&dirty, limit);
+    let Ok((deal, seats)) = Deal::new(alloc, base, count, seats) else {
         return Err(NoMemory);
     };
     let work = RoundWork {
         deal,
-        table,
-        batches,
+        dirty,
+        limit,
+        count,
     };
     match Arc::new(alloc, work) {
         Ok(shared) => Ok((shared, seats)),
@@ -81,8 +86,8 @@ fn deal_out<A: Allocator + Copy>(
 }
 
 impl<A: Allocator + Copy> MultiSender<A> {
-    /// Begins a round whose workers run on threads of the caller's: cuts the dirty pages into
-    /// batches and deals these out. It starts no thread.
+    /// Begins a round whose workers run on threads of the caller's: copies the dirty set, and deals
+    /// out the batches of its pages. It makes no list of them, and starts no thread.
     ///
     /// # Errors
     ///
@@ -97,6 +102,29 @@ impl<A: Allocator + Copy> MultiSender<A> {
         ensures ok { IfOk result (λ round. HasBegun dirty.now self round) }
         ensures same { IfErr result (λ e. e.0 ≡ self) }
         ensures refused { IfErr result (λ e. IsBeginFault self.main.table dirty.now.table e.1) }
+    {
+        if !dirty.table().same(self.main.table()) {
+            return Err((self, SendFault::OtherTable));
+        }
+        match dirty.copy_in(self.alloc) {
+            Ok(copy) => self.begin_round_with(copy),
+            Err(NoMemory) => Err((self, SendFault::NoMemory)),
+        }
+    }
+
+    /// Begins a round as `begin_round` does, with a dirty set that the caller gives up: the round
+    /// keeps it, and copies nothing.
+    ///
+    /// # Errors
+    ///
+    /// Those of `begin_round`. The set is dropped.
+    pub fn begin_round_with(
+        self,
+        dirty: Dirty<A>,
+    ) -> Result<MultiRound<A>, (MultiSender<A>, SendFault)>
+        ensures ok { IfOk result (λ round. HasBegun dirty self round) }
+        ensures same { IfErr result (λ e. e.0 ≡ self) }
+        ensures refused { IfErr result (λ e. IsBeginFault self.main.table dirty.table e.1) }
     {
         if !dirty.table().same(self.main.table()) {
             return Err((self, SendFault::OtherTable));
@@ -116,20 +144,21 @@ impl<A: Allocator + Copy> MultiSender<A> {
     }
 
     // Returns what the workers of a round share, and their seats.
-    fn dealt_out<C: Allocator>(
-        &self,
-        dirty: &Dirty<C>,
-    ) -> Result<(Arc<RoundWork<A>, A>, Vec<Seat, A>), NoMemory>
-        requires table { dirty.now.table ≡ self.now.main.table }
-        requires set { IsPlaceSet dirty.now }
-        ensures { IfOk result (λ r. IsDealtOut dirty.now self.now (arc_value r.0) r.1.items) }
+    fn dealt_out(&self, dirty: Dirty<A>) -> Result<(Arc<RoundWork<A>, A>, Vec<Seat, A>), NoMemory>
+        requires table { dirty.table ≡ self.now.main.table }
+        requires set { IsPlaceSet dirty }
+        ensures { IfOk result (λ r. IsDealtOut dirty self.now (arc_value r.0) r.1.items) }
     {
         if self.base > LAST_BASE {
             return Err(NoMemory);
         }
-        let table = self.main.table();
-        let batches = cut(self.alloc, table, dirty, self.limit)?;
-        deal_out(self.alloc, self.base, table, batches, self.channels.len())
+        deal_out(
+            self.alloc,
+            self.base,
+            dirty,
+            self.limit,
+            self.channels.len(),
+        )
     }
 
     // Takes the bytes of a channel that the round holds.
@@ -159,8 +188,8 @@ impl<A: Allocator + Copy> MultiRound<A> {
     ///
     /// # Errors
     ///
-    /// `NoMemory`: there are more than 2^63 owners of what the workers share. The round is as it
-    /// was.
+    /// `NoMemory`: an allocation was refused, or there are more than 2^63 owners of what the workers
+    /// share. The round is as it was.
     pub fn worker(&mut self) -> Result<ChannelWorker<A>, NoMemory>
         requires left { 0 < length self.old.seats }
         ensures ok { IfOk result (λ worker. HandsOut self.old self.new worker) }
@@ -169,6 +198,9 @@ impl<A: Allocator + Copy> MultiRound<A> {
         let Ok(shared) = Arc::try_clone(&self.shared) else {
             return Err(NoMemory);
         };
+        let limit = shared.limit();
+        let room = Vec::with_capacity(*self.seats.allocator(), limit)?;
+        let finder = Finder::new(&shared, limit, room);
         let channel = self.sender.channels() - self.seats.len();
         let Some(seat) = self.seats.pop() else {
             unreachable!()
@@ -181,6 +213,7 @@ impl<A: Allocator + Copy> MultiRound<A> {
             hand: Hand::Drawing(seat),
             text,
             offsets,
+            finder,
         })
     }
 }
@@ -214,6 +247,21 @@ impl<A: Allocator> MultiRound<A> {
         self.spents.len()
     }
 
+    /// Takes the round back: it sends nothing, and the sender is as it was before `begin_round`. No
+    /// worker was given out. A caller tests that by `workers_left`, which is then `channels`.
+    pub fn take_back(self) -> MultiSender<A>
+        requires { length self.seats ≡ length self.sender.channels }
+        ensures { IsTakenBack self result }
+    {
+        let MultiRound {
+            sender,
+            shared: _,
+            seats: _,
+            spents: _,
+        } = self;
+        sender
+    }
+
     /// Takes back a worker that has ended. Workers are given back in the order of their channels.
     /// Bytes that it didn't drain are the sender's again.
     ///
@@ -234,6 +282,7 @@ impl<A: Allocator> MultiRound<A> {
             hand,
             text,
             offsets,
+            finder,
         } = worker;
         let Hand::Ended(spent) = hand else {
             unreachable!()
@@ -249,6 +298,7 @@ impl<A: Allocator> MultiRound<A> {
                 hand: Hand::Ended(spent),
                 text,
                 offsets,
+                finder,
             }),
         }
     }
@@ -281,7 +331,7 @@ impl<A: Allocator> MultiRound<A> {
                 spents,
             });
         };
-        sender.base += (shared.batches.len() + sender.channels.len()) as u64;
+        sender.base += shared.len() + sender.channels.len() as u64;
         sender.rounds += 1;
         let _next = shared.deal.end_number(spents);
         Ok(sender)

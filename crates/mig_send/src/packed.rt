@@ -1,16 +1,17 @@
 //! Packs batches: into a packet of its own for `worker`, and after a channel's bytes for `share`.
 
-ghost use Rattle.std.specs.Prelude.{◌≡◌, ◌+◌, ◌<◌, ◌≤◌, ◌++◌, length, map, All, IfOk, OnOk};
+ghost use Rattle.std.specs.Prelude.{◌≡◌, ◌+◌, ◌<◌, ◌≤◌, ◌++◌, length, map, zip, All, IfOk, OnOk, OnErr};
 ghost use Rattle.mig_mem.specs.RamTable.{IsTable};
 ghost use Rattle.mig_mem.specs.Place.{IsPlace, place_at};
 ghost use Rattle.mig_mem.specs.Image.{content_at};
 ghost use Rattle.mig_zero.specs.Zero.{is_zero as zero_test};
 ghost use Rattle.mig_send.specs.Batches.{IsBatch};
 ghost use Rattle.mig_packet.specs.PageSize.{page_limit};
+ghost use Rattle.mig_send.specs.Heads.{zeros_at, others_at, batch_head};
 ghost use Rattle.mig_send.specs.Packing.{IsPacked, IsPrefix, packed_of, normal_offsets, zero_offsets, contents_at, packet_at};
 
 use crate::Batch;
-use mig_mem::{GuestPages, NoMemory, Place};
+use mig_mem::{GuestPages, NoMemory, Place, Table};
 use mig_packet::{head_len, put_packet_head};
 use mig_zero::is_zero;
 use std::alloc::{Allocator, Global};
@@ -210,6 +211,66 @@ fn append_contents<A: Allocator, M: GuestPages>(
         if let Some(content) = memory.page(Place { block, page }) {
             text.extend_from_slice(content)?;
         }
+    }
+    Ok(())
+}
+
+/// Appends the head of the packet of a batch to `text`: `zeros` says of each of its pages whether
+/// it is zeros. After an `Err` `text` has its bytes.
+pub(crate) fn append_head<A: Allocator, C: Allocator, D: Allocator>(
+    text: &mut Vec<u8, A>,
+    offsets: &mut Offsets<A>,
+    table: &Table<D>,
+    batch: &Batch<C>,
+    number: u64,
+    zeros: &[bool],
+) -> Result<(), NoMemory>
+    requires batch { IsBatch table.now batch.now }
+    requires zeros { length zeros.now ≡ length batch.now.pages }
+    ensures ok { OnOk result (text.new.items ≡ text.old.items ++ batch_head table.now batch.now number zeros.now) }
+    ensures err { OnErr result (text.new.items ≡ text.old.items) }
+{
+    // as in `pack`
+    table.keeps_limits();
+    let Offsets { normal, zero } = offsets;
+    let Ok(()) = put_flagged(normal, zero, table, batch.block, &batch.pages, zeros) else {
+        return Err(NoMemory);
+    };
+    let id = table.id(batch.block);
+    match put_packet_head(table.page_size(), text, number, false, id, normal, zero) {
+        Ok(()) => Ok(()),
+        Err(_) => Err(NoMemory),
+    }
+}
+
+// Puts the offsets of some pages of a block into two lists, in place of what these had: of those
+// that are said to be zeros, and of the others.
+fn put_flagged<A: Allocator, D: Allocator>(
+    others: &mut Vec<u64, A>,
+    blank: &mut Vec<u64, A>,
+    table: &Table<D>,
+    block: usize,
+    pages: &[u64],
+    zeros: &[bool],
+) -> Result<(), NoMemory>
+    requires table { IsTable table.now }
+    requires places { All (IsPlace table.now) (map (place_at block) pages.now) }
+    requires zeros { length zeros.now ≡ length pages.now }
+    ensures normal { OnOk result (others.new.items ≡ others_at table.now.page_size (zip pages.now zeros.now)) }
+    ensures zero { OnOk result (blank.new.items ≡ zeros_at table.now.page_size (zip pages.now zeros.now)) }
+{
+    let page_size = table.page_size();
+    others.clear();
+    blank.clear();
+    others.reserve(pages.len())?;
+    blank.reserve(pages.len())?;
+    for i in 0..pages.len() {
+        let offset = pages[i] * page_size;
+        if zeros[i] {
+            blank.push(offset)?;
+            continue;
+        }
+        others.push(offset)?;
     }
     Ok(())
 }

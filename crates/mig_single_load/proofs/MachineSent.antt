@@ -19,7 +19,7 @@ use Rattle.mig_stream.specs.MachineWritten.{machine_written}
 use Rattle.mig_stream.specs.Law.{closed}
 use Rattle.mig_stream.proofs.SpelledText.{spelled_law}
 use Rattle.mig_stream.proofs.SpelledMachine.{machine_is_read}
-use Rattle.mig_single_load.proofs.LetThrough.{through_law}
+use Rattle.mig_stream.proofs.LetThrough.{through_law}
 use Rattle.mig_stream.proofs.WrittenText.{written_single}
 use Rattle.mig_stream.proofs.WrittenMachine.{machine_singles}
 use Rattle.mig_single_load.specs.declared.settings.LoadSettings.{LoadSettings}

@@ -59,4 +59,4 @@ mod Examples
 mod Room
 mod Unlimited
 pub mod ClosedMain
-mod LetThrough
+pub mod LetThrough

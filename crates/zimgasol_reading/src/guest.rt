@@ -9,7 +9,7 @@ use crate::blocks::Blocks;
 use crate::sink::PageSink;
 use mig_assemble::{Arrivals, RoundFault};
 use mig_mem::{Place, Table};
-use mig_packet::{Packet, PacketHead, PacketRead, page_limit, put_packet, read_packet};
+use mig_packet::PacketHead;
 use mig_stream::StreamRound;
 use std::alloc::Global;
 use std::fs::Files;
@@ -18,50 +18,12 @@ use zimgasol_files::Trouble;
 // The most packets that are numbered, which is more than files can have.
 const PACKET_LIMIT: u64 = 1 << 63;
 
-/// The most bytes of an id in a packet.
-const MOST_ID_LEN: usize = 255;
-
 /// A guest whose rounds are read from several channels.
 #[derive(Drop)]
 pub struct Guest {
     /// The blocks, and their records and packets' pages in all rounds so far.
     pub blocks: Blocks,
     arrivals: Arrivals,
-    // the offsets of a packet, and the packet of zeros that has them
-    offsets: Vec<u64>,
-    bytes: Vec<u8>,
-}
-
-// Lists the offsets of a packet's pages.
-fn list_offsets(head: &PacketHead<'_>, offsets: &mut Vec<u64>) -> Result<(), Trouble> {
-    offsets.clear();
-    for i in 0..head.normal_len().saturating_add(head.zero_len()) {
-        offsets.push(head.offset(i))?;
-    }
-    Ok(())
-}
-
-// Makes the packet of zeros with the number, flags, id and pages of `head`. None if it can't be
-// written.
-fn zeros_of<'b>(
-    head: &PacketHead<'_>,
-    offsets: &[u64],
-    bytes: &'b mut Vec<u8>,
-) -> Option<Packet<'b>> {
-    let page_size = head.page_size();
-    let id = head.id();
-    if offsets.len() > page_limit(page_size) || id.len() > MOST_ID_LEN {
-        return None;
-    }
-    bytes.clear();
-    let (number, sync) = (head.number(), head.sync());
-    let Ok(()) = put_packet(page_size, bytes, number, sync, id, &[], &[], offsets) else {
-        return None;
-    };
-    match read_packet(page_size, bytes) {
-        PacketRead::Whole(packet, _) => Some(packet),
-        PacketRead::Cut | PacketRead::Bad(_) => None,
-    }
 }
 
 impl Guest {
@@ -70,22 +32,15 @@ impl Guest {
         Ok(Guest {
             blocks: Blocks::new(alloc, table.try_copy()?)?,
             arrivals: Arrivals::new(alloc, table)?,
-            offsets: Vec::new(alloc),
-            bytes: Vec::new(alloc),
         })
     }
 
-    /// Adds a packet to the current round, by its head: as the packet of zeros with the same number
-    /// and pages, since a round is judged by these alone.
+    /// Adds the packet of a head to the current round. Its pages follow.
     pub fn packet(&mut self, head: &PacketHead<'_>) -> Result<(), Trouble> {
-        list_offsets(head, &mut self.offsets)?;
-        let Some(packet) = zeros_of(head, &self.offsets, &mut self.bytes) else {
-            return Err(Trouble::NoMemory);
-        };
-        if packet.page_size() != self.arrivals.table().page_size() {
+        if head.page_size() != self.arrivals.table().page_size() {
             return Err(Trouble::NoMemory);
         }
-        self.arrivals.packet(&packet)?;
+        self.arrivals.packet(head)?;
         Ok(())
     }
 

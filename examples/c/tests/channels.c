@@ -80,18 +80,28 @@ static uint32_t pack_copied(zimgasol_worker *worker) {
     return status;
 }
 
-/* A round of these pages, and the statuses of its calls on the way. A worker takes a step whole, or
- * in two halves, or is told its batch and then takes the step whole. */
+/* A round of these pages, and the statuses of its calls on the way. It is begun from a list, taken
+ * back, and begun from bitmaps. A worker takes a step whole, or in two halves, or is told its batch
+ * and then takes the step whole. */
 static int send_round(zimgasol_multi *multi, const zimgasol_place *dirty, size_t count) {
     zimgasol_worker workers[CHANNELS] = {{0}}, none = {0};
     zimgasol_place outside = {1, OTHER};
     zimgasol_lent short_one[2] = {lent[0], {guest[1], OTHER * PAGE - 1}};
+    uint64_t marks[2][PAGES / 64 + 1] = {{0}};
+    zimgasol_bitmap bitmaps[2] = {{marks[0], PAGES / 64 + 1}, {marks[1], 1}};
     uint8_t out[100];
+    for (size_t i = 0; i < count; i++)
+        marks[dirty[i].block][dirty[i].page / 64] |= (uint64_t)1 << dirty[i].page % 64;
     WANT(zimgasol_multi_end_round(multi) == ZIMGASOL_OUT_OF_TURN);
+    WANT(zimgasol_multi_take_back_round(multi) == ZIMGASOL_OUT_OF_TURN);
     WANT(zimgasol_multi_worker(multi, &none) == ZIMGASOL_OUT_OF_TURN && none.full == 0);
     WANT(zimgasol_multi_begin_round(multi, &outside, 1) == ZIMGASOL_NO_PAGE);
     WANT(zimgasol_multi_begin_round(multi, dirty, count) == ZIMGASOL_DONE);
     WANT(zimgasol_multi_begin_round(multi, dirty, count) == ZIMGASOL_OUT_OF_TURN);
+    WANT(zimgasol_multi_take_back_round(multi) == ZIMGASOL_DONE);
+    WANT(zimgasol_multi_begin_round_bitmaps(multi, bitmaps, 1) == ZIMGASOL_BAD_LENGTH);
+    WANT(zimgasol_multi_begin_round_bitmaps(multi, bitmaps, 2) == ZIMGASOL_DONE);
+    WANT(zimgasol_multi_begin_round_bitmaps(multi, bitmaps, 2) == ZIMGASOL_OUT_OF_TURN);
     WANT(zimgasol_multi_finish(multi) == ZIMGASOL_OUT_OF_TURN &&
         zimgasol_multi_finish_open(multi) == ZIMGASOL_OUT_OF_TURN);
     for (size_t j = 0; j < CHANNELS; j++) {
@@ -99,6 +109,7 @@ static int send_round(zimgasol_multi *multi, const zimgasol_place *dirty, size_t
         WANT(zimgasol_worker_channel(&workers[j]) == j);
     }
     WANT(zimgasol_multi_worker(multi, &none) == ZIMGASOL_OUT_OF_TURN && none.full == 0);
+    WANT(zimgasol_multi_take_back_round(multi) == ZIMGASOL_OUT_OF_TURN);
     WANT(zimgasol_worker_step(&workers[0], lent, 1) == ZIMGASOL_BAD_LENGTH);
     WANT(zimgasol_worker_step(&workers[0], short_one, 2) == ZIMGASOL_BAD_LENGTH);
     WANT(zimgasol_worker_pack(&workers[0], guest[0], PAGE) == ZIMGASOL_OUT_OF_TURN);

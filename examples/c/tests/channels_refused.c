@@ -7,7 +7,7 @@
 #include "refusing.h"
 #include <string.h>
 
-enum { PAGE = 4096, CHANNELS = 2, PAGES = 7, SOURCES = 1 + CHANNELS, MOST = 1 << 17 };
+enum { PAGE = 4096, CHANNELS = 3, PAGES = 11, SOURCES = 1 + CHANNELS, MOST = 1 << 17 };
 
 static uint8_t guest[PAGES * PAGE], loaded[PAGES * PAGE];
 static uint8_t stream[SOURCES][MOST], first[SOURCES][MOST];
@@ -29,6 +29,9 @@ static void drain_worker(zimgasol_worker *worker) {
     }
 }
 
+/* How a worker's next packet is written. */
+typedef uint32_t way(zimgasol_worker *);
+
 static uint32_t pack_lent(zimgasol_worker *worker) {
     return zimgasol_worker_step(worker, lent, 1);
 }
@@ -45,11 +48,35 @@ static uint32_t pack_copied(zimgasol_worker *worker) {
     return zimgasol_worker_pack(worker, copy, batch.count * PAGE);
 }
 
-/* Steps a worker once, again where it was refused, whole or in two halves. Returns whether its
- * channel goes on. */
+/* The next packet's head is written, and its pages follow from where they lie. */
+static uint32_t send_head(zimgasol_worker *worker) {
+    uint8_t zeros[2], head[1344];
+    zimgasol_batch batch;
+    size_t source = 1 + zimgasol_worker_channel(worker), len = 0;
+    uint32_t status = zimgasol_worker_next(worker, &batch);
+    if (status != ZIMGASOL_RUNNING) return status;
+    drain_worker(worker);
+    for (size_t i = 0; i < batch.count; i++) zeros[i] = guest[batch.pages[i] * PAGE] == 0;
+    status = zimgasol_worker_head(worker, zeros, batch.count, head, sizeof head, &len);
+    if (status != ZIMGASOL_RUNNING) {
+        WANT(len == 0);
+        return status;
+    }
+    memcpy(stream[source] + length[source], head, len);
+    length[source] += len;
+    for (size_t i = 0; i < batch.count; i++) {
+        if (zeros[i]) continue;
+        memcpy(stream[source] + length[source], guest + batch.pages[i] * PAGE, PAGE);
+        length[source] += PAGE;
+    }
+    return status;
+}
+
+/* Steps a worker once, again where it was refused: whole, by a copy, or by a head. Returns whether
+ * its channel goes on. */
 static int steps(zimgasol_worker *worker) {
-    uint32_t (*step)(zimgasol_worker *) =
-        zimgasol_worker_channel(worker) == 0 ? pack_lent : pack_copied;
+    static way *const ways[CHANNELS] = {pack_lent, pack_copied, send_head};
+    way *step = ways[zimgasol_worker_channel(worker)];
     uint32_t status = step(worker);
     if (status == ZIMGASOL_NO_MEMORY) {
         WANT(refusals == 1);

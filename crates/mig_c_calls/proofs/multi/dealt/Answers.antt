@@ -9,12 +9,12 @@ use Rattle.mig_c_calls.specs.Multi.{IsInRound, place_of, set_of}
 use Rattle.mig_c_calls.proofs.Sends.{begins}
 use Rattle.mig_c_calls.proofs.multi.dealt.Goals as goal
 
-pub returns-in-Ok-begin_round : goal.returns-in-Ok-begin_round
-returns-in-Ok-begin_round c =
+pub returns-in-Ok-begin_round_with : goal.returns-in-Ok-begin_round_with
+returns-in-Ok-begin_round_with c =
     let sender = c.args.sender in
     let places : List Place = map place_of c.args.places.now in
-    let r = c.in-Ok-begin_round.round in
-    let begun = c.in-Ok-begin_round.ensures.ok in (
+    let r = c.in-Ok-begin_round_with.round in
+    let begun = c.in-Ok-begin_round_with.ensures.ok in (
       record {
         is_named = refl;
         begins = λ _ setting image drained rounds sends.
@@ -24,22 +24,6 @@ returns-in-Ok-begin_round c =
             (begins c.in-Ok.dirty sender r setting image drained rounds begun sends.0 sends.1);
         all_left = λ _. (begun.all_left ∙ ap (λ (s : MultiSending). length s.channels) (sym begun.same_sender), begun.none_back);
         same = λ no. absurd (no refl);
-        wrong = grind arith;
-        in_turn = λ _. tt;
-        foreign = grind arith;
-        has_places = λ _ _. subst (λ (t : RamTable). All (IsPlace t) places) c.table.ensures (c.if-not-has_all.ensures.0 refl);
-      },
-      grind arith,
-    )
-
-pub returns : goal.returns
-returns c =
-    let places : List Place = map place_of c.args.places.now in (
-      record {
-        is_named = refl;
-        begins = grind arith;
-        all_left = grind arith;
-        same = λ _. c.in-Err.ensures.same;
         wrong = grind arith;
         in_turn = λ _. tt;
         foreign = grind arith;

@@ -27,4 +27,4 @@ returns-clause-pages g c =
     let step = subst (λ (terms : RoundTerms). IsStep image terms c.step_parts.result old.hand new.hand old.text.items new.text.items)
     c.deref.ensures c.step_parts.ensures.step in
     subst (λ (x : ChannelWork). PacksPages image c.step_parts.result x after) c.self.view_is
-    (packs_pages image c.step_parts.result work after table c.self.invariant (record { same_terms = refl; same_channel = refl; is_step = step }))
+    (packs_pages image c.step_parts.result work after table c.self.invariant.0 (record { same_terms = refl; same_channel = refl; is_step = step }))

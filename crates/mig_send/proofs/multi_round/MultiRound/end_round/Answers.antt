@@ -10,6 +10,22 @@ use Rattle.mig_send.proofs.Counting.{few_batches}
 use Rattle.mig_send.proofs.OpenRounds.{ends_round}
 use Rattle.mig_send.proofs.multi_round.MultiRound.end_round.Goals as goal
 
+pub overflow_add-sender : goal.overflow_add-sender
+overflow_add-sender g c =
+    let s = c.self.inside in
+    let channels = c.sender.inside.channels in
+    let terms = arc_value s.shared in
+    omega (
+      arith,
+      few_batches (record { table = terms.table; marked = dirty_of terms }) s.sender.limit terms.batches c.self.invariant.are_places c.self.invariant.are_cut,
+      ap (λ (t : RoundTerms). length t.batches) c.deref.ensures,
+      c.len.ensures.value,
+      c.sender.invariant.is_set.has_channels.1,
+      c.len-2.ensures,
+      channels.ok.0,
+      length-map channels.items (λ (text : Vec ℕ _). text.items),
+    )
+
 pub overflow_add-sender-2 : goal.overflow_add-sender-2
 overflow_add-sender-2 g c =
     let s = c.self.inside in
@@ -20,9 +36,8 @@ overflow_add-sender-2 g c =
       c.self.invariant.base_fits,
       ap (λ (m : MultiSending). m.base) c.sender.view_is,
       few_batches (record { table = terms.table; marked = dirty_of terms }) s.sender.limit terms.batches c.self.invariant.are_places c.self.invariant.are_cut,
-      ap (λ (t : RoundTerms). length t.batches) (c.behind-shared.view_is ∙ c.deref.ensures),
-      c.len.ensures,
-      c.behind-shared.inside.batches.ok.0,
+      ap (λ (t : RoundTerms). length t.batches) c.deref.ensures,
+      c.len.ensures.value,
       c.sender.invariant.is_set.has_channels.1,
       c.len-2.ensures,
       channels.ok.0,
@@ -40,7 +55,7 @@ returns-clause-ok g c =
     let is : IsOpenMulti round = subst IsOpenMulti (sym opened) c.self.invariant in
     let all : length round.spents ≡ length round.sender.channels =
     subst (λ (r : OpenMulti). length r.spents ≡ length r.sender.channels) (sym (opened ∙ c.self.view_is)) c.requires.all in
-    let deal = ap (λ (t : RoundTerms). t.deal) (c.behind-shared-2.view_is ∙ c.deref-2.ensures) in
+    let deal = ap (λ (t : RoundTerms). t.deal) (c.behind-shared.view_is ∙ c.deref-2.ensures) in
     let next = c.end_number-next in
     let end : next.result ≡ end_of_deal terms.deal = subst (λ (d : DealView). next.result ≡ end_of_deal d) deal next.ensures.next in
     let once : HasEachOnce terms.deal.base next.result (all_drawn round.spents) =
@@ -48,9 +63,8 @@ returns-clause-ok g c =
     let base : x.base + (c.len.result + c.len-2.result) ≡ x.base + (length terms.batches + length sender.channels) =
     omega (
       arith,
-      ap (λ (t : RoundTerms). length t.batches) (c.behind-shared.view_is ∙ c.deref.ensures),
-      c.len.ensures,
-      c.behind-shared.inside.batches.ok.0,
+      ap (λ (t : RoundTerms). length t.batches) c.deref.ensures,
+      c.len.ensures.value,
       c.len-2.ensures,
       x.channels.ok.0,
       length-map x.channels.items (λ (text : Vec ℕ _). text.items),

@@ -18,7 +18,7 @@ invariant_of-self g c =
     ap (λ (x : ChannelWork). x.terms) c.worker.view_is ∙ (c.requires.own ∙ sym (ap (λ (x : OpenMulti). x.terms) c.self.view_is)) in
     let few : length old.spents < handed_out old = subst (λ (x : OpenMulti). length x.spents < handed_out x) (sym c.self.view_is) c.requires.turn.1 in
     let IsOwn : SeatView → Type 0 = λ seat. seat.deal ≡ (arc_value w.shared).deal in
-    let own = subst (λ (hand : Hand). All IsOwn (seats_of hand)) c.in-Ended.is c.worker.invariant.own in
+    let own = subst (λ (hand : Hand). All IsOwn (seats_of hand)) c.in-Ended.is c.worker.invariant.0.own in
     let of_deal : spent.deal ≡ old.terms.deal = own 0 spent (omega arith) ∙ ap (λ (t : RoundTerms). t.deal) terms in
     back_open old c.put_channel.new.self c.push.new.self.items spent w.channel w.text.items c.self.invariant few of_deal c.put_channel.ensures c.in-Ok.ensures.items
 
