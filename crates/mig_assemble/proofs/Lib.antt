@@ -17,3 +17,4 @@ pub mod Once
 pub mod LawfulRounds
 pub mod Arriving
 pub mod Heads
+pub mod HeadPlaces

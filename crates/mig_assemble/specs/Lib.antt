@@ -5,6 +5,7 @@ pub mod Lawful
 pub mod Target
 pub mod Law
 pub mod RoundFaultNumber
+pub mod HeadPlaces
 -- Private: only contracts of private functions name these.
 pub mod Sorted
 pub mod Seen

@@ -8,19 +8,20 @@
 ghost use Rattle.std.specs.Prelude.{◌≡◌, ◌+◌, ◌≤◌, ◌^◌, ◌↔◌, [], ◌∷◌, length, None, Some, IsTrue, OnOk, OnErr, IfOk, IfErr};
 ghost use Rattle.std.specs.Option.{option_map};
 ghost use Rattle.mig_mem.specs.First.{first_some};
-ghost use Rattle.mig_packet.specs.Lent.{fields};
+ghost use Rattle.mig_packet.specs.PacketHead.{as_zeros};
 ghost use Rattle.mig_assemble.specs.declared.fault.RoundFault.TheVariants.{DoublePage};
 ghost use Rattle.mig_assemble.specs.Target.{FitsTable, pages_of_round};
+ghost use Rattle.mig_assemble.specs.HeadPlaces.{Lie};
 ghost use Rattle.mig_assemble.specs.Arrivals.{Records, OnePacket, lesser_misplaced, HasCome, AlsoHas, HasSame, IsJudged};
 ghost use Rattle.mig_assemble.specs.Arrivals.{ArrivalsMakeTheRound, OtherPlacesStay, HeadsAreJudged};
 
 use crate::RoundFault;
-use crate::doubles::{mark_packet, mark_records};
+use crate::doubles::{mark_pages, mark_records};
 use crate::numbers::unsorted_fault;
-use crate::places::place_fault;
+use crate::places::{Pages, pages_of};
 use crate::target::fits;
 use mig_mem::{Dirty, NoMemory, Place, Table};
-use mig_packet::Packet;
+use mig_packet::PacketHead;
 use mig_stream::StreamRound;
 use std::alloc::{Allocator, Global};
 use std::fmt;
@@ -109,28 +110,30 @@ impl<A: Allocator> Arrivals<A> {
         self.double = mark_records(&mut self.seen, self.double, round);
     }
 
-    /// Adds a packet, whatever its number and the places of its pages.
+    /// Adds the packet of a head, whatever its number and the places of its pages. Returns where they
+    /// are.
     ///
     /// # Errors
     ///
     /// `NoMemory`: an allocation was refused. Nothing changes.
-    pub fn packet(&mut self, packet: &Packet<'_>) -> Result<(), NoMemory>
-        requires page_size { packet.now.page_size ≡ self.old.seen.table.page_size }
-        ensures come { OnOk result (AlsoHas (OnePacket (fields packet.now)) self.old self.new) }
+    pub fn packet(&mut self, head: &PacketHead<'_>) -> Result<Pages, NoMemory>
+        requires page_size { head.now.page_size ≡ self.old.seen.table.page_size }
+        ensures come { OnOk result (AlsoHas (OnePacket (as_zeros head.now.bytes.now)) self.old self.new) }
+        ensures lie { IfOk result (Lie self.old.seen.table head.now.bytes.now) }
         ensures err { OnErr result (self.new ≡ self.old) }
     {
-        self.numbers.push(packet.number())?;
-        match place_fault(self.seen.table(), packet) {
-            Some(fault) => {
-                let new = WrongPacket {
-                    number: packet.number(),
-                    fault,
-                };
+        let number = head.number();
+        self.numbers.push(number)?;
+        let pages = pages_of(self.seen.table(), head);
+        match pages {
+            Pages::Nowhere => {}
+            Pages::In(block) => self.double = mark_pages(&mut self.seen, self.double, head, block),
+            Pages::Misplaced(fault) => {
+                let new = WrongPacket { number, fault };
                 self.misplaced = lesser_misplaced(self.misplaced, new);
             }
-            None => self.double = mark_packet(&mut self.seen, self.double, packet),
         }
-        Ok(())
+        Ok(pages)
     }
 
     /// Judges all that arrived as one complete round, whose packets must be numbered from `base`

@@ -5,13 +5,14 @@ ghost use Rattle.std.specs.Prelude.{◌≡◌, ◌<◌, ◌∷◌, [], map, leng
 ghost use Rattle.mig_mem.specs.RamTable.{block as block_at};
 ghost use Rattle.mig_mem.specs.Place.{IsPlace, place_eq, place_lt};
 ghost use Rattle.mig_packet.specs.Lent.{fields};
-ghost use Rattle.mig_assemble.specs.Judging.{offsets, is_outside, place_fault, pages_in, packet_pages, all_round_pages, places_of, least, lesser, twice};
+ghost use Rattle.mig_packet.specs.PacketHead.{offsets_in, as_zeros};
+ghost use Rattle.mig_assemble.specs.Judging.{is_outside, place_fault, pages_in, packet_pages, all_round_pages, places_of, least, lesser, twice};
 ghost use Rattle.mig_assemble.specs.Seen.{HasSeen, SeesMore, SeesLess};
 ghost use Rattle.mig_assemble.specs.Target.{FitsTable, pages_of_round};
 
 use crate::places::{offset, page_count};
 use mig_mem::{Dirty, Place};
-use mig_packet::Packet;
+use mig_packet::{Packet, PacketHead};
 use mig_stream::StreamRound;
 use std::alloc::Allocator;
 
@@ -86,20 +87,20 @@ fn unmark_packet<A: Allocator>(seen: &mut Dirty<A>, packet: &Packet<'_>)
 {
     // a lawful packet names a block, or has no pages
     if let Some(block) = seen.table().find(packet.id()) {
-        unmark_pages(seen, packet, block);
+        unmark_pages(seen, &packet.head(), block);
     }
 }
 
-// Removes the marks of a packet's pages, in block `block`.
-fn unmark_pages<A: Allocator>(seen: &mut Dirty<A>, packet: &Packet<'_>, block: usize)
-    requires page_size { packet.now.page_size ≡ seen.old.table.page_size }
+// Removes the marks of the pages of a packet, in block `block`.
+fn unmark_pages<A: Allocator>(seen: &mut Dirty<A>, head: &PacketHead<'_>, block: usize)
+    requires page_size { head.now.page_size ≡ seen.old.table.page_size }
     requires block { block < length seen.old.table.blocks }
-    requires lawful { All (λ offset. is_outside seen.old.table.page_size (block_at seen.old.table.blocks block).pages offset ≡ false) (offsets (fields packet.now)) }
+    requires lawful { All (λ offset. is_outside seen.old.table.page_size (block_at seen.old.table.blocks block).pages offset ≡ false) (offsets_in head.now.bytes.now) }
     ensures table { seen.new.table ≡ seen.old.table }
-    ensures seen { SeesLess (places_of (pages_in seen.old.table (fields packet.now) block)) seen.old seen.new }
+    ensures seen { SeesLess (places_of (pages_in seen.old.table (as_zeros head.now.bytes.now) block)) seen.old seen.new }
 {
-    for i in 0..page_count(packet) {
-        let page = offset(packet, i) / packet.page_size();
+    for i in 0..page_count(head) {
+        let page = offset(head, i) / head.page_size();
         unmark(seen, Place { block, page });
     }
 }
@@ -131,9 +132,9 @@ pub(crate) fn mark_records<A: Allocator, B: Allocator>(
     double
 }
 
-/// Marks the places of a packet's pages. `double` is the least place that occurred twice so far.
-/// Returns that place with the packet.
-pub(crate) fn mark_packet<A: Allocator>(
+// Marks the places of a packet's pages. `double` is the least place that occurred twice so far.
+// Returns that place with the packet.
+fn mark_packet<A: Allocator>(
     seen: &mut Dirty<A>,
     double: Option<Place>,
     packet: &Packet<'_>,
@@ -145,27 +146,28 @@ pub(crate) fn mark_packet<A: Allocator>(
 {
     // a lawful packet names a block, or has no pages
     match seen.table().find(packet.id()) {
-        Some(block) => mark_pages(seen, double, packet, block),
+        Some(block) => mark_pages(seen, double, &packet.head(), block),
         None => double,
     }
 }
 
-// Marks the places of a packet's pages in block `block`.
-fn mark_pages<A: Allocator>(
+/// Marks the places of a packet's pages in block `block`. `double` is the least place that occurred
+/// twice so far. Returns that place with the packet.
+pub(crate) fn mark_pages<A: Allocator>(
     seen: &mut Dirty<A>,
     double: Option<Place>,
-    packet: &Packet<'_>,
+    head: &PacketHead<'_>,
     block: usize,
 ) -> Option<Place>
-    requires page_size { packet.now.page_size ≡ seen.old.table.page_size }
+    requires page_size { head.now.page_size ≡ seen.old.table.page_size }
     requires block { block < length seen.old.table.blocks }
-    requires lawful { All (λ offset. is_outside seen.old.table.page_size (block_at seen.old.table.blocks block).pages offset ≡ false) (offsets (fields packet.now)) }
+    requires lawful { All (λ offset. is_outside seen.old.table.page_size (block_at seen.old.table.blocks block).pages offset ≡ false) (offsets_in head.now.bytes.now) }
     ensures table { seen.new.table ≡ seen.old.table }
-    ensures seen { SeesMore (places_of (pages_in seen.old.table (fields packet.now) block)) seen.old double seen.new result }
+    ensures seen { SeesMore (places_of (pages_in seen.old.table (as_zeros head.now.bytes.now) block)) seen.old double seen.new result }
 {
     let mut double = double;
-    for i in 0..page_count(packet) {
-        let page = offset(packet, i) / packet.page_size();
+    for i in 0..page_count(head) {
+        let page = offset(head, i) / head.page_size();
         double = mark(seen, double, Place { block, page });
     }
     double

@@ -29,5 +29,6 @@ pub use arrivals::{Arrivals, arrivals_make_the_round, heads_are_judged, other_pl
 pub use fault::RoundFault;
 pub use gathered::Gathered;
 pub use laws::{lawful_rounds_lie_in_the_table, packets_come_in_any_order, round_is_lawful};
+pub use places::{Pages, pages_of};
 pub use put::put_records;
 pub use target::Target;

@@ -42,7 +42,8 @@ use Rattle.mig_answer.proofs.Putting.{packets_counted, base_more}
 use Rattle.mig_stream.specs.Reader.{Stands, HasRound}
 use Rattle.mig_session.specs.declared.counts.Count.{Count}
 use Rattle.mig_in_place.specs.Answer.{rounds_onto}
-use Rattle.mig_in_place.specs.Round.{KeptRound, Keeps, AlsoKeeps, as_zeros, offsets_in}
+use Rattle.mig_packet.specs.PacketHead.{as_zeros, offsets_in}
+use Rattle.mig_in_place.specs.Round.{KeptRound, Keeps, AlsoKeeps}
 use Rattle.mig_in_place.specs.Sources.{at_next_round, channel_count, IsChannelOf, KeptMain, KeptChannel, HoldsMain, HoldsChannel, HoldsRound, WritesPages, HasTakenRecords, StandsAt, so_far_of, heads_given, heads_begun, packets_given, pages_given, pages_begun, named_places, head_places, rounds_come}
 use Rattle.mig_in_place.specs.Session.{InPlaceLoad, IsRunning, Loading, Loads, IsDue, PassesAt, IsMainOf, records_come}
 use Rattle.mig_in_place.proofs.Channels.{rounds_are}

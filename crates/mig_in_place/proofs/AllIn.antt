@@ -35,7 +35,8 @@ use Rattle.mig_answer.specs.Rounds.{record_pages_at, pages_at}
 use Rattle.mig_answer.specs.MultiLoad.{Standing, main_at, channels_at}
 use Rattle.mig_in_place.specs.Answer.{rounds_onto, IsInPlaceAnswer}
 use Rattle.mig_in_place.specs.Named.{SomeHasPacket}
-use Rattle.mig_in_place.specs.Round.{as_zeros, Keeps}
+use Rattle.mig_packet.specs.PacketHead.{as_zeros}
+use Rattle.mig_in_place.specs.Round.{Keeps}
 use Rattle.mig_in_place.specs.Sources.{KeptChannel, TellsMainStatus, HoldsChannel, HoldsRound, heads_given, head_places, named_places}
 use Rattle.mig_in_place.specs.Session.{InPlaceLoad, IsRunning, Loading, Loads, HasAllRounds, MoreMayCome, records_come}
 use Rattle.mig_answer.proofs.Statuses.{clean_at, status_end, stream_closed}

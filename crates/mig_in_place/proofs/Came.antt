@@ -20,10 +20,11 @@ use Rattle.mig_packet.specs.Paging.{OpenPacket, GivenSoFar, IsOpenPacket, Comple
 use Rattle.mig_assemble.specs.Judging.{places_of, packet_pages, pages_in, page_in}
 use Rattle.mig_assemble.specs.Arrivals.{OnePacket, packets_in, arrival_pages}
 use Rattle.mig_in_place.specs.Named.{round_so_far}
-use Rattle.mig_in_place.specs.Round.{as_zeros, KeptRound}
+use Rattle.mig_packet.specs.PacketHead.{as_zeros}
+use Rattle.mig_in_place.specs.Round.{KeptRound}
 use Rattle.mig_in_place.specs.Sources.{HoldsRound, AtChannel, came_with, heads_given, packets_given, pages_given, zeros_begun, normal_begun, block_in, head_places, named_places}
 use Rattle.mig_in_place.proofs.Steps.{in_middle, named_more, channel_places}
-use Rattle.mig_in_place.proofs.Ending.{zeros_front, zero_offsets_front}
+use Rattle.mig_packet.proofs.Heads.{zeros_front, zero_offsets_front}
 
 -- ---- the same heads and pages
 

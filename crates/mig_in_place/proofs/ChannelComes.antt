@@ -149,7 +149,7 @@ module _ (f : Loading) (memory : Image) (s : InPlaceLoad) (loads : Loads f memor
   abbrev text : Text
   text = get_or f.texts.channels j no_text
 
-  abbrev gave : GivenSoFar
+  abbrev pub gave : GivenSoFar
   gave = get_or r.gave j none
 
   abbrev pub at : AtChannel

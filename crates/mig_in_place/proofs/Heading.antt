@@ -8,16 +8,15 @@ use Rattle.mig_mem.specs.declared.place.Place.{Place}
 use Rattle.mig_mem.specs.RamTable.{RamTable}
 use Rattle.mig_mem.proofs.Members.{map-map}
 use Rattle.mig_packet.specs.Packet.{Fields, NormalPage, fields_of, normal_count, zero_count, offset_at, content_at}
-use Rattle.mig_packet.specs.PacketHead.{IsPacketHead}
+use Rattle.mig_packet.specs.PacketHead.{IsPacketHead, offsets_in, as_zeros}
 use Rattle.mig_assemble.specs.declared.fault.RoundFault.{RoundFault}
 use Rattle.mig_assemble.specs.Judging.{offsets, place_fault, packet_pages, places_of}
 use Rattle.mig_assemble.specs.Arrivals.{OnePacket, SameHead, arrival_pages}
 use Rattle.mig_assemble.proofs.PacketPlaces.{range-append}
 use Rattle.mig_assemble.proofs.Heads.{same_fault, same_places}
 use Rattle.mig_in_place.specs.Named.{packet_places}
-use Rattle.mig_in_place.specs.Round.{offsets_in, as_zeros}
 use Rattle.mig_in_place.specs.Sources.{head_places}
-use Rattle.mig_in_place.proofs.Ending.{zeros_front}
+use Rattle.mig_packet.proofs.Heads.{zeros_front}
 
 offsets_said : (size : ℕ) (bytes : List ℕ) → offsets (fields_of size bytes) ≡ offsets_in bytes
 offsets_said size bytes =

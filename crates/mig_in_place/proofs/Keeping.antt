@@ -1,6 +1,6 @@
 -- What is kept of a round, as more of it comes.
 use Rattle.std.proofs.Common.{ℕ, ◌≡◌, List, [], ◌∷◌, ◌++◌, length, Bool, true, false, ◌||◌, refl, sym, ap, subst, ◌∙◌}
-use Rattle.std.specs.Prelude.{Option, None}
+use Rattle.std.specs.Prelude.{Option, None, Some}
 use Rattle.std.specs.Option.{is_some}
 use Rattle.std.proofs.lemmas.List.{append-nil}
 use Rattle.std.proofs.lemmas.List.Folds.{list_any-append}
@@ -12,9 +12,11 @@ use Rattle.mig_assemble.proofs.Bags.{bag_length, bag_permutation}
 use Rattle.mig_assemble.specs.Arrivals.{Arrival, Records, OnePacket, packets_in, RoundSoFar, HasCome, AlsoHas, HasSame}
 use Rattle.mig_assemble.specs.declared.fault.RoundFault.{RoundFault}
 use Rattle.mig_assemble.proofs.PacketPlaces.{fault_none}
-use Rattle.mig_in_place.specs.declared.round.Pages.{Pages}
-use Rattle.mig_in_place.specs.declared.round.Pages.TheVariants as pages
-use Rattle.mig_in_place.specs.Round.{KeptRound, Keeps, AlsoKeeps, KeepsSame, KeepsSome, any_misplaced, as_zeros, Lie, with_pages}
+use Rattle.mig_assemble.specs.declared.places.Pages.{Pages}
+use Rattle.mig_assemble.specs.declared.places.Pages.TheVariants as pages
+use Rattle.mig_packet.specs.PacketHead.{as_zeros}
+use Rattle.mig_assemble.specs.HeadPlaces.{Lie}
+use Rattle.mig_in_place.specs.Round.{KeptRound, Keeps, AlsoKeeps, KeepsSame, KeepsSome, any_misplaced, with_pages}
 
 pub packets_push : (came : List Arrival) (a : Arrival) → packets_in (came ++ a ∷ []) ≡ packets_in came ++ packets_in (a ∷ [])
 packets_push [] a = refl
@@ -87,7 +89,13 @@ pub packet_noted : (head : List ℕ) (old mid : KeptRound) (o : Pages) → AlsoH
 packet_noted head old mid pages.Nowhere also same lie =
     noted_right (as_zeros head) old mid also same (right_of old.arrivals.seen.table (as_zeros head) (fault_none old.arrivals.seen.table (as_zeros head) lie))
 packet_noted head old mid (pages.In b) also same lie = noted_right (as_zeros head) old mid also same (right_of old.arrivals.seen.table (as_zeros head) lie.1.are_right)
-packet_noted head old mid pages.Misplaced also same lie = noted_wrong (as_zeros head) old mid also lie
+packet_noted head old mid (pages.Misplaced fault) also same lie = noted_wrong (as_zeros head) old mid also (ap (λ (o : Option RoundFault). is_some o) lie)
+
+-- where no page of it is misplaced, nothing is noted
+pub still_right : (table : RamTable) (head : List ℕ) (r : KeptRound) (o : Pages) → Lie table head o → place_fault table (as_zeros head) ≡ None → (with_pages o r).has_misplaced ≡ r.has_misplaced
+still_right table head r pages.Nowhere lie none = refl
+still_right table head r (pages.In b) lie none = refl
+still_right table head r (pages.Misplaced fault) lie none = absurd (let clash : None ≡ Some fault = sym none ∙ lie in cc)
 
 -- what represented some arrivals represents some still
 pub also_some : (table : RamTable) (q : Fields) (old new : KeptRound) → AlsoKeeps (OnePacket q) old new → KeepsSome table old → KeepsSome table new

@@ -36,7 +36,8 @@ use Rattle.mig_answer.proofs.OneAnswer.{same_readings}
 use Rattle.mig_answer.proofs.GrowingMain.{main_table_first}
 use Rattle.mig_session.proofs.Telling.{due_sources, due_passes, due_refused}
 use Rattle.mig_in_place.specs.Answer.{rounds_onto}
-use Rattle.mig_in_place.specs.Round.{KeptRound, KeepsSame, as_zeros}
+use Rattle.mig_packet.specs.PacketHead.{as_zeros}
+use Rattle.mig_in_place.specs.Round.{KeptRound, KeepsSame}
 use Rattle.mig_in_place.specs.Sources.{KeptChannel, HoldsMain, HoldsChannel, HoldsRound, heads_given, heads_begun, packets_given, rounds_come}
 use Rattle.mig_in_place.specs.Session.{InPlaceLoad, IsRunning, Loading, Loads, Stands, IsDue, PassesAt, records_come}
 use Rattle.mig_in_place.proofs.Channels.{rounds_given, rounds_are}

@@ -11,7 +11,6 @@ pub mod SomeTakes
 pub mod Zips
 pub mod Steps
 pub mod Lying
-pub mod Ending
 pub mod Came
 pub mod Midway
 pub mod Heading
@@ -38,3 +37,5 @@ pub mod Over
 pub mod AllIn
 pub mod DoneStays
 pub mod Sendings
+pub mod TakingParts
+pub mod TakingPackets

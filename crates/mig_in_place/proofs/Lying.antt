@@ -18,10 +18,12 @@ use Rattle.mig_assemble.specs.Judging.{place_fault, places_of, packet_pages}
 use Rattle.mig_assemble.specs.PacketPages.{zero_pages}
 use Rattle.mig_assemble.proofs.PacketPlaces.{place_of, places-in, packet_places}
 use Rattle.mig_assemble.proofs.PacketParts.{zero_page_at, zero_by_number}
-use Rattle.mig_in_place.specs.Round.{offsets_in, as_zeros, LieIn, KeptRound}
+use Rattle.mig_packet.specs.PacketHead.{offsets_in, as_zeros}
+use Rattle.mig_assemble.specs.HeadPlaces.{LieIn}
+use Rattle.mig_in_place.specs.Round.{KeptRound}
 use Rattle.mig_packet.specs.Paging.{OpenPacket, with_page as with_page_of}
 use Rattle.mig_in_place.specs.Sources.{block_in, zeros_begun, head_places, HoldsRound, came_with, AddsPage}
-use Rattle.mig_in_place.proofs.Heads.{count, offset_is}
+use Rattle.mig_packet.proofs.Heads.{count, offset_is}
 use Rattle.mig_in_place.proofs.Steps.{WroteZeros, WrotePage, page_holds}
 
 -- each place of a list is among it

@@ -32,7 +32,8 @@ use Rattle.mig_answer.proofs.OneAnswer.{main_reading}
 use Rattle.mig_answer.proofs.Growing.{ReadingsStay, readings_stay, pass_still}
 use Rattle.mig_answer.proofs.GrowingMain.{main_table_first}
 use Rattle.mig_in_place.specs.Answer.{rounds_onto}
-use Rattle.mig_in_place.specs.Round.{KeptRound, Keeps, as_zeros, offsets_in}
+use Rattle.mig_packet.specs.PacketHead.{as_zeros, offsets_in}
+use Rattle.mig_in_place.specs.Round.{KeptRound, Keeps}
 use Rattle.mig_in_place.specs.Sources.{KeptMain, KeptChannel, HoldsMain, HoldsChannel, HoldsRound, HasHelloAlone, WritesPages, HasTakenRecords, HasNoRound, StandsAt, heads_given, heads_begun, packets_given, pages_given, pages_begun, named_places}
 use Rattle.mig_in_place.specs.Session.{InPlaceLoad, IsRunning, Loading, Loads, Stands, records_come}
 use Rattle.mig_in_place.proofs.Advancing.{pages_of, main_taken}

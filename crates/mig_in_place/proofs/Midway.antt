@@ -31,7 +31,8 @@ use Rattle.mig_answer.specs.Status.{channel_end, is_pending}
 use Rattle.mig_answer.specs.Texts.{Text, with_piece}
 use Rattle.mig_in_place.specs.declared.main_stream.SizeList.{SizeList}
 use Rattle.mig_in_place.specs.declared.main_stream.SizeList.TheVariants as list
-use Rattle.mig_in_place.specs.Round.{LieIn, KeptRound, KeepsSome}
+use Rattle.mig_assemble.specs.HeadPlaces.{LieIn}
+use Rattle.mig_in_place.specs.Round.{KeptRound, KeepsSome}
 use Rattle.mig_in_place.specs.Sources.{KeptChannel, HasHelloAlone, WritesPages, IsChannelOf, HoldsRound, HoldsAt, AtChannel, came_with, rounds_come, TellsChannelStatus, TellsTakes, HasRead, HasReadSome, AddsHead, WritesInto, AddsPage, pages_given}
 use Rattle.mig_in_place.proofs.Keeping.{same_table}
 use Rattle.mig_in_place.proofs.Heads.{lies}

@@ -19,7 +19,8 @@ use Rattle.mig_packet.specs.Paging.{OpenPacket, GivenSoFar}
 use Rattle.mig_assemble.specs.Judging.{place_fault, places_of, packet_pages, page_in}
 use Rattle.mig_assemble.specs.Arrivals.{Arrival, Records, OnePacket, records_in, packets_in}
 use Rattle.mig_assemble.proofs.Putting.{put_after, put_page_more}
-use Rattle.mig_in_place.specs.Round.{as_zeros, KeptRound, Keeps, AlsoKeeps, any_misplaced}
+use Rattle.mig_packet.specs.PacketHead.{as_zeros}
+use Rattle.mig_in_place.specs.Round.{KeptRound, Keeps, AlsoKeeps, any_misplaced}
 use Rattle.mig_in_place.specs.Sources.{heads_given, packets_given, heads_begun, pages_given, pages_begun, zeros_begun, normal_begun, block_in, head_places, named_places, HoldsRound, AtChannel, came_with, AddsHead}
 use Rattle.mig_in_place.proofs.Keeping.{packets_push}
 

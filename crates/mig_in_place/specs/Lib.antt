@@ -4,6 +4,9 @@ pub mod Named
 pub mod Answer
 pub mod Session
 pub mod Law
+-- A packet that is taken at once, whose pages others read to their places
+pub mod TakenPackets
+pub mod Apart
 -- Turns of sources, whose bytes wait in buffers
 pub mod Turns
 pub mod TurnFaultNumber

@@ -31,7 +31,9 @@ use Rattle.mig_stream.specs.declared.item.StreamState.TheVariants as stream_stat
 use Rattle.mig_in_place.specs.declared.main_stream.SizeList.{SizeList}
 use Rattle.mig_in_place.specs.declared.main_stream.SizeList.TheVariants as list
 use Rattle.mig_in_place.specs.Named.{round_so_far}
-use Rattle.mig_in_place.specs.Round.{offsets_in, as_zeros, LieIn, KeptRound, Keeps, AlsoKeeps}
+use Rattle.mig_packet.specs.PacketHead.{offsets_in, as_zeros}
+use Rattle.mig_assemble.specs.HeadPlaces.{LieIn}
+use Rattle.mig_in_place.specs.Round.{KeptRound, Keeps, AlsoKeeps}
 
 -- ---- the state
 

@@ -1,6 +1,6 @@
 //! A channel of a load in place: the reader, and the state of the current round.
 
-ghost use Rattle.std.specs.Prelude.{ℕ, ◌≡◌, ◌≢◌, ◌+◌, ◌<◌, ◌≤◌, ◌^◌, List, Option, length, true, false, None, Some, IsTrue, IsFalse, IfOk, IfSome, IfNone, OnOk, OnErr, ◌/◌};
+ghost use Rattle.std.specs.Prelude.{ℕ, ◌≡◌, ◌≢◌, ◌+◌, ◌*◌, ◌<◌, ◌≤◌, ◌^◌, List, Option, length, true, false, None, Some, IsTrue, IsFalse, IfOk, IfSome, IfNone, OnOk, OnErr, ◌/◌};
 ghost use Rattle.std.specs.Option.{option_map};
 ghost use Rattle.mig_mem.specs.Place.{IsPlace, place_at};
 ghost use Rattle.mig_packet.specs.PageSize.{IsPageSize};
@@ -14,14 +14,19 @@ ghost use Rattle.mig_packet.specs.Reading.{Settings};
 ghost use Rattle.mig_answer.specs.declared.status.Status.TheVariants.{Whole as whole};
 ghost use Rattle.mig_in_place.specs.declared.main_stream.SizeList.TheVariants as size_list;
 ghost use Rattle.mig_in_place.specs.Round.{KeepsSome};
+ghost use Rattle.mig_mem.specs.Lent.{lent_bytes};
+ghost use Rattle.mig_in_place.specs.TakenPackets.{packet_bytes, TakesPacket, IsNextPacket};
+ghost use Rattle.mig_packet.specs.Packet.{is_sync, normal_count};
 ghost use Rattle.mig_in_place.specs.Sources.{IsChannelOf, HoldsChannel, HasGiven, TellsChannelStatus, TellsChannelFault, TellsHello, TellsTakes, holds_back, HasRead, HasReadSome, AddsHead, WritesInto, AddsPage, channel_count};
 
+use crate::apart::{are_pages, take_parts};
 use crate::main_stream::{SizeList, fault_of, is_pending};
 use crate::put::put_zeros;
-use crate::round::{Pages, RoundInHand};
+use crate::round::RoundInHand;
 use mig_answer::{Status, channel_end};
+use mig_assemble::Pages;
 use mig_mem::{GuestTarget, NoMemory, Place};
-use mig_packet::{Came, PageContent, PageReader};
+use mig_packet::{Came, PacketHead, PageContent, PageReader};
 use mig_single_load::{Fault, LoadSettings};
 use std::alloc::{Allocator, Global};
 use std::marker::Model;
@@ -176,7 +181,7 @@ impl<A: Allocator> Channel<A> {
                 put_zeros(memory, block, &head);
                 self.block = Some(block);
             }
-            Pages::Nowhere | Pages::Misplaced => {}
+            Pages::Nowhere | Pages::Misplaced(_) => {}
         }
         Ok(())
     }
@@ -207,6 +212,69 @@ impl<A: Allocator> Channel<A> {
             let page = offset / table.page_size();
             memory.put_page(Place { block, page }, self.reader.content(content));
         }
+    }
+
+    /// Takes a packet of the current round at once: its head, and the contents of its normal pages,
+    /// which others read to their places. Adds it to `round`. Returns false, and takes nothing, if
+    /// the next item isn't such a packet: one without SYNC, whose pages are in a block, while no
+    /// page of the round is misplaced.
+    ///
+    /// # Errors
+    ///
+    /// `NoMemory`: an allocation was refused. Nothing was taken.
+    pub(crate) fn take_packet(
+        &mut self,
+        list: SizeList,
+        round: &mut RoundInHand<A>,
+        head: &[u8],
+        contents: &[&[u8]],
+    ) -> Result<bool, NoMemory>
+        requires room { self.old.reader.fed + length head.now + length contents.now * self.old.reader.given.page_size < 2 ^ 64 }
+        requires page_size { self.old.reader.given.page_size ≡ round.old.arrivals.seen.table.page_size }
+        ensures took { IfOk result (λ took. IsTrue took → (list ≡ size_list.Complete) × TakesPacket head.now (lent_bytes contents.now) self.old round.old self.new round.new) }
+        ensures left { IfOk result (λ took. IsFalse took → (self.new ≡ self.old) × (round.new ≡ round.old)) }
+        ensures err { OnErr result ((self.new ≡ self.old) × (round.new ≡ round.old)) }
+        ensures fed { IfOk result (λ took. IsTrue took → self.new.reader.fed ≡ self.old.reader.fed + length (packet_bytes head.now (lent_bytes contents.now))) }
+        ensures open { IfOk result (λ took. IsTrue took → IsFalse self.new.is_whole × IsFalse self.old.reader.ended) }
+        ensures count { IfOk result (λ took. IsTrue took → length contents.now ≡ normal_count head.now) }
+        ensures ended { self.new.reader.ended ≡ self.old.reader.ended }
+        ensures channel { (table : RamTable) → IsChannelOf table self.old → IsChannelOf table self.new }
+        ensures round { KeepsSome round.old.arrivals.seen.table round.old → KeepsSome round.old.arrivals.seen.table round.new }
+        ensures right { IfOk result (λ took. IsTrue took → IsFalse round.old.has_misplaced × IsFalse round.new.has_misplaced) }
+    {
+        let Some((view, _)) = self.next_packet(list, round, head) else {
+            return Ok(false);
+        };
+        if !are_pages(contents, view.normal_len(), view.page_size()) {
+            return Ok(false);
+        }
+        round.packet(&view)?;
+        let sync = take_parts(&mut self.reader, head, contents);
+        self.end_packet(sync);
+        Ok(true)
+    }
+
+    /// Returns the head of the next item, and the block of its pages, if it is a packet that can be
+    /// taken at once.
+    pub(crate) fn next_packet<'h>(
+        &self,
+        list: SizeList,
+        round: &RoundInHand<A>,
+        head: &'h [u8],
+    ) -> Option<(PacketHead<'h>, usize)>
+        requires page_size { self.now.reader.given.page_size ≡ round.now.arrivals.seen.table.page_size }
+        ensures next { IfSome result (λ found. IsNextPacket list head.now self.now round.now found.1) }
+        ensures head { IfSome result (λ found. (found.0.bytes.now ≡ head.now) × (found.0.page_size ≡ self.now.reader.given.page_size) × (is_sync head.now ≡ false)) }
+    {
+        if list != SizeList::Complete || self.block.is_some() || !self.takes(list) {
+            return None;
+        }
+        let view = self.reader.next_head(head)?;
+        if view.sync() {
+            return None;
+        }
+        let block = round.block_for(&view)?;
+        Some((view, block))
     }
 
     // Ends the packet that was begun.

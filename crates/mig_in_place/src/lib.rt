@@ -16,6 +16,7 @@
 //! and `Sources` are private: only contracts of private functions name them.
 #![tactic(auto)]
 
+mod apart;
 mod channel;
 mod laws;
 mod main_stream;

@@ -1,8 +1,8 @@
 //! The load of several channels into existing memory, from pieces of their bytes.
 
-ghost use Rattle.std.specs.Prelude.{ℕ, ◌≡◌, ◌≢◌, ◌⊎◌, ◌+◌, ◌<◌, ◌≤◌, ◌^◌, ◌++◌, ◌↔◌, List, [], length, map, take, replicate, true, false, None, Some, Ok, Err, IsTrue, IsFalse, IfOk, IfErr, OnOk, OnErr, All, vec_capacity};
+ghost use Rattle.std.specs.Prelude.{ℕ, ◌≡◌, ◌≢◌, ◌⊎◌, ◌+◌, ◌*◌, ◌<◌, ◌≤◌, ◌^◌, ◌++◌, ◌↔◌, List, [], length, map, take, replicate, true, false, None, Some, Ok, Err, IsTrue, IsFalse, IfOk, IfErr, OnOk, OnErr, All, IfSome, slice_get, vec_capacity};
 ghost use Rattle.std.specs.List.{AllZip};
-ghost use Rattle.std.specs.Option.{option_copied};
+ghost use Rattle.std.specs.Option.{IsSomeAnd, option_copied};
 ghost use Rattle.mig_mem.specs.PageSize.{IsPageSize};
 ghost use Rattle.mig_mem.specs.RamTable.{RamTable};
 ghost use Rattle.mig_mem.specs.Image.{Image, IsImage};
@@ -22,6 +22,12 @@ ghost use Rattle.mig_in_place.specs.Answer.{IsInPlaceAnswer};
 ghost use Rattle.mig_stream.specs.Reading.{Settings};
 ghost use Rattle.mig_stream.specs.Reader.{HasTable, HasClosedAt};
 ghost use Rattle.mig_answer.specs.Texts.{Text, Texts};
+ghost use Rattle.mig_mem.specs.Lent.{lent_bytes};
+ghost use Rattle.mig_mem.specs.Round.{with_round};
+ghost use Rattle.mig_packet.specs.Packet.{normal_count};
+ghost use Rattle.mig_in_place.specs.TakenPackets.{packet_bytes, pages_taken};
+ghost use Rattle.mig_in_place.specs.Apart.{TakesApart};
+ghost use Rattle.mig_assemble.specs.HeadPlaces.{LieIn};
 ghost use Rattle.mig_in_place.specs.Round.{KeepsSome};
 ghost use Rattle.mig_in_place.specs.Sources.{counts_of, main_count, channel_count, at_next_round, StandsAt, HoldsChannel, TellsChannelStatus, TellsHello, HasTakenRecords};
 ghost use Rattle.mig_in_place.specs.Session.{TakesBytes, StandsFor, LacksMemory, StepsOn, StillLacks, RunsOut, Tells, HasFault, HasAllRounds, MoreMayCome, HaveTaken, Loading, Loads, Stands, IsDue, TellsVerdict, PassesAt, IsUnsettled, Lacks, LacksBehind, with_bytes, with_over, TakesNoMore, IsOpenAt, IsMainOf};
@@ -32,6 +38,7 @@ use crate::round::RoundInHand;
 use mig_answer::{Status, Verdict, repeated_id, verdict_told};
 use mig_assemble::put_records;
 use mig_mem::{GuestTarget, NoMemory, Table};
+use mig_packet::PacketHead;
 use mig_session::Source;
 use mig_single_load::{Fault, InPlaceFault, LoadFault, LoadSettings, Origin};
 use std::alloc::{Allocator, Global};
@@ -419,6 +426,76 @@ impl<A: Allocator + Copy> InPlaceSession<A> {
         let list = self.main.size_list();
         let channel = &mut self.channels[j];
         channel.read(list, &mut self.round, memory, piece)
+    }
+
+    /// Returns the head of the next packet of a channel, and the number of the block of its pages,
+    /// if `head` is its head and `take_packet` takes it: the channel takes bytes, and it is a packet
+    /// without a fault and without SYNC, whose pages are in a block, in a round of which no page is
+    /// misplaced.
+    pub fn next_packet<'h>(&self, channel: usize, head: &'h [u8]) -> Option<(PacketHead<'h>, usize)>
+        requires source { HasSource (counts_of self.now.sources) (source.Channel channel) }
+        ensures head { IfSome result (λ found. (found.0.bytes.now ≡ head.now) × (found.0.page_size ≡ self.now.table.page_size)) }
+        ensures lies { IfSome result (λ found. LieIn self.now.table found.1 head.now) }
+    {
+        if self.verdict != Verdict::Running {
+            return None;
+        }
+        let list = self.main.size_list();
+        self.channels[channel].next_packet(list, &self.round, head)
+    }
+
+    // Takes a packet of a channel at once, and judges nothing. Its clause is of any memory that the
+    // load ran with.
+    fn take_apart(&mut self, j: usize, head: &[u8], contents: &[&[u8]]) -> Result<bool, NoMemory>
+        requires source { j < length self.old.sources.channels }
+        requires room { (count_of (counts_of self.old.sources) (source.Channel j)).fed + length head.now + length contents.now * self.old.table.page_size < 2 ^ 64 }
+        ensures took { IfOk result (λ took. IsTrue took → (f : Loading) (memory : Image) → memory.table ≡ self.old.table → Loads f memory self.old
+            → Loads (with_bytes (source.Channel j) (packet_bytes head.now (lent_bytes contents.now)) f) (with_round memory (pages_taken memory.table head.now (lent_bytes contents.now))) self.new) }
+        ensures open { IfOk result (λ took. IsTrue took → IsSomeAnd (slice_get self.new.sources.channels j) (λ c. IsFalse c.is_whole)) }
+        ensures count { IfOk result (λ took. IsTrue took → length contents.now ≡ normal_count head.now) }
+        ensures left { IfOk result (λ took. IsFalse took → self.new ≡ self.old) }
+        ensures err { OnErr result (self.new ≡ self.old) }
+        ensures counts { IfOk result (λ took. IsTrue took → counts_of self.new.sources ≡ with_fed (counts_of self.old.sources) (source.Channel j) (length (packet_bytes head.now (lent_bytes contents.now)))) }
+        ensures others { (self.new.table ≡ self.old.table) × (self.new.rounds ≡ self.old.rounds) × (self.new.verdict ≡ self.old.verdict) }
+    {
+        let list = self.main.size_list();
+        let channel = &mut self.channels[j];
+        channel.take_packet(list, &mut self.round, head, contents)
+    }
+
+    /// Takes a packet of a channel at once: its head, and the contents of its normal pages, which
+    /// others read to their places in the memory. The caller also clears there its pages of zeros.
+    /// The load stands for that memory with the pages, whatever memory it stood for before: so
+    /// this call isn't passed it.
+    ///
+    /// Returns false, and takes nothing, if the next item of the channel isn't a packet of this
+    /// kind: complete and without a fault, without SYNC, whose pages are in a block, in a round of
+    /// which no page is misplaced, and which the channel takes now. Any bytes can be fed.
+    ///
+    /// # Errors
+    ///
+    /// `NoMemory`: an allocation was refused. Nothing was taken, and the call can be made again.
+    pub fn take_packet(
+        &mut self,
+        channel: usize,
+        head: &[u8],
+        contents: &[&[u8]],
+    ) -> Result<bool, NoMemory>
+        requires source { HasSource (counts_of self.old.sources) (source.Channel channel) }
+        requires room { (count_of (counts_of self.old.sources) (source.Channel channel)).fed + length head.now + length contents.now * self.old.table.page_size < 2 ^ 64 }
+        ensures took { IfOk result (λ took. IsTrue took → TakesApart channel head.now (lent_bytes contents.now) self.old self.new) }
+        ensures count { IfOk result (λ took. IsTrue took → length contents.now ≡ normal_count head.now) }
+        ensures left { IfOk result (λ took. IsFalse took → self.new ≡ self.old) }
+        ensures err { OnErr result (self.new ≡ self.old) }
+        ensures counts { IfOk result (λ took. IsTrue took → counts_of self.new.sources ≡ with_fed (counts_of self.old.sources) (source.Channel channel) (length (packet_bytes head.now (lent_bytes contents.now)))) }
+        ensures table { (self.new.table ≡ self.old.table) × (self.new.rounds ≡ self.old.rounds) }
+    {
+        if self.verdict != Verdict::Running || !self.take_apart(channel, head, contents)? {
+            return Ok(false);
+        }
+        // it isn't due, since the channel lacks its SYNC
+        let _told = self.tell();
+        Ok(true)
     }
 
     // Takes a piece of the main stream, and writes the records of the current round once it is

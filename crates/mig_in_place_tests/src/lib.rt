@@ -6,6 +6,8 @@
 #[cfg(test)]
 mod alike;
 #[cfg(test)]
+mod apart;
+#[cfg(test)]
 mod both;
 #[cfg(test)]
 mod ends;

@@ -1,6 +1,7 @@
 pub mod Appends
 pub mod Places
 pub mod Judging
+pub mod Heads
 pub mod Finding
 pub mod Waiting
 pub mod Within
@@ -18,9 +19,10 @@ pub mod Exists
 pub mod Valid
 pub mod Limits
 pub mod Bounded
-mod LetThrough
+pub mod LetThrough
 pub mod Paging
 pub mod PagingSteps
 pub mod PagingHello
 pub mod PagingState
 pub mod PagingValid
+pub mod TakenApart

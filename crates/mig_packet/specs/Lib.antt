@@ -18,6 +18,7 @@ pub mod Reading
 pub mod Reader
 pub mod Paging
 pub mod Wanted
+pub mod NextHead
 pub mod ChannelItems
 pub mod Law
 -- Private: only contracts of private functions name these.

@@ -11,7 +11,8 @@
 //! - `ChannelItems`: the items of a channel that has ended.
 //! - `Law`: the laws between them.
 //!
-//! `PacketHead` and `Paging` are for a reader that gives pages before their packet is complete.
+//! `PacketHead`, `Paging` and `NextHead` are for a reader that gives pages before their packet is
+//! complete, and for packets whose pages others read to their places.
 //! Only contracts of private functions name `Taking`, `Later`, `Filling` and `PagingStep`.
 //!
 //! `hello`, `put_packet` and `PacketFields` write. `read_hello` and `read_packet` read at the
@@ -22,6 +23,7 @@
 //! threads that send and load.
 #![tactic(auto)]
 
+mod apart;
 mod fault;
 mod fields;
 mod format;

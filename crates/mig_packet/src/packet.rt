@@ -1,12 +1,13 @@
 //! A packet, in bytes that its reader owns. Readers and relays give packets, and `Target` applies
 //! them.
 
-ghost use Rattle.std.specs.Prelude.{◌≡◌, ◌+◌, ◌*◌, ◌<◌, ◌≤◌, ◌==◌, length};
+ghost use Rattle.std.specs.Prelude.{◌≡◌, ◌+◌, ◌*◌, ◌<◌, ◌≤◌, ◌==◌, length, take};
 ghost use Rattle.std.specs.List.{before_first, position};
 ghost use Rattle.mig_packet.specs.PageSize.{IsPageSize, IsPageSize-prop, page_limit, head_len};
 ghost use Rattle.mig_packet.specs.Packet.{IsPacketText, number_in, is_sync, id_in, normal_count, zero_count, offset_at, content_at};
 ghost use Rattle.mig_packet.specs.Waiting.{weight, is_over, less_room, next_room};
 
+use crate::PacketHead;
 use crate::fields::{be32, be64};
 use crate::format::{FIELDS_LEN, MULTIFD_FLAG_SYNC, MULTIFD_PACKET_SIZE};
 use std::fmt;
@@ -35,6 +36,17 @@ impl<'a> Packet<'a> {
         ensures page_size { IsPageSize result }
     {
         self.page_size
+    }
+
+    /// Returns the packet's head: its bytes before the contents of its pages.
+    pub fn head(&self) -> PacketHead<'a>
+        ensures page_size { result.page_size ≡ self.now.page_size }
+        ensures bytes { result.bytes.now ≡ take (head_len self.now.page_size) self.now.bytes.now }
+    {
+        PacketHead {
+            page_size: self.page_size,
+            bytes: &self.bytes[..head_len(self.page_size)],
+        }
     }
 
     /// Returns the packet's number. One counter numbers the packets of all channels.

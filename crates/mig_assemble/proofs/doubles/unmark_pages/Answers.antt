@@ -4,8 +4,8 @@ use Rattle.mig_mem.specs.declared.place.Place.{Place}
 use Rattle.mig_mem.specs.RamTable.{RamTable, block}
 use Rattle.mig_mem.specs.Place.{IsPlace}
 use Rattle.mig_packet.specs.Packet.{Fields}
-use Rattle.mig_packet.specs.Lent.{fields}
-use Rattle.mig_assemble.specs.Judging.{offsets, is_outside, pages_in, places_of}
+use Rattle.mig_packet.specs.PacketHead.{offsets_in, as_zeros}
+use Rattle.mig_assemble.specs.Judging.{is_outside, pages_in, places_of}
 use Rattle.mig_assemble.specs.Seen.{HasLeft}
 use Rattle.mig_assemble.proofs.PacketPlaces.{place_of, place_inside, places-in}
 use Rattle.mig_assemble.proofs.doubles.unmark_pages.Goals as goal
@@ -13,7 +13,7 @@ use Rattle.mig_assemble.proofs.doubles.unmark_pages.Goals as goal
 pub unmark-requires : goal.unmark-requires
 unmark-requires g c =
     let table = c.args.seen.now.table in
-    let all : List ℕ = offsets (fields c.args.packet.now) in
+    let all : List ℕ = offsets_in c.args.head.now.bytes.now in
     let within : c.loop-i.i < length all = omega arith in
     let inside : is_outside table.page_size (block table.blocks c.args.block).pages (get_or all c.loop-i.i 0) ≡ false = c.requires.lawful c.loop-i.i 0 within in
     let at : place_of table c.args.block (get_or all c.loop-i.i 0) ≡ record { block = c.args.block; page = c.offset.result / c.page_size.result } = search rules in
@@ -23,8 +23,8 @@ unmark-requires g c =
 pub returns-clause-seen : goal.returns-clause-seen
 returns-clause-seen g c = λ places gone h.
     let table = c.args.seen.now.table in
-    let q : Fields = fields c.args.packet.now in
-    let past : length (offsets q) ≤ c.loop-i.i = omega arith in
-    let all : map (place_of table c.args.block) (take c.loop-i.i (offsets q)) ≡ places_of (pages_in table q c.args.block) =
-    ap (λ (l : List ℕ). map (place_of table c.args.block) l) (take_all c.loop-i.i (offsets q) past) ∙ sym (places-in table q c.args.block) in
+    let q : Fields = as_zeros c.args.head.now.bytes.now in
+    let past : length (offsets_in c.args.head.now.bytes.now) ≤ c.loop-i.i = omega arith in
+    let all : map (place_of table c.args.block) (take c.loop-i.i (offsets_in c.args.head.now.bytes.now)) ≡ places_of (pages_in table q c.args.block) =
+    ap (λ (l : List ℕ). map (place_of table c.args.block) l) (take_all c.loop-i.i (offsets_in c.args.head.now.bytes.now) past) ∙ sym (places-in table q c.args.block) in
     subst (λ (ps : List Place). HasLeft table places (gone ++ ps) c.loop-i.seen) all (c.loop-i.invariant.seen places gone h)

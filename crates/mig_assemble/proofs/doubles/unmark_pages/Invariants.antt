@@ -1,7 +1,6 @@
 use Rattle.std.proofs.Common.{List, ◌≡◌, ◌++◌, take, map}
 use Rattle.mig_mem.specs.declared.place.Place.{Place}
-use Rattle.mig_packet.specs.Lent.{fields}
-use Rattle.mig_assemble.specs.Judging.{offsets}
+use Rattle.mig_packet.specs.PacketHead.{offsets_in}
 use Rattle.mig_assemble.specs.Seen.{HasLeft}
 use Rattle.mig_assemble.proofs.PacketPlaces.{place_of}
 use Rattle.mig_assemble.proofs.doubles.unmark_pages.Given as goal
@@ -10,5 +9,5 @@ abbrev pub invariant-loop-i : goal.invariant-loop-i
 invariant-loop-i g l = record {
   table : l.seen.table ≡ l.fn.seen.table;
   seen : (places gone : List Place) → HasLeft l.fn.seen.table places gone l.fn.seen
-      → HasLeft l.fn.seen.table places (gone ++ map (place_of l.fn.seen.table l.block) (take l.i (offsets (fields l.packet)))) l.seen;
+      → HasLeft l.fn.seen.table places (gone ++ map (place_of l.fn.seen.table l.block) (take l.i (offsets_in l.head.bytes.now))) l.seen;
 }

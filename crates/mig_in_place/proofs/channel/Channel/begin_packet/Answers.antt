@@ -3,9 +3,10 @@ use Rattle.std.specs.Prelude.{IsTrue, IsFalse, IfSome}
 use Rattle.std.specs.Option.{option_map}
 use Rattle.mig_mem.specs.RamTable.{RamTable}
 use Rattle.mig_mem.specs.Image.{Image}
-use Rattle.mig_in_place.specs.declared.round.Pages.{Pages}
-use Rattle.mig_in_place.specs.declared.round.Pages.TheVariants as pages
-use Rattle.mig_in_place.specs.Round.{Lie, LieIn, offsets_in, as_zeros}
+use Rattle.mig_assemble.specs.declared.places.Pages.{Pages}
+use Rattle.mig_assemble.specs.declared.places.Pages.TheVariants as pages
+use Rattle.mig_packet.specs.PacketHead.{offsets_in, as_zeros}
+use Rattle.mig_assemble.specs.HeadPlaces.{Lie, LieIn}
 use Rattle.mig_in_place.specs.Sources.{KeptChannel, AddsHead, WritesInto}
 use Rattle.mig_in_place.proofs.Heads.{lies}
 use Rattle.mig_in_place.proofs.Keeping.{also_some}
@@ -55,7 +56,7 @@ returns-in-Nowhere g c =
     let right : IsFalse c.packet.new.self.has_misplaced = sym c.has_misplaced.ensures ∙ c.if-has_misplaced.false in
     let none : length (offsets_in bytes) ≡ 0 = elim c.in-Nowhere.is [
       | inl e ↦ subst (λ (o : Pages). Lie c.args.round.now.arrivals.seen.table bytes o) e c.in_ok-pages.ensures.lie
-      | inr e ↦ absurd (let wrong : IsTrue c.packet.new.self.has_misplaced = c.in_ok-pages.ensures.noted e in cc)
+      | inr e ↦ absurd (let wrong : IsTrue c.packet.new.self.has_misplaced = c.in_ok-pages.ensures.noted e.0 e.1 in cc)
     ] in
     record {
       adds = λ _ head e. subst (λ (h : List ℕ). AddsHead h c.args.round.now m c.packet.new.self m) (same_head head e)

@@ -1,20 +1,31 @@
-use Rattle.std.proofs.Common.{◌∙◌, ◌++◌, ◌∷◌, [], refl, sym, ap, subst, List, ℕ}
+use Rattle.std.proofs.Common.{◌≡◌, ◌∙◌, ◌++◌, None, ◌∷◌, [], refl, sym, ap, subst, List, ℕ}
 use Rattle.std.specs.Prelude.{IsTrue}
-use Rattle.mig_mem.specs.RamTable.{RamTable}
+use Rattle.mig_packet.specs.PacketHead.{as_zeros}
+use Rattle.mig_assemble.specs.declared.places.Pages.{Pages}
 use Rattle.mig_assemble.specs.Arrivals.{OnePacket}
-use Rattle.mig_in_place.specs.declared.round.Pages.{Pages}
-use Rattle.mig_in_place.specs.Round.{KeptRound, Keeps, Lie, as_zeros, with_pages}
-use Rattle.mig_in_place.proofs.Keeping.{packet_noted}
+use Rattle.mig_in_place.specs.Round.{KeptRound, Keeps, with_pages}
+use Rattle.mig_assemble.specs.HeadPlaces.{Lie}
+use Rattle.mig_in_place.proofs.Keeping.{packet_noted, still_right}
 use Rattle.mig_in_place.proofs.round.RoundInHand.packet.Goals as goal
 
 pub returns-clause-keeps : goal.returns-clause-keeps
 returns-clause-keeps g c = λ table came keeps.
-    let head : List ℕ = c.args.head.now.bytes.now in
-    let lie : Lie c.args.self.now.arrivals.seen.table head c.pages_of-pages.result =
-    subst (λ (t : RamTable). Lie t head c.pages_of-pages.result) (c.table.ensures ∙ ap (λ (r : KeptRound). r.arrivals.seen.table) c.self.view_is) c.pages_of-pages.ensures in
-    subst (λ (r : KeptRound). Keeps table (came ++ OnePacket (as_zeros head) ∷ []) r) (sym c.note.ensures)
-    (packet_noted head c.args.self.now c.add.new.self c.pages_of-pages.result c.in_ok-add.ensures.come c.in_ok-add.ensures.misplaced lie table came keeps)
+    let i = c.self.inside in
+    let old : KeptRound = record { arrivals = i.arrivals; has_misplaced = i.has_misplaced } in
+    let mid : KeptRound = record { arrivals = c.packet.new.self; has_misplaced = i.has_misplaced } in
+    subst (λ (r : KeptRound). Keeps table (came ++ OnePacket (as_zeros c.args.head.now.bytes.now) ∷ []) r) (sym c.note.ensures)
+    (packet_noted c.args.head.now.bytes.now old mid c.in_ok-pages.pages c.in_ok-pages.ensures.come refl c.in_ok-pages.ensures.lie table came
+    (subst (λ (r : KeptRound). Keeps table came r) (sym c.self.view_is) keeps))
 
 pub returns-clause-noted : goal.returns-clause-noted
-returns-clause-noted g c = λ wrong.
-    subst (λ (r : KeptRound). IsTrue r.has_misplaced) (sym (c.note.ensures ∙ ap (λ (o : Pages). with_pages o c.add.new.self) wrong)) refl
+returns-clause-noted g c = λ fault wrong.
+    subst (λ (r : KeptRound). IsTrue r.has_misplaced) (sym (c.note.ensures ∙ ap (λ (o : Pages). with_pages o (record { arrivals = c.packet.new.self; has_misplaced = c.self.inside.has_misplaced })) wrong)) refl
+
+pub returns-clause-right : goal.returns-clause-right
+returns-clause-right g c = λ none.
+    let i = c.self.inside in
+    let mid : KeptRound = record { arrivals = c.packet.new.self; has_misplaced = i.has_misplaced } in
+    ap (λ (r : KeptRound). r.has_misplaced) c.note.ensures
+    ∙ still_right c.args.self.now.arrivals.seen.table c.args.head.now.bytes.now mid c.in_ok-pages.pages
+    (subst (λ (r : KeptRound). Lie r.arrivals.seen.table c.args.head.now.bytes.now c.in_ok-pages.pages) c.self.view_is c.in_ok-pages.ensures.lie) none
+    ∙ ap (λ (r : KeptRound). r.has_misplaced) c.self.view_is

@@ -1,0 +1,98 @@
+-- Places of a packet that are claimed, one after another.
+use Rattle.std.proofs.Common.{ℕ, ◌≡◌, ◌+◌, ◌/◌, ◌||◌, ◌&&◌, Bool, true, false, not, List, [], ◌∷◌, map, refl, sym, ap, subst, ◌∙◌, inl, inr, arith}
+use Rattle.std.specs.List.{range_with_len}
+use Rattle.std.proofs.lemmas.Bool.{cases_Bool}
+use Rattle.std.proofs.lemmas.List.Folds.{list_any-append}
+use Rattle.mig_mem.proofs.PlaceOrder.{place_eq-true, place_eq-from, place_eq-flip}
+use Rattle.std.proofs.lemmas.List.FromFn.{map-range_with_len_more}
+use Rattle.mig_mem.specs.declared.place.Place.{Place}
+use Rattle.mig_mem.specs.RamTable.{RamTable}
+use Rattle.mig_mem.specs.Place.{IsPlace, has_place, place_at, place_eq}
+use Rattle.mig_mem.specs.PlaceSet.{PlaceSet, with_place, without_place}
+use Rattle.mig_mem.proofs.Sets.{has_place-where}
+use Rattle.mig_packet.specs.Packet.{offset_at}
+use Rattle.mig_apart.specs.Claims.{ClaimsMore, ClaimsLess}
+
+-- the place of a page of a packet
+abbrev pub nth : RamTable → ℕ → List ℕ → ℕ → Place
+nth table b head i = place_at b (offset_at head i / table.page_size)
+
+-- the places of its first pages
+abbrev pub places_to : RamTable → ℕ → List ℕ → ℕ → List Place
+places_to table b head i = map (nth table b head) (range_with_len 0 i)
+
+has_more : (table : RamTable) (b : ℕ) (head : List ℕ) (i : ℕ) (p : Place) → has_place (places_to table b head (i + 1)) p ≡ (has_place (places_to table b head i) p || place_eq (nth table b head i) p)
+has_more table b head i p =
+    ap (λ (l : List Place). has_place l p) (map-range_with_len_more (nth table b head) 0 i i (omega arith))
+    ∙ list_any-append (λ (q : Place). place_eq q p) (places_to table b head i) (nth table b head i ∷ [])
+    ∙ ap (λ (x : Bool). has_place (places_to table b head i) p || x) (or_false (place_eq (nth table b head i) p))
+  where
+    or_false : (x : Bool) → (x || false) ≡ x
+    or_false true = refl
+    or_false false = refl
+
+eq_sym : (p q : Place) → place_eq p q ≡ place_eq q p
+eq_sym p q = elim (cases_Bool (place_eq p q)) [
+  | inl t ↦ t ∙ sym (place_eq-from q p (sym (place_eq-true p q t)))
+  | inr f ↦ f ∙ sym (place_eq-flip p q f)
+]
+
+-- So many places are claimed.
+pub record HasClaimed (table : RamTable) (b : ℕ) (head : List ℕ) (i : ℕ) (old now : PlaceSet) : Type 0 where
+  pub same_table : now.table ≡ table
+  pub claims : ClaimsMore table (places_to table b head i) old now
+
+pub record HasFreed (table : RamTable) (b : ℕ) (head : List ℕ) (i : ℕ) (old now : PlaceSet) : Type 0 where
+  pub same_table : now.table ≡ table
+  pub frees : ClaimsLess table (places_to table b head i) old now
+
+pub claimed_none : (table : RamTable) (b : ℕ) (head : List ℕ) (old : PlaceSet) → old.table ≡ table → HasClaimed table b head 0 old old
+claimed_none table b head old same = record { same_table = same; claims = λ p is. refl }
+
+pub freed_none : (table : RamTable) (b : ℕ) (head : List ℕ) (old : PlaceSet) → old.table ≡ table → HasFreed table b head 0 old old
+freed_none table b head old same = record { same_table = same; frees = λ p is. sym (and_true (has_place old.marked p)) }
+  where
+    and_true : (x : Bool) → (x && true) ≡ x
+    and_true true = refl
+    and_true false = refl
+
+or_order : (a b c : Bool) → (a || (b || c)) ≡ ((b || a) || c)
+or_order true true c = refl
+or_order true false c = refl
+or_order false true c = refl
+or_order false false c = refl
+
+and_order : (a b c : Bool) → ((a && not b) && not c) ≡ (a && not (b || c))
+and_order true true c = refl
+and_order true false c = refl
+and_order false b c = refl
+
+pub claimed_more : (table : RamTable) (b : ℕ) (head : List ℕ) (i : ℕ) (old now new : PlaceSet) → new ≡ with_place now (nth table b head i) → HasClaimed table b head i old now → HasClaimed table b head (i + 1) old new
+claimed_more table b head i old now new is at =
+    let n : Place = nth table b head i in
+    record {
+      same_table = ap (λ (s : PlaceSet). s.table) is ∙ at.same_table;
+      claims = λ p there.
+          let here : IsPlace now.table p = subst (λ (t : RamTable). IsPlace t p) (sym at.same_table) there in
+          ap (λ (s : PlaceSet). has_place s.marked p) is
+          ∙ has_place-where now.table (λ q. place_eq q n || has_place now.marked q) p here
+          ∙ ap (λ (x : Bool). place_eq p n || x) (at.claims p there)
+          ∙ or_order (place_eq p n) (has_place (places_to table b head i) p) (has_place old.marked p)
+          ∙ ap (λ (x : Bool). (has_place (places_to table b head i) p || x) || has_place old.marked p) (eq_sym p n)
+          ∙ ap (λ (x : Bool). x || has_place old.marked p) (sym (has_more table b head i p));
+    }
+
+pub freed_more : (table : RamTable) (b : ℕ) (head : List ℕ) (i : ℕ) (old now new : PlaceSet) → new ≡ without_place now (nth table b head i) → HasFreed table b head i old now → HasFreed table b head (i + 1) old new
+freed_more table b head i old now new is at =
+    let n : Place = nth table b head i in
+    record {
+      same_table = ap (λ (s : PlaceSet). s.table) is ∙ at.same_table;
+      frees = λ p there.
+          let here : IsPlace now.table p = subst (λ (t : RamTable). IsPlace t p) (sym at.same_table) there in
+          ap (λ (s : PlaceSet). has_place s.marked p) is
+          ∙ has_place-where now.table (λ q. has_place now.marked q && not (place_eq q n)) p here
+          ∙ ap (λ (x : Bool). x && not (place_eq p n)) (at.frees p there)
+          ∙ and_order (has_place old.marked p) (has_place (places_to table b head i) p) (place_eq p n)
+          ∙ ap (λ (x : Bool). has_place old.marked p && not (has_place (places_to table b head i) p || x)) (eq_sym p n)
+          ∙ ap (λ (x : Bool). has_place old.marked p && not x) (sym (has_more table b head i p));
+    }

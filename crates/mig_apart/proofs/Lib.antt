@@ -1,0 +1,2 @@
+pub mod ClaimedPlaces
+pub mod Free
