@@ -221,7 +221,8 @@ typedef enum zimgasol_status {
     ZIMGASOL_CHANNEL_WAITING = 65,
 
     /* ---- a call, and how a load stands */
-    /* no fault. Of a load: more of a source is needed. Of a worker: its channel goes on */
+    /* no fault. Of a load: more of a source is needed. Of a worker, and of a packet that is claimed
+     * or taken: its channel goes on */
     ZIMGASOL_RUNNING = 100,
     /* a page size other than 4096 and 8192 */
     ZIMGASOL_BAD_PAGE_SIZE = 101,
@@ -241,7 +242,7 @@ typedef enum zimgasol_status {
     ZIMGASOL_BAD_LENGTH = 108,
     /* a call out of turn: a round is open, or none is, or the stream is ended; a worker isn't the
      * next one, hasn't ended, has drawn no batch, or has bytes to be drained; no page comes next
-     * (zimgasol_in_place_page_read) */
+     * (zimgasol_in_place_page_read); pages are claimed, or none of this packet (zimgasol_apart) */
     ZIMGASOL_OUT_OF_TURN = 109,
     /* more pages than a packet has: 128 of 4096 bytes, 64 of 8192 */
     ZIMGASOL_TOO_MANY_PAGES = 110,
@@ -251,7 +252,12 @@ typedef enum zimgasol_status {
     /* a frame that isn't one */
     ZIMGASOL_BAD_FRAME = 113,
     /* an end of rounds that isn't one */
-    ZIMGASOL_BAD_ROUND_END = 114
+    ZIMGASOL_BAD_ROUND_END = 114,
+    /* a page is claimed for a packet that wasn't taken yet (zimgasol_apart_claim) */
+    ZIMGASOL_IS_CLAIMED = 115,
+    /* bytes that are to be fed: they aren't the head of a packet that is taken apart
+     * (zimgasol_apart_claim) */
+    ZIMGASOL_TO_FEED = 116
 } zimgasol_status;
 
 ZIMGASOL_ASSERT(sizeof(zimgasol_status) == sizeof(uint32_t), "an enum has the size of an int");
@@ -370,6 +376,22 @@ typedef struct zimgasol_buffer {
     size_t len;
 } zimgasol_buffer;
 
+/* The pages of one packet, which the caller reads to their places (zimgasol_apart_claim): the block
+ * that all of them are of, how many have contents in the packet (`normal`), how many are zeros
+ * (`zero`), and their numbers in the block, those with contents first. The numbers after the first
+ * `normal + zero` say nothing. */
+typedef struct zimgasol_pages {
+    size_t block;
+    size_t normal;
+    size_t zero;
+    uint64_t pages[128];
+} zimgasol_pages;
+
+/* How many bytes of a channel come at once before the contents of pages: those of its hello, and
+ * those of a packet's head, 1344 or 832. */
+#define ZIMGASOL_HELLO_LEN 64
+#define ZIMGASOL_HEAD_LEN(page_size) ((size_t)(320 + 8 * (524288 / (page_size))))
+
 /* What the next bytes of a stream are (zimgasol_in_place_wanted): `len` of them, at least 1. If
  * is_page is 1 they are the content of a page, which belongs `offset` bytes into the buffer of
  * block `block`. Else is_page, `block` and `offset` are 0. */
@@ -389,6 +411,7 @@ typedef struct zimgasol_sender { void *at; uint64_t full; } zimgasol_sender;
 typedef struct zimgasol_in_place_session { void *at; uint64_t full; } zimgasol_in_place_session;
 typedef struct zimgasol_multi { void *at; uint64_t full; } zimgasol_multi;
 typedef struct zimgasol_worker { void *at; uint64_t full; } zimgasol_worker;
+typedef struct zimgasol_apart { void *at; uint64_t full; } zimgasol_apart;
 
 /* ---- versions and texts */
 
@@ -816,6 +839,106 @@ ZIMGASOL_API bool zimgasol_in_place_session_has_all_rounds(zimgasol_in_place_ses
 
 /* Frees it. The blocks stay the caller's. */
 ZIMGASOL_API void zimgasol_in_place_session_free(zimgasol_in_place_session *session);
+
+/* ---- a load of several channels into the caller's own blocks, whose pages the caller's threads
+ *      read straight to their places, apart from the calls
+ *
+ * It is a load into blocks as the one above, but for the pages of packets: no call copies them.
+ * Each channel has a thread of its own, as has the main stream, and one lock of the caller's is
+ * around each call. Under it a channel's thread passes the head of its next packet, and the load
+ * claims the places of the packet's pages. Without it the thread reads the pages from its
+ * connection to their places. Under it again the thread says that they are there. No place is
+ * claimed for two packets at once, and as long as pages are claimed no call gets the blocks. So a
+ * claimed page is its thread's alone.
+ *
+ * All other bytes are fed, while nothing is claimed: hellos, SYNC packets, the main stream, and
+ * what has a fault. Channels that come to a SYNC wait for each other there in any case. Let
+ * `turned` be a condition that is signalled to all threads after each _take, _feed and _end. A
+ * channel's thread does this:
+ *
+ *     feed the hello, ZIMGASOL_HELLO_LEN bytes
+ *     until the connection ends, or the verdict isn't RUNNING:
+ *         head = the next ZIMGASOL_HEAD_LEN(page_size) bytes
+ *         lock
+ *         until _takes(ZIMGASOL_CHANNEL(j)), or the verdict isn't RUNNING: wait for turned
+ *         while _claim(j, head, &pages) is IS_CLAIMED: wait for turned
+ *         unlock
+ *         if it was RUNNING:
+ *             read pages.normal pages to their places (readv), and clear pages.zero pages
+ *             lock, _take(j, head, the normal pages), signal turned, unlock
+ *         if it was TO_FEED:
+ *             feed the head, and the contents that follow it
+ *     if the connection has ended: lock, _end(ZIMGASOL_CHANNEL(j)), signal turned, unlock
+ *
+ *     to feed bytes:
+ *         lock
+ *         until all are taken, or the verdict isn't RUNNING:
+ *             while _claimed isn't 0, or _takes(source) is false: wait for turned
+ *             _feed(blocks, source, the bytes that weren't taken), signal turned
+ *         unlock
+ *
+ * Each wait ends, too, once the verdict isn't RUNNING, or the load is given up: then nothing is
+ * taken any more. The thread of the main stream feeds each piece that it reads, and ends it. The
+ * head of a packet that is fed says how many bytes follow it: big-endian, in the 4 bytes at offset
+ * 20, if those at 16 aren't all 0. With a fault in the head itself nothing more of the channel is
+ * taken.
+ *
+ * If a connection ends while its thread reads claimed pages, the thread ends the channel without
+ * _take, and gives up the load: the pages stay claimed, so nothing is fed any more. _fault_of has
+ * the fault of the channel. The blocks may hold anything at the places that the round names, as
+ * after every fault. */
+
+/* Makes a load into blocks of a table, of which it keeps copies, from 1 to 255 channels under a
+ * UUID of 16 bytes, with settings. Nothing is claimed. Returns DONE, BAD_CHANNELS, BAD_LENGTH (of
+ * the UUID), BAD_FRAME, BAD_ROUND_END or NO_MEMORY. */
+ZIMGASOL_API zimgasol_status zimgasol_apart_new(zimgasol_apart *load, zimgasol_table *table,
+    const uint8_t *uuid, size_t uuid_len, size_t channels, const zimgasol_settings *settings);
+
+/* Claims the places of the next packet of channel `channel`, from 0 on, by its head, of
+ * ZIMGASOL_HEAD_LEN bytes. Returns
+ *  - RUNNING: *pages has them. From now on the bytes of these pages are the caller's to write,
+ *    until _take;
+ *  - IS_CLAIMED: one of them is claimed for another packet. The caller asks again after that one
+ *    was taken;
+ *  - TO_FEED: no packet with this head is taken apart. It is a SYNC packet or none, it has a
+ *    fault, a page of it or of the round is misplaced, or no bytes of the channel are taken now.
+ *    The caller passes the bytes to _feed, which says what they are;
+ *  - BAD_SOURCE: there is no such channel.
+ * But for RUNNING nothing is claimed, and *pages stays as it is. */
+ZIMGASOL_API zimgasol_status zimgasol_apart_claim(zimgasol_apart *load, size_t channel,
+    const uint8_t *head, size_t len, zimgasol_pages *pages);
+
+/* Takes the packet that was claimed with this head, once its pages are at their places: those of
+ * zeros are cleared, and the others have these contents, in their order, each a page in its block
+ * or a copy of it. They aren't claimed any more. Returns RUNNING; OUT_OF_TURN, if the packet isn't
+ * the channel's next one, its pages aren't claimed, or there isn't a content of the page size for
+ * each of its `normal`; BAD_SOURCE; or NO_MEMORY. But for RUNNING nothing has changed: after
+ * NO_MEMORY the call can be made again. */
+ZIMGASOL_API zimgasol_status zimgasol_apart_take(zimgasol_apart *load, size_t channel,
+    const uint8_t *head, size_t len, const zimgasol_lent *contents, size_t count);
+
+/* Returns how many pages are claimed. */
+ZIMGASOL_API uint64_t zimgasol_apart_claimed(zimgasol_apart *load);
+
+/* Takes the first bytes of a piece of a source, as zimgasol_in_place_session_feed does, while
+ * nothing is claimed. Returns what that does, and OUT_OF_TURN where pages are claimed: *taken is 0
+ * then, and nothing else has changed. */
+ZIMGASOL_API zimgasol_status zimgasol_apart_feed(zimgasol_apart *load, zimgasol_buffer *blocks,
+    size_t count, size_t source, const uint8_t *piece, size_t len, size_t *taken);
+
+/* These are as those of a zimgasol_in_place_session. */
+ZIMGASOL_API bool zimgasol_apart_takes(zimgasol_apart *load, size_t source);
+ZIMGASOL_API zimgasol_status zimgasol_apart_end(zimgasol_apart *load, size_t source);
+ZIMGASOL_API uint64_t zimgasol_apart_fed(zimgasol_apart *load, size_t source);
+ZIMGASOL_API zimgasol_status zimgasol_apart_verdict(zimgasol_apart *load, zimgasol_fault *found);
+ZIMGASOL_API uint64_t zimgasol_apart_rounds(zimgasol_apart *load);
+ZIMGASOL_API zimgasol_status zimgasol_apart_closed_at(zimgasol_apart *load, uint64_t *at);
+ZIMGASOL_API zimgasol_status zimgasol_apart_fault_of(zimgasol_apart *load, size_t source,
+    zimgasol_fault *found);
+ZIMGASOL_API bool zimgasol_apart_has_all_rounds(zimgasol_apart *load);
+
+/* Frees it. The blocks stay the caller's. */
+ZIMGASOL_API void zimgasol_apart_free(zimgasol_apart *load);
 
 /* ---- a sender of one stream, whose rounds are put page by page, as they are read of a guest that
  *      runs on

@@ -701,10 +701,13 @@ def live():
 
 
 def channels():
-    """A guest is migrated on several channels while it runs, a thread for each worker."""
-    for words in ((), ("-c", 1, "-m", 3, "-b", 1), ("-c", 8, "-m", 2), ("-k",), ("-k", "-c", 2, "-m", 2, "-b", 1)):
+    """A guest is migrated on several channels while it runs, with threads for each, or one that loads."""
+    for words in ((), ("-c", 1, "-m", 3, "-b", 1), ("-c", 8, "-m", 2), ("-k",), ("-k", "-c", 2, "-m", 2, "-b", 1), ("-p",)):
         run(OUT / "channels", *words, wanted="0 pages differ")
-    for words in ((), ("-k",)):
+    # pages that are copied word by word: the threads share nothing else that one of them writes
+    for words in ((), ("-c", 2), ("-p",)):
+        run(OUT / "channels_tsan", "-m", 4, "-k", *words, wanted="0 pages differ")
+    for words in ((), ("-k",), ("-p",)):
         run(OUT / "channels_asan", "-m", 4, *words, wanted="0 pages differ")
         if VALGRIND:
             run(*VALGRIND, "--fair-sched=yes", OUT / "channels", "-m", 1, *words, wanted="0 pages differ")
@@ -806,9 +809,12 @@ def main():
     build("live_asan", "examples/c/live.c", "-pthread", "-fsanitize=address,undefined")
     build("channels", "examples/c/channels.c", "-pthread")
     build("channels_asan", "examples/c/channels.c", "-pthread", "-fsanitize=address,undefined")
+    build("channels_tsan", "examples/c/channels.c", "-pthread", "-fsanitize=thread")
     build("channel_calls", "examples/c/tests/channels.c")
     build("heads", "examples/c/tests/heads.c")
     build("round_ends", "examples/c/tests/round_ends.c")
+    build("apart", "examples/c/tests/apart.c", "-pthread")
+    build("apart_asan", "examples/c/tests/apart.c", "-pthread", "-fsanitize=address,undefined")
     build("next_buffer", "examples/c/tests/next_buffer.c")
     build("held", "examples/c/tests/held.c")
     build("send_failing", "examples/c/send.c", TOP / "examples/c/tests/failing_read.c", "-Wl,--wrap=fread")
@@ -831,10 +837,12 @@ def main():
         print(run(*before, OUT / "channel_calls").decode().strip() + under)
         print(run(*before, OUT / "heads").decode().strip() + under)
         print(run(*before, OUT / "round_ends").decode().strip() + under)
+        print(run(*before, OUT / "apart").decode().strip() + under)
     failing_read()
     live()
     print("a guest migrated while it ran: no page differs")
     channels()
+    run(OUT / "apart_asan")
     print("a guest migrated while it ran, on several channels: no page differs")
     print(f"64 MiB of pages read straight into their block: {next_buffer()}")
     print(f"memory of loads into blocks of 64 MiB: {held(library)}")

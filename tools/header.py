@@ -23,6 +23,8 @@ STRUCTS = {
     "InPlaceSessionHandle": "zimgasol_in_place_session",
     "MultiHandle": "zimgasol_multi",
     "WorkerHandle": "zimgasol_worker",
+    "ApartHandle": "zimgasol_apart",
+    "ClaimedPages": "zimgasol_pages",
     "NamedPlace": "zimgasol_place",
     "NamedBatch": "zimgasol_batch",
     "NextBytes": "zimgasol_next",

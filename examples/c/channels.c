@@ -1,18 +1,19 @@
 /* A live migration within one process, on several channels over socket pairs: a thread goes on
- * writing to a guest's memory while its pages are sent, by a thread for each channel, and another
- * thread loads them into blocks of its own.
+ * writing to a guest's memory while its pages are sent, by a thread for each channel. Another
+ * thread for each channel reads them straight to their places in the loader's blocks.
  *
- *   channels [-m MIB] [-c CHANNELS] [-b PAGES] [-k] [-t]
+ *   channels [-m MIB] [-c CHANNELS] [-b PAGES] [-k] [-p] [-t]
  *
  * The guest has two blocks, `pc.ram` of MIB (16) and `vga.vram` of 1 MiB, and CHANNELS (4) channels
  * carry packets of at most PAGES (128) pages. Each round sends the pages written since the round
  * before, while the guest runs: each worker writes the head of a packet, and its thread sends the
  * head and the pages, from where they lie, by one `writev`. With -k it copies the pages instead,
  * and the worker packs the copy. The last round is sent with the writer stopped, with -k by steps,
- * from the guest's own memory. At the end both memories are compared: it prints `0 pages differ`,
- * with status 0; 1 where pages differ, and 3 where it can't go on. -t then sends the stopped guest
- * once more, without zero pages, and does so plainly: as many threads `write` their part of each
- * block, and others `read` it into place. It writes both times to standard error.
+ * from the guest's own memory. With -p one thread reads all connections, by `poll`, and feeds what
+ * it reads to a load that copies the pages. At the end both memories are compared: it prints `0
+ * pages differ`, with status 0; 1 where pages differ, and 3 where it can't go on. -t then sends the
+ * stopped guest once more, without zero pages, and does so plainly: as many threads `write` their
+ * part of each block, and others `read` it into place. It writes both times to standard error.
  */
 #define _GNU_SOURCE
 #include "zimgasol.h"
@@ -29,7 +30,10 @@
 #include <unistd.h>
 
 enum { PAGE = 4096, BLOCKS = 2, WORDS = PAGE / 8, PIECE = 1 << 16, MOST = 16, ROUNDS = 4 };
-enum { PACKET = 128, HEAD = 1344 }; /* the most pages of a packet, and its bytes before them */
+enum {
+    PACKET = 128,
+    HEAD = ZIMGASOL_HEAD_LEN(PAGE)
+}; /* the most pages of a packet, and its head */
 
 /* A block: the guest's words, the blocks that are loaded, and a mark for each page that was written
  * since it was sent. */
@@ -44,7 +48,7 @@ static zimgasol_block blocks[BLOCKS] = {{.id = "pc.ram"}, {.id = "vga.vram", .pa
 static const uint8_t uuid[16] = {7, 1};
 static size_t channels = 4, limit = 128;
 static int sockets[1 + MOST][2]; /* the sender's end, and the loader's */
-static bool copies;
+static bool copies, polls;
 static _Atomic bool is_running;
 
 static void check(zimgasol_status status, const char *call) {
@@ -219,9 +223,194 @@ static void send_round(zimgasol_multi *multi, const zimgasol_place *dirty, size_
     drain_main(multi);
 }
 
-/* The loader: reads whatever source has bytes that are taken now, and keeps what wasn't taken.
- * After a fault nothing is taken any more. */
-static void *load(void *table) {
+/* ---- the loader: a thread for each connection, and one lock */
+
+/* The load, with the lock around its calls. */
+static struct loader {
+    zimgasol_apart load;
+    pthread_mutex_t held;
+    pthread_cond_t turned;
+    zimgasol_buffer into[BLOCKS];
+    bool given_up;
+} loader = {.held = PTHREAD_MUTEX_INITIALIZER, .turned = PTHREAD_COND_INITIALIZER};
+
+/* Whether more is taken. The caller holds the lock. */
+static bool goes_on(void) {
+    zimgasol_fault fault;
+    return !loader.given_up && zimgasol_apart_verdict(&loader.load, &fault) == ZIMGASOL_RUNNING;
+}
+
+/* Fills some buffers from a connection, and changes their list. Returns how many bytes there were:
+ * fewer where the connection ends. */
+static size_t read_parts(size_t source, struct iovec *parts, int count) {
+    size_t all = 0;
+    while (count > 0) {
+        ssize_t len = readv(sockets[source][1], parts, count);
+        if (len < 0) taken(NULL, "readv");
+        if (len == 0) break;
+        all += (size_t)len;
+        for (; count > 0 && (size_t)len >= parts->iov_len; parts++, count--)
+            len -= (ssize_t)parts->iov_len;
+        if (count == 0) break;
+        parts->iov_base = (uint8_t *)parts->iov_base + len;
+        parts->iov_len -= (size_t)len;
+    }
+    return all;
+}
+
+static size_t read_bytes(size_t source, void *bytes, size_t len) {
+    struct iovec part = {bytes, len};
+    return read_parts(source, &part, 1);
+}
+
+/* Feeds all of some bytes, each as soon as it may be fed. Returns whether all were taken. */
+static bool feed(size_t source, const uint8_t *bytes, size_t len) {
+    pthread_mutex_lock(&loader.held);
+    while (len > 0 && goes_on()) {
+        size_t count;
+        if (zimgasol_apart_claimed(&loader.load) > 0 ||
+            !zimgasol_apart_takes(&loader.load, source)) {
+            pthread_cond_wait(&loader.turned, &loader.held);
+            continue;
+        }
+        check(zimgasol_apart_feed(&loader.load, loader.into, BLOCKS, source, bytes, len, &count),
+            "feed");
+        bytes += count;
+        len -= count;
+        pthread_cond_broadcast(&loader.turned);
+    }
+    pthread_mutex_unlock(&loader.held);
+    return len == 0;
+}
+
+/* Ends a source. A load that has pages of a cut packet claimed is given up. */
+static void end_source(size_t source, bool gives_up) {
+    pthread_mutex_lock(&loader.held);
+    check(zimgasol_apart_end(&loader.load, source), "end");
+    loader.given_up = loader.given_up || gives_up;
+    pthread_cond_broadcast(&loader.turned);
+    pthread_mutex_unlock(&loader.held);
+}
+
+/* Claims the pages of the next packet, once bytes of its channel are taken and no other packet has
+ * one of them. */
+static zimgasol_status claim(size_t source, const uint8_t *head, zimgasol_pages *pages) {
+    zimgasol_status status = ZIMGASOL_IS_CLAIMED;
+    pthread_mutex_lock(&loader.held);
+    while (goes_on() && !zimgasol_apart_takes(&loader.load, source))
+        pthread_cond_wait(&loader.turned, &loader.held);
+    while (goes_on()) {
+        status = zimgasol_apart_claim(&loader.load, source - 1, head, HEAD, pages);
+        if (status != ZIMGASOL_IS_CLAIMED) break;
+        pthread_cond_wait(&loader.turned, &loader.held);
+    }
+    pthread_mutex_unlock(&loader.held);
+    return status;
+}
+
+/* Reads claimed pages to their places, and clears those of zeros. Returns false where the
+ * connection ends before. */
+static bool read_pages(size_t source, const zimgasol_pages *pages, zimgasol_lent *contents) {
+    uint8_t *block = loader.into[pages->block].bytes;
+    struct iovec parts[PACKET];
+    for (size_t i = 0; i < pages->normal; i++) {
+        parts[i] = (struct iovec){block + pages->pages[i] * PAGE, PAGE};
+        contents[i] = (zimgasol_lent){parts[i].iov_base, PAGE};
+    }
+    for (size_t i = pages->normal; i < pages->normal + pages->zero; i++)
+        memset(block + pages->pages[i] * PAGE, 0, PAGE);
+    return read_parts(source, parts, (int)pages->normal) == pages->normal * PAGE;
+}
+
+/* Loads a packet whose pages are claimed. Returns false where the connection ends in it. */
+static bool take(size_t source, const uint8_t *head, const zimgasol_pages *pages) {
+    zimgasol_lent contents[PACKET];
+    if (!read_pages(source, pages, contents)) return false;
+    pthread_mutex_lock(&loader.held);
+    zimgasol_status status =
+        zimgasol_apart_take(&loader.load, source - 1, head, HEAD, contents, pages->normal);
+    if (status != ZIMGASOL_RUNNING) check(status, "take");
+    pthread_cond_broadcast(&loader.turned);
+    pthread_mutex_unlock(&loader.held);
+    return true;
+}
+
+/* How many bytes follow a head that is fed. */
+static size_t contents_len(const uint8_t *head) {
+    size_t len = 0;
+    for (size_t i = 20; i < 24; i++) len = 256 * len + head[i];
+    return head[16] | head[17] | head[18] | head[19] ? len : 0;
+}
+
+/* Feeds a packet that isn't taken apart: a SYNC packet, or one with a fault. */
+static bool feed_packet(size_t source, const uint8_t *head) {
+    uint8_t bytes[PAGE];
+    size_t left = contents_len(head), len = 1;
+    if (!feed(source, head, HEAD)) return false;
+    for (; left > 0 && len > 0; left -= len) {
+        len = read_bytes(source, bytes, left < PAGE ? left : PAGE);
+        if (!feed(source, bytes, len)) return false;
+    }
+    return true;
+}
+
+/* Loads a channel until its connection ends, or the load takes nothing any more. */
+static void load_packets(size_t source) {
+    uint8_t head[HEAD];
+    zimgasol_pages pages;
+    size_t len = read_bytes(source, head, ZIMGASOL_HELLO_LEN);
+    if (!feed(source, head, len)) return;
+    while ((len = read_bytes(source, head, HEAD)) == HEAD) {
+        zimgasol_status status = claim(source, head, &pages);
+        if (status == ZIMGASOL_RUNNING) {
+            if (take(source, head, &pages)) continue;
+            end_source(source, true);
+            return;
+        }
+        if (status != ZIMGASOL_TO_FEED || !feed_packet(source, head)) return;
+    }
+    if (feed(source, head, len)) end_source(source, false);
+}
+
+static void *load_channel(void *arg) {
+    size_t source = (size_t)arg;
+    load_packets(source);
+    close(sockets[source][1]);
+    return NULL;
+}
+
+static void *load_main(void *arg) {
+    uint8_t piece[PAGE];
+    ssize_t len;
+    while ((len = read(sockets[0][1], piece, PAGE)) > 0 && feed(0, piece, (size_t)len)) continue;
+    if (len < 0) taken(NULL, "read");
+    if (len == 0) end_source(0, false);
+    close(sockets[0][1]);
+    return arg;
+}
+
+/* Loads the guest by a thread for each connection. */
+static void *load_apart(void *table) {
+    pthread_t threads[1 + MOST];
+    zimgasol_settings settings = {0};
+    zimgasol_fault fault;
+    for (size_t b = 0; b < BLOCKS; b++)
+        loader.into[b] = (zimgasol_buffer){rams[b].loaded, rams[b].pages * PAGE};
+    check(zimgasol_apart_new(&loader.load, table, uuid, 16, channels, &settings), "apart_new");
+    for (size_t s = 0; s <= channels; s++)
+        if (pthread_create(&threads[s], NULL, s == 0 ? load_main : load_channel, (void *)s) != 0)
+            taken(NULL, "thread");
+    for (size_t s = 0; s <= channels; s++) pthread_join(threads[s], NULL);
+    check(zimgasol_apart_verdict(&loader.load, &fault), "verdict");
+    zimgasol_apart_free(&loader.load);
+    return NULL;
+}
+
+/* ---- the loader: one thread */
+
+/* Reads whatever source has bytes that are taken now, and keeps what wasn't taken. After a fault
+ * nothing is taken any more. */
+static void *load_by_turns(void *table) {
     static uint8_t kept[1 + MOST][PIECE];
     size_t from[1 + MOST] = {0}, to[1 + MOST] = {0}, open = 1 + channels;
     struct pollfd polled[1 + MOST] = {{0}};
@@ -267,6 +456,8 @@ static void *load(void *table) {
     return NULL;
 }
 
+/* ---- a migration */
+
 static void connect_all(void) {
     for (size_t s = 0; s <= channels; s++)
         if (socketpair(AF_UNIX, SOCK_STREAM, 0, sockets[s]) != 0) taken(NULL, "socketpair");
@@ -277,14 +468,15 @@ static void connect_all(void) {
 static void migrate(bool runs, zimgasol_place *dirty) {
     zimgasol_table table = {0}, other = {0};
     zimgasol_multi multi = {0};
-    pthread_t writer, loader;
+    pthread_t writer, loading;
     size_t entry;
     connect_all();
     check(zimgasol_table_new(&table, PAGE, blocks, BLOCKS, &entry), "table_new");
     check(zimgasol_table_new(&other, PAGE, blocks, BLOCKS, &entry), "table_new");
     check(zimgasol_multi_new(&multi, &table, uuid, 16, channels, limit), "multi_new");
     atomic_store(&is_running, runs);
-    if (pthread_create(&loader, NULL, load, &other) != 0) taken(NULL, "thread");
+    if (pthread_create(&loading, NULL, polls ? load_by_turns : load_apart, &other) != 0)
+        taken(NULL, "thread");
     if (runs && pthread_create(&writer, NULL, write_guest, NULL) != 0) taken(NULL, "thread");
     drain_main(&multi);
     for (int round = 0; runs && round < ROUNDS; round++)
@@ -295,7 +487,7 @@ static void migrate(bool runs, zimgasol_place *dirty) {
     check(zimgasol_multi_finish(&multi), "finish");
     drain_main(&multi);
     for (size_t s = 0; s <= channels; s++) close(sockets[s][0]);
-    pthread_join(loader, NULL);
+    pthread_join(loading, NULL);
     zimgasol_multi_free(&multi);
     zimgasol_table_free(&table);
     zimgasol_table_free(&other);
@@ -379,12 +571,13 @@ int main(int count, char **words) {
     size_t all = 0;
     bool times = false;
     int option;
-    while ((option = getopt(count, words, "m:c:b:kt")) != -1) {
+    while ((option = getopt(count, words, "m:c:b:kpt")) != -1) {
         unsigned long number = optarg != NULL ? strtoul(optarg, NULL, 10) : 0;
         if (option == 'm') mib = number;
         else if (option == 'c' && number >= 1 && number <= MOST) channels = number;
         else if (option == 'b') limit = number;
         else if (option == 'k') copies = true;
+        else if (option == 'p') polls = true;
         else if (option == 't') times = true;
         else return 3;
     }

@@ -5,6 +5,7 @@ use Rattle.mig_single_load.specs.Loader.{Loader}
 use Rattle.mig_single_load.specs.LoadInPlace.{LoadInPlace}
 use Rattle.mig_session.specs.Session.{LoadSession}
 use Rattle.mig_in_place.specs.Session.{InPlaceLoad}
+use Rattle.mig_apart.specs.Claims.{ApartLoad}
 use Rattle.mig_c_calls.specs.declared.sender.Sender.{Sender}
 use Rattle.mig_c_calls.specs.declared.sending.Multi.{Multi}
 use Rattle.mig_c_calls.specs.declared.sending.HeldWorker.{HeldWorker}
@@ -22,6 +23,7 @@ table_in (Some (object.Sender x)) = None
 table_in (Some (object.InPlaceSession x)) = None
 table_in (Some (object.Multi x)) = None
 table_in (Some (object.Worker x)) = None
+table_in (Some (object.Apart x)) = None
 table_in (Some object.Empty) = None
 
 abbrev pub loader_in : Option Object → Option Loader
@@ -34,6 +36,7 @@ loader_in (Some (object.Sender x)) = None
 loader_in (Some (object.InPlaceSession x)) = None
 loader_in (Some (object.Multi x)) = None
 loader_in (Some (object.Worker x)) = None
+loader_in (Some (object.Apart x)) = None
 loader_in (Some object.Empty) = None
 
 abbrev pub in_place_in : Option Object → Option LoadInPlace
@@ -46,6 +49,7 @@ in_place_in (Some (object.Sender x)) = None
 in_place_in (Some (object.InPlaceSession x)) = None
 in_place_in (Some (object.Multi x)) = None
 in_place_in (Some (object.Worker x)) = None
+in_place_in (Some (object.Apart x)) = None
 in_place_in (Some object.Empty) = None
 
 abbrev pub session_in : Option Object → Option LoadSession
@@ -58,6 +62,7 @@ session_in (Some (object.Sender x)) = None
 session_in (Some (object.InPlaceSession x)) = None
 session_in (Some (object.Multi x)) = None
 session_in (Some (object.Worker x)) = None
+session_in (Some (object.Apart x)) = None
 session_in (Some object.Empty) = None
 
 abbrev pub sender_in : Option Object → Option Sender
@@ -70,6 +75,7 @@ sender_in (Some (object.Sender x)) = Some x
 sender_in (Some (object.InPlaceSession x)) = None
 sender_in (Some (object.Multi x)) = None
 sender_in (Some (object.Worker x)) = None
+sender_in (Some (object.Apart x)) = None
 sender_in (Some object.Empty) = None
 
 abbrev pub in_place_session_in : Option Object → Option InPlaceLoad
@@ -82,6 +88,7 @@ in_place_session_in (Some (object.Sender x)) = None
 in_place_session_in (Some (object.InPlaceSession x)) = Some x
 in_place_session_in (Some (object.Multi x)) = None
 in_place_session_in (Some (object.Worker x)) = None
+in_place_session_in (Some (object.Apart x)) = None
 in_place_session_in (Some object.Empty) = None
 
 abbrev pub multi_in : Option Object → Option Multi
@@ -94,6 +101,7 @@ multi_in (Some (object.Sender x)) = None
 multi_in (Some (object.InPlaceSession x)) = None
 multi_in (Some (object.Multi x)) = Some x
 multi_in (Some (object.Worker x)) = None
+multi_in (Some (object.Apart x)) = None
 multi_in (Some object.Empty) = None
 
 abbrev pub worker_in : Option Object → Option HeldWorker
@@ -106,7 +114,21 @@ worker_in (Some (object.Sender x)) = None
 worker_in (Some (object.InPlaceSession x)) = None
 worker_in (Some (object.Multi x)) = None
 worker_in (Some (object.Worker x)) = Some x
+worker_in (Some (object.Apart x)) = None
 worker_in (Some object.Empty) = None
+
+abbrev pub apart_in : Option Object → Option ApartLoad
+apart_in None = None
+apart_in (Some (object.Table x)) = None
+apart_in (Some (object.Loader x)) = None
+apart_in (Some (object.InPlace x)) = None
+apart_in (Some (object.Session x)) = None
+apart_in (Some (object.Sender x)) = None
+apart_in (Some (object.InPlaceSession x)) = None
+apart_in (Some (object.Multi x)) = None
+apart_in (Some (object.Worker x)) = None
+apart_in (Some (object.Apart x)) = Some x
+apart_in (Some object.Empty) = None
 
 -- The call is passed an object of its kind and leaves one, and this holds between the two.
 abbrev pub Turns : {A : Type 0} → (A → A → Type 0) → Option A → Option A → Type 0

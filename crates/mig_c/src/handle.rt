@@ -180,6 +180,17 @@ pub struct WorkerHandle {
     ghost says: { full ≡ 0 ↔ handle.value ≡ None },
 }
 
+/// A load of several channels whose pages C reads to their places, or none.
+#[repr(C)]
+#[derive(Drop)]
+pub struct ApartHandle {
+    /// The handle of the object.
+    pub handle: Handle,
+    /// 0 if there is no object, else 1.
+    pub full: u64,
+    ghost says: { full ≡ 0 ↔ handle.value ≡ None },
+}
+
 // Asks the prover for the proof that values of the type may go to another thread. The line `unsafe
 // impl Send` doesn't ask for one.
 fn crosses<T: Send>(_: &T) {}
@@ -196,6 +207,7 @@ pub(crate) fn all_cross(
     in_place_session: &InPlaceSessionHandle,
     multi: &MultiHandle,
     worker: &WorkerHandle,
+    apart: &ApartHandle,
 ) {
     crosses(table);
     crosses(loader);
@@ -205,4 +217,5 @@ pub(crate) fn all_cross(
     crosses(in_place_session);
     crosses(multi);
     crosses(worker);
+    crosses(apart);
 }

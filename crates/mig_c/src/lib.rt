@@ -10,6 +10,7 @@
 //! the same name, and put it back.
 #![tactic(auto)]
 
+mod apart;
 mod handle;
 mod in_place;
 mod in_place_session;

@@ -1,7 +1,7 @@
 //! The objects of handles.
 
 use mig_c_calls::{HeldWorker, Multi, Sender};
-use mig_c_loads::{HeldLoad, HeldSession};
+use mig_c_loads::{HeldApart, HeldLoad, HeldSession};
 use mig_mem::Table;
 use mig_session::Session;
 use mig_single_load::SingleLoader;
@@ -26,6 +26,8 @@ pub enum Object {
     Multi(Multi),
     /// A worker of a round on several channels.
     Worker(HeldWorker),
+    /// A load of several channels whose pages C reads to their places.
+    Apart(HeldApart),
     /// No worker yet: room for one.
     Empty,
 }

@@ -80,6 +80,14 @@ bad_frame = 113
 abbrev pub bad_round_end : ℕ
 bad_round_end = 114
 
+-- a page is claimed for a packet that wasn't taken yet
+abbrev pub is_claimed : ℕ
+is_claimed = 115
+
+-- bytes that are to be fed: they aren't the head of a packet that is taken apart
+abbrev pub to_feed : ℕ
+to_feed = 116
+
 -- ----
 
 -- no other status is returned

@@ -57,6 +57,12 @@ pub const BAD_FRAME: u32 = 113;
 /// A number that ends no rounds.
 pub const BAD_ROUND_END: u32 = 114;
 
+/// A page is claimed for a packet that wasn't taken yet.
+pub const IS_CLAIMED: u32 = 115;
+
+/// Bytes that are to be fed: they aren't the head of a packet that is taken apart.
+pub const TO_FEED: u32 = 116;
+
 /// The most bytes that a guest's blocks may have together.
 pub const MAX_LIMIT: u64 = 1 << 40;
 

@@ -129,6 +129,8 @@ fn of_call(status: u32) -> &'static [u8]
         111 => b"taken, waits for guest memory\0",
         113 => b"no such frame\0",
         114 => b"no such end of rounds\0",
+        115 => b"page is claimed\0",
+        116 => b"bytes to be fed\0",
         _ => b"unknown status\0",
     }
 }

@@ -43,8 +43,8 @@ impl Model for HeldSession {
     ghost invariant = { λ h. h.table ≡ Some h.session.table };
 }
 
-// Returns why a piece of a source can't be taken into these blocks, or DONE.
-fn refusal(
+/// Returns why a piece of a source can't be taken into these blocks, or DONE.
+pub(crate) fn refusal(
     session: &InPlaceSession<Global>,
     blocks: &[&mut [u8]],
     source: Source,
@@ -127,8 +127,8 @@ fn feed_blocks(
     (table, status)
 }
 
-// Reports how many of the bytes taken the main stream has, once it is closed.
-fn closed_at(session: &InPlaceSession<Global>, at: &mut u64) -> u32
+/// Reports how many of the bytes taken the main stream has, once it is closed.
+pub(crate) fn closed_at(session: &InPlaceSession<Global>, at: &mut u64) -> u32
     ensures { TellsClosedAt result at.old at.new session.now }
 {
     match session.closed_at() {
@@ -157,8 +157,12 @@ fn valid_up_to(session: &InPlaceSession<Global>, source: Source, at: &mut u64) -
     }
 }
 
-// Reports the fault of a source's own bytes, or that they have none.
-fn report_fault(session: &InPlaceSession<Global>, source: Source, told: &mut FoundFault) -> u32
+/// Reports the fault of a source's own bytes, or that they have none.
+pub(crate) fn report_fault(
+    session: &InPlaceSession<Global>,
+    source: Source,
+    told: &mut FoundFault,
+) -> u32
     ensures { TellsFault source result told.old told.new session.now }
 {
     if !session.has(source) {
@@ -167,6 +171,17 @@ fn report_fault(session: &InPlaceSession<Global>, source: Source, told: &mut Fou
     let fault = of_source(session.rounds(), source, session.fault_of(source));
     *told = fault;
     fault.number
+}
+
+/// Returns the verdict on the bytes taken, as C sees it.
+pub(crate) fn seen_verdict(session: &InPlaceSession<Global>) -> FoundFault
+    ensures { result ≡ seen_of_verdict session.now.rounds session.now.verdict }
+{
+    match session.verdict() {
+        Verdict::Done => none(),
+        Verdict::Running => running(session.rounds()),
+        Verdict::Failed(fault) => found(fault),
+    }
 }
 
 impl HeldSession {
@@ -277,11 +292,7 @@ impl HeldSession {
     pub fn verdict(&self) -> FoundFault
         ensures { result ≡ seen_of_verdict self.now.rounds self.now.verdict }
     {
-        match self.session.verdict() {
-            Verdict::Done => none(),
-            Verdict::Running => running(self.session.rounds()),
-            Verdict::Failed(fault) => found(fault),
-        }
+        seen_verdict(&self.session)
     }
 
     /// Returns how many rounds were judged lawful.

@@ -2,14 +2,18 @@
 //!
 //! They work on a loader of one stream (`loading`), a session (`sources`), and the loads into
 //! blocks of C (`held_load`, `held_session`). The blocks are lent to a call (`lent`), which writes
-//! pages into their bytes (`putting`). C passes the numbers of a frame and of what ends rounds, and
-//! settings (`frame`, `round_end`, `settings`). It sees a load's fault (`fault`) and what the next
-//! bytes are (`next_bytes`), and reads the pages of the memory (`reading`). Statuses are those of
-//! `mig_c_calls`. What C's senders sent, these loads load (`laws`).
+//! pages into their bytes (`putting`). Of a load whose pages C reads to their places
+//! (`held_apart`) C sees which pages it claimed (`claimed_pages`). C passes the numbers of a frame
+//! and of what ends rounds, and settings (`frame`, `round_end`, `settings`). It sees a load's
+//! fault (`fault`) and what the next bytes are (`next_bytes`), and reads the pages of the memory
+//! (`reading`). Statuses are those of `mig_c_calls`. What C's senders sent, these loads load
+//! (`laws`).
 #![tactic(auto)]
 
+mod claimed_pages;
 mod fault;
 mod frame;
+mod held_apart;
 mod held_load;
 mod held_session;
 mod laws;
@@ -22,8 +26,10 @@ mod round_end;
 mod settings;
 mod sources;
 
+pub use claimed_pages::ClaimedPages;
 pub use fault::FoundFault;
 pub use frame::frame_of;
+pub use held_apart::HeldApart;
 pub use held_load::HeldLoad;
 pub use held_session::HeldSession;
 pub use laws::{
