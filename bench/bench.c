@@ -3,6 +3,7 @@
  *   bench load [PAGES]          one stream: sent, loaded, and loaded into a block
  *   bench multi [PAGES]         several channels: a round sent, with a thread for each
  *   bench sockets [PAGES]       several channels: a round written to sockets, without copies
+ *   bench transfer [PAGES]      several channels: a guest moved over sockets into a block
  *   bench load_multi [PAGES]    several channels: the round loaded, and loaded into a block
  *   bench hostile               what hostile streams cost: nanoseconds and memory for each byte
  *
@@ -20,9 +21,10 @@ int main(int count, char **words) {
     if (strcmp(word, "load") == 0) run_load(pages);
     else if (strcmp(word, "multi") == 0) run_multi(pages);
     else if (strcmp(word, "sockets") == 0) run_sockets(pages);
+    else if (strcmp(word, "transfer") == 0) run_transfer(pages);
     else if (strcmp(word, "load_multi") == 0) run_load_multi(pages);
     else if (strcmp(word, "hostile") == 0) run_hostile();
-    else printf("usage: bench load|multi|sockets|load_multi [PAGES], or bench hostile\n");
+    else printf("usage: bench load|multi|sockets|transfer|load_multi [PAGES], or bench hostile\n");
     if (fflush(stdout) == 0 && !ferror(stdout)) return 0;
     perror("standard output");
     return 3;

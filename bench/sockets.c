@@ -2,48 +2,18 @@
  * thread for each that writes and one that reads: by heads of packets and pages from where they
  * lie, by copies of the pages, and plainly, as many bytes without a test of the pages. */
 #define _GNU_SOURCE
-#include "yardstick.h"
+#include "sockets.h"
 #include <errno.h>
-#include <pthread.h>
-#include <stdatomic.h>
 #include <stdlib.h>
 #include <string.h>
 #include <sys/socket.h>
-#include <sys/uio.h>
 #include <time.h>
 #include <unistd.h>
 
-/* The most pages of a packet, its bytes before them, and how many bytes are read at once. */
-enum { PACKET = 128, HEAD = 1344, READ = 1 << 18, RUNS = 5 };
+/* How many bytes are read at once. */
+enum { READ = 1 << 18 };
 
-/* How a round is written: packets of as many bytes, of which nothing is said; by
- * zimgasol_worker_head; or by zimgasol_worker_pack. */
-typedef enum way { PLAIN, HEADS, COPIES } way;
-
-/* What a round takes: the clock's nanoseconds, and the processor's of those who write and read. */
-typedef struct cost {
-    uint64_t nanos, writing, reading, bytes;
-} cost;
-
-/* A round that is written. A plain one has no sender: `next` is the first page of its next
- * packet. */
-typedef struct writing {
-    const guest *guest;
-    unsigned zero_tenths;
-    way by;
-    zimgasol_multi multi;
-    _Atomic uint64_t next;
-} writing;
-
-typedef struct channel {
-    writing *of;
-    zimgasol_worker worker;
-    pthread_t writer, reader;
-    int ends[2];
-    uint64_t writing, reading, bytes;
-} channel;
-
-static uint64_t processor_now(void) {
+uint64_t processor_now(void) {
     struct timespec at;
     if (clock_gettime(CLOCK_THREAD_CPUTIME_ID, &at) != 0) give_up("the clock can't be read");
     return (uint64_t)at.tv_sec * 1000000000 + (uint64_t)at.tv_nsec;
@@ -70,8 +40,7 @@ static void write_bytes(int to, void *bytes, size_t len) {
     write_parts(to, &part, 1);
 }
 
-/* Adds a page to a list. One that adjoins the last part makes it longer. */
-static int with_page(struct iovec *parts, int count, uint8_t *page) {
+int with_page(struct iovec *parts, int count, uint8_t *page) {
     struct iovec *last = &parts[count - 1];
     if ((uint8_t *)last->iov_base + last->iov_len == page) {
         last->iov_len += PAGE;
@@ -81,7 +50,7 @@ static int with_page(struct iovec *parts, int count, uint8_t *page) {
     return count + 1;
 }
 
-static bool is_zero(const uint8_t *page) {
+bool is_zero(const uint8_t *page) {
     static const uint8_t zeros[PAGE];
     return memcmp(page, zeros, PAGE) == 0;
 }
@@ -95,6 +64,7 @@ static void write_plain(channel *c) {
     while ((first = atomic_fetch_add(&c->of->next, PACKET)) < g->pages) {
         uint64_t end = g->pages - first < PACKET ? g->pages : first + PACKET;
         int count = 1;
+        memcpy(head, &first, sizeof first);
         parts[0] = (struct iovec){head, HEAD};
         for (uint64_t page = first; page < end; page++)
             if (page % 10 >= c->of->zero_tenths)
@@ -179,16 +149,18 @@ static void *read_channel(void *of) {
 
 /* ---- a round */
 
-static void start_channel(channel *c, writing *of) {
+void start_channel(channel *c, writing *of, size_t number, void *(*read)(void *), void *into) {
     c->of = of;
+    c->number = number;
+    c->into = into;
     if (of->by != PLAIN) check(zimgasol_multi_worker(&of->multi, &c->worker), "multi_worker");
     if (socketpair(AF_UNIX, SOCK_STREAM, 0, c->ends) != 0) give_up("no sockets");
-    if (pthread_create(&c->reader, NULL, read_channel, c) != 0 ||
+    if (pthread_create(&c->reader, NULL, read, c) != 0 ||
         pthread_create(&c->writer, NULL, write_channel, c) != 0)
         give_up("a thread can't be started");
 }
 
-static void end_channel(channel *c, cost *all) {
+void end_channel(channel *c, cost *all) {
     if (pthread_join(c->writer, NULL) != 0 || pthread_join(c->reader, NULL) != 0)
         give_up("a thread can't be joined");
     if (c->of->by != PLAIN)
@@ -207,7 +179,7 @@ static cost write_round(writing *of, size_t count) {
     if (of->by != PLAIN)
         check(zimgasol_multi_begin_round(&of->multi, of->guest->places, of->guest->pages),
             "multi_begin_round");
-    for (size_t j = 0; j < count; j++) start_channel(&channels[j], of);
+    for (size_t j = 0; j < count; j++) start_channel(&channels[j], of, j, read_channel, NULL);
     for (size_t j = 0; j < count; j++) end_channel(&channels[j], &all);
     if (of->by != PLAIN) {
         check(zimgasol_multi_end_round(&of->multi), "multi_end_round");

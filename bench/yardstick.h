@@ -150,6 +150,7 @@ void streams_free(streams *of);
 void run_load(uint64_t pages);
 void run_multi(uint64_t pages);
 void run_sockets(uint64_t pages);
+void run_transfer(uint64_t pages);
 void run_load_multi(uint64_t pages);
 void run_hostile(void);
 

@@ -1,0 +1,59 @@
+/* Declares what the benchmarks of sockets share: a round that is written on several channels, with
+ * a thread for each channel that writes and one that reads. */
+#ifndef SOCKETS_H
+#define SOCKETS_H
+
+#include "yardstick.h"
+#include <pthread.h>
+#include <stdatomic.h>
+#include <sys/uio.h>
+
+/* The most pages of a packet, and its bytes before them. */
+enum { PACKET = 128, HEAD = ZIMGASOL_HEAD_LEN(PAGE), RUNS = 5 };
+
+/* How a round is written: packets of as many bytes, of which nothing is said but their first page;
+ * by zimgasol_worker_head; or by zimgasol_worker_pack. */
+typedef enum way { PLAIN, HEADS, COPIES } way;
+
+/* What a round takes: the clock's nanoseconds, and the processor's of those who write and read. */
+typedef struct cost {
+    uint64_t nanos, writing, reading, bytes;
+} cost;
+
+/* A round that is written. A plain one has no sender: `next` is the first page of its next
+ * packet. */
+typedef struct writing {
+    const guest *guest;
+    unsigned zero_tenths;
+    way by;
+    zimgasol_multi multi;
+    _Atomic uint64_t next;
+} writing;
+
+/* A connection with its two threads, and where the reader puts what it reads. */
+typedef struct channel {
+    writing *of;
+    void *into;
+    size_t number;
+    zimgasol_worker worker;
+    pthread_t writer, reader;
+    int ends[2];
+    uint64_t writing, reading, bytes;
+} channel;
+
+/* Returns the nanoseconds of the processor for this thread. */
+uint64_t processor_now(void);
+
+/* Adds a page to a list of parts. One that adjoins the last part makes it longer. Returns how many
+ * parts there are. */
+int with_page(struct iovec *parts, int count, uint8_t *page);
+
+bool is_zero(const uint8_t *page);
+
+/* Connects a channel, makes its worker, and starts its threads. */
+void start_channel(channel *c, writing *of, size_t number, void *(*read)(void *), void *into);
+
+/* Ends its threads, and adds what it took. */
+void end_channel(channel *c, cost *all);
+
+#endif
