@@ -1,13 +1,14 @@
 /* Each allocation of the calls for several channels refused in turn. A guest is sent in two rounds
- * by workers that are stepped by turns, and loaded into blocks, with the nth call of malloc or
- * realloc refused. The call that wanted it says so, and is made again; a load that failed for good
- * is made anew. The streams are those of a run without a refusal, the blocks have the guest, and
- * nothing is left. */
+ * by workers that are stepped by turns, and loaded into blocks, by pieces and by packets whose
+ * pages are copied here, with the nth call of malloc or realloc refused. The call that wanted it
+ * says so, and is made again; a load that failed for good is made anew. The streams are those of a
+ * run without a refusal, the blocks have the guest, and nothing is left. */
 #include "zimgasol.h"
 #include "refusing.h"
 #include <string.h>
 
 enum { PAGE = 4096, CHANNELS = 3, PAGES = 11, SOURCES = 1 + CHANNELS, MOST = 1 << 17 };
+enum { HEAD = ZIMGASOL_HEAD_LEN(PAGE) };
 
 static uint8_t guest[PAGES * PAGE], loaded[PAGES * PAGE];
 static uint8_t stream[SOURCES][MOST], first[SOURCES][MOST];
@@ -50,7 +51,7 @@ static uint32_t pack_copied(zimgasol_worker *worker) {
 
 /* The next packet's head is written, and its pages follow from where they lie. */
 static uint32_t send_head(zimgasol_worker *worker) {
-    uint8_t zeros[2], head[1344];
+    uint8_t zeros[2], head[HEAD];
     zimgasol_batch batch;
     size_t source = 1 + zimgasol_worker_channel(worker), len = 0;
     uint32_t status = zimgasol_worker_next(worker, &batch);
@@ -195,6 +196,84 @@ static void load(zimgasol_table *table, size_t cut) {
     zimgasol_in_place_session_free(&load);
 }
 
+/* ---- the pages copied to their places here */
+
+/* Takes the next packet of a channel, again where it was refused. Returns how many bytes it has, or
+ * 0 where they are to be fed. */
+static size_t take_packet(zimgasol_apart *load, size_t source, const uint8_t *head, size_t left) {
+    zimgasol_lent contents[2];
+    zimgasol_pages pages;
+    uint32_t status;
+    if (left < HEAD) return 0;
+    status = zimgasol_apart_claim(load, source - 1, head, HEAD, &pages);
+    if (status == ZIMGASOL_TO_FEED) return 0;
+    WANT(status == ZIMGASOL_RUNNING && pages.block == 0 && pages.normal + pages.zero <= 2);
+    for (size_t i = 0; i < pages.normal + pages.zero; i++) {
+        uint8_t *page = loaded + pages.pages[i] * PAGE;
+        if (i < pages.normal) memcpy(page, head + HEAD + i * PAGE, PAGE);
+        else memset(page, 0, PAGE);
+        if (i < pages.normal) contents[i] = (zimgasol_lent){page, PAGE};
+    }
+    status = zimgasol_apart_take(load, source - 1, head, HEAD, contents, pages.normal);
+    if (status == ZIMGASOL_NO_MEMORY) {
+        WANT(refusals == 1 && zimgasol_apart_claimed(load) == pages.normal + pages.zero);
+        status = zimgasol_apart_take(load, source - 1, head, HEAD, contents, pages.normal);
+    }
+    WANT(status == ZIMGASOL_RUNNING && zimgasol_apart_claimed(load) == 0);
+    return HEAD + pages.normal * PAGE;
+}
+
+/* Feeds the next bytes of a source, up to a packet's end. Returns how many were taken: none where
+ * the allocation was refused. */
+static size_t feed_apart(zimgasol_apart *load, size_t source, size_t at) {
+    size_t left = length[source] - at, len = source == 0 ? 100 : at == 0 ? 64 : HEAD, taken;
+    zimgasol_fault fault;
+    uint32_t status = zimgasol_apart_feed(load, into, 1, source, stream[source] + at,
+        left < len ? left : len, &taken);
+    if (status == ZIMGASOL_DONE) return taken;
+    WANT(status == ZIMGASOL_NO_MEMORY && refusals == 1 && taken == 0);
+    if (zimgasol_apart_verdict(load, &fault) != ZIMGASOL_NO_MEMORY)
+        WANT(zimgasol_apart_fed(load, source) == at);
+    return 0;
+}
+
+/* Passes all sources on by turns, and ends them. Returns whether the load is done: no where it has
+ * failed for good. */
+static int loads_apart(zimgasol_apart *load) {
+    size_t given[SOURCES] = {0}, source = 0, idle = 0;
+    zimgasol_fault fault;
+    for (; idle <= 2 * SOURCES; source = (source + 1) % SOURCES) {
+        size_t at = given[source], left = length[source] - at, len = 0;
+        if (left > 0 && zimgasol_apart_takes(load, source)) {
+            if (source > 0) len = take_packet(load, source, stream[source] + at, left);
+            given[source] += len > 0 ? len : feed_apart(load, source, at);
+        }
+        idle = given[source] > at ? 0 : idle + 1;
+    }
+    if (zimgasol_apart_verdict(load, &fault) == ZIMGASOL_NO_MEMORY) return 0;
+    for (source = 0; source < SOURCES; source++) {
+        WANT(given[source] == length[source]);
+        WANT(zimgasol_apart_end(load, source) == ZIMGASOL_DONE);
+    }
+    return 1;
+}
+
+static void load_apart(zimgasol_table *table) {
+    zimgasol_apart load = {0};
+    zimgasol_settings settings = {0};
+    zimgasol_fault fault;
+    memset(loaded, 0xEE, sizeof loaded);
+    AGAIN(zimgasol_apart_new(&load, table, uuid, 16, CHANNELS, &settings));
+    if (!loads_apart(&load)) {
+        zimgasol_apart_free(&load);
+        AGAIN(zimgasol_apart_new(&load, table, uuid, 16, CHANNELS, &settings));
+        WANT(loads_apart(&load));
+    }
+    WANT(zimgasol_apart_verdict(&load, &fault) == ZIMGASOL_DONE && fault.number == 0);
+    WANT(zimgasol_apart_rounds(&load) == 2 && memcmp(loaded, guest, sizeof guest) == 0);
+    zimgasol_apart_free(&load);
+}
+
 int main(void) {
     zimgasol_block block = {.id = "pc.ram", .pages = PAGES};
     zimgasol_table table = {0};
@@ -211,6 +290,7 @@ int main(void) {
         send_named(&table);
         load(&table, MOST);
         load(&table, 1000);
+        load_apart(&table);
         zimgasol_table_free(&table);
         WANT(held == 0);
         runs++;
