@@ -933,6 +933,7 @@ ZIMGASOL_API uint64_t zimgasol_apart_fed(zimgasol_apart *load, size_t source);
 ZIMGASOL_API zimgasol_status zimgasol_apart_verdict(zimgasol_apart *load, zimgasol_fault *found);
 ZIMGASOL_API uint64_t zimgasol_apart_rounds(zimgasol_apart *load);
 ZIMGASOL_API zimgasol_status zimgasol_apart_closed_at(zimgasol_apart *load, uint64_t *at);
+ZIMGASOL_API bool zimgasol_apart_valid_up_to(zimgasol_apart *load, size_t source, uint64_t *at);
 ZIMGASOL_API zimgasol_status zimgasol_apart_fault_of(zimgasol_apart *load, size_t source,
     zimgasol_fault *found);
 ZIMGASOL_API bool zimgasol_apart_has_all_rounds(zimgasol_apart *load);

@@ -9,7 +9,7 @@ ghost use Rattle.mig_c_loads.specs.Frames.{waiting_of as most_waiting};
 ghost use Rattle.mig_c.specs.Kinds.{table_in, apart_in, Turns, Tells};
 ghost use Rattle.mig_c_loads.specs.Found.{seen_of_verdict};
 ghost use Rattle.mig_c_loads.specs.Sessions.{source_of};
-ghost use Rattle.mig_c_loads.specs.InPlaceSessions.{TellsTaken, TellsTakes, TellsClosedAt, TellsFault, TellsAllRounds};
+ghost use Rattle.mig_c_loads.specs.InPlaceSessions.{TellsTaken, TellsTakes, TellsClosedAt, TellsValidUpTo, TellsFault, TellsAllRounds};
 ghost use Rattle.mig_c_loads.specs.Apart.{BeginsApart, OpensApart, ClaimsHead, TakesHead, FeedsApart, EndsApart};
 
 use crate::handle::{ApartHandle, Handle, TableHandle};
@@ -338,6 +338,35 @@ pub extern "C" fn zimgasol_apart_closed_at(
     let status = closed_at(&object, at);
     load.handle = Handle::of(object);
     status
+}
+
+fn valid_up_to(object: &Object, source: Source, at: &mut u64) -> bool
+    requires { IsSome (apart_in (Some object.now)) }
+    ensures { Tells (λ s. TellsValidUpTo source result at.old at.new s.load) (apart_in (Some object.now)) }
+{
+    match object {
+        Object::Apart(load) => load.valid_up_to(source, at),
+        _ => unreachable!(),
+    }
+}
+
+/// Returns whether it is known how many of the bytes taken of a source are complete items without a
+/// fault, from the first byte on, and reports how many.
+#[unsafe(no_mangle)]
+pub extern "C" fn zimgasol_apart_valid_up_to(
+    alloc: Global,
+    load: &mut ApartHandle,
+    source: usize,
+    at: &mut u64,
+) -> bool
+    requires load { IsSome (apart_in load.old.handle.value) }
+    ensures same { load.new.handle.value ≡ load.old.handle.value }
+    ensures tells { Tells (λ s. TellsValidUpTo (source_of source) result at.old at.new s.load) (apart_in load.old.handle.value) }
+{
+    let object = load.handle.take().into_box(alloc);
+    let result = valid_up_to(&object, source_of(source), at);
+    load.handle = Handle::of(object);
+    result
 }
 
 fn fault_of(object: &Object, source: Source, found: &mut FoundFault) -> u32

@@ -7,12 +7,12 @@ ghost use Rattle.mig_mem.specs.Lent.{mut_lent_bytes, lent_bytes};
 ghost use Rattle.mig_session.specs.Session.{HasSource, count_of};
 ghost use Rattle.mig_in_place.specs.Sources.{counts_of};
 ghost use Rattle.mig_c_loads.specs.Found.{seen_of_verdict};
-ghost use Rattle.mig_c_loads.specs.InPlaceSessions.{BeginsInto, FeedsMemory, FeedsBlocks, TellsTaken, TellsTakes, TellsClosedAt, TellsFault, TellsAllRounds};
+ghost use Rattle.mig_c_loads.specs.InPlaceSessions.{BeginsInto, FeedsMemory, FeedsBlocks, TellsTaken, TellsTakes, TellsClosedAt, TellsValidUpTo, TellsFault, TellsAllRounds};
 ghost use Rattle.mig_c_loads.specs.Apart.{ClaimsHead, TakesHead, FeedsApart, EndsApart};
 
 use crate::claimed_pages::{ClaimedPages, list_packet};
 use crate::fault::FoundFault;
-use crate::held_session::{closed_at, refusal, report_fault, seen_verdict};
+use crate::held_session::{closed_at, refusal, report_fault, seen_verdict, valid_up_to};
 use crate::lent::{LentBlocks, put_back, taken_out};
 use mig_apart::{ApartSession, Claim};
 use mig_c_calls::status::{
@@ -239,6 +239,14 @@ impl HeldApart {
         ensures { TellsClosedAt result at.old at.new self.now.load }
     {
         closed_at(self.session.load(), at)
+    }
+
+    /// Returns whether it is known how many of the bytes taken of a source are complete items
+    /// without a fault, and reports how many.
+    pub fn valid_up_to(&self, source: Source, at: &mut u64) -> bool
+        ensures { TellsValidUpTo source result at.old at.new self.now.load }
+    {
+        valid_up_to(self.session.load(), source, at)
     }
 
     /// Reports the fault of a source's own bytes, or that they have none.

@@ -140,9 +140,9 @@ pub(crate) fn closed_at(session: &InPlaceSession<Global>, at: &mut u64) -> u32
     }
 }
 
-// Returns whether it is known how many bytes of a source are complete items without a fault, and
-// reports how many.
-fn valid_up_to(session: &InPlaceSession<Global>, source: Source, at: &mut u64) -> bool
+/// Returns whether it is known how many bytes of a source are complete items without a fault, and
+/// reports how many.
+pub(crate) fn valid_up_to(session: &InPlaceSession<Global>, source: Source, at: &mut u64) -> bool
     ensures { TellsValidUpTo source result at.old at.new session.now }
 {
     if !session.has(source) {

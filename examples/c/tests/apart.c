@@ -342,7 +342,11 @@ static int load_guest(zimgasol_table *table, const streams *from) {
     WANT(zimgasol_apart_rounds(&run.load) == ROUNDS && zimgasol_apart_has_all_rounds(&run.load));
     WANT(zimgasol_apart_claimed(&run.load) == 0 && run.taken == ROUNDS * (PAGES / LIMIT + 1));
     WANT(zimgasol_apart_closed_at(&run.load, &at) == ZIMGASOL_DONE && at == from->len[0]);
-    for (size_t s = 0; s <= CHANNELS; s++) WANT(zimgasol_apart_fed(&run.load, s) == from->len[s]);
+    for (size_t s = 0; s <= CHANNELS; s++) {
+        WANT(zimgasol_apart_fed(&run.load, s) == from->len[s]);
+        WANT(zimgasol_apart_valid_up_to(&run.load, s, &at) && at == from->len[s]);
+    }
+    WANT(!zimgasol_apart_valid_up_to(&run.load, 1 + CHANNELS, &at) && at == from->len[CHANNELS]);
     WANT(memcmp(loaded[0], guest[0], PAGES * page_len) == 0 &&
         memcmp(loaded[1], guest[1], OTHER * page_len) == 0);
     zimgasol_apart_free(&run.load);
