@@ -15,6 +15,7 @@
 //! | a main stream and channels, in pieces or from readers | `Session`, `pump` |
 //! | a main stream and channels, and the blocks of the guest | `InPlaceSession` |
 //! | the same from live connections | `SourceReader`, `pump_by_turns` |
+//! | the same, and a thread for each channel that reads pages to their places | `ApartSession` |
 //! | a load in place, to know which pages had a record | `Marking` around the memory |
 //! | blocks of zeros, whose pages of zeros stay untouched | `Fresh` around the memory |
 //! | a whole machine's stream, as QEMU writes it | the calls `.._in`, with `LoadSettings` |
@@ -316,6 +317,19 @@
 //! load.feed(memory, source, piece)
 //! ```
 //!
+//! # ApartSession
+//!
+//! Take it for the same with a thread for each channel, behind one lock of yours. `claim` says which
+//! pages the channel's next packet has, by its head. The thread reads them to their places without
+//! the lock, and `take` takes the packet. Here `content` is the page that was read, if it isn't one
+//! of zeros:
+//!
+//! <!-- quoted from crates/mig_in_place_tests/src/apart.rt -->
+//! ```rust
+//! put(rt, memory, &found, block, 0, content);
+//! load.take(channel, head, &[content]) == Ok(true)
+//! ```
+//!
 //! # LoadSettings
 //!
 //! Take it for a machine's stream, as QEMU writes it, or to bound what waits for the end of its
@@ -350,6 +364,7 @@
 //! stream's records, `StreamReader`, `RecordReader` and `StreamWriter`, are those of `mig_stream`.
 #![tactic(auto)]
 
+pub use mig_apart::{ApartSession, Claim};
 pub use mig_in_place::{
     InPlaceSession, RoundRobin, SourceReader, Turn, TurnFault, TurnOrder, pump_by_turns,
 };
