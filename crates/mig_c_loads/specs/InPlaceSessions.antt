@@ -14,9 +14,9 @@ use Rattle.mig_answer.specs.declared.verdict.Verdict.TheVariants.{Running, Done}
 use Rattle.mig_answer.specs.Texts.{Texts, no_texts}
 use Rattle.mig_session.specs.declared.source.Source.{Source}
 use Rattle.mig_session.specs.declared.source.Source.TheVariants as source
-use Rattle.mig_session.specs.Session.{HasSource, count_of, feed_step, end_step, with_fed, with_end, IsSourceValidUpTo}
+use Rattle.mig_session.specs.Session.{HasSource, count_of, feed_step, end_step, with_fed, with_end, IsSourceValidUpTo, HasFault}
 use Rattle.mig_in_place.specs.Sources.{counts_of}
-use Rattle.mig_in_place.specs.Session.{InPlaceLoad, StandsFor, LacksMemory, StepsOn, StillLacks, RunsOut, Tells, TakesBytes, HasFault, HasAllRounds, MoreMayCome}
+use Rattle.mig_in_place.specs.Session.{InPlaceLoad, StandsFor, LacksMemory, StepsOn, StillLacks, RunsOut, Tells, TakesBytes, HasAllRounds, MoreMayCome}
 use Rattle.mig_c_calls.specs.Status.{IsOneOf, done, running, no_memory, bad_channels, bad_source, is_over, too_long, bad_length, bad_frame, bad_round_end}
 use Rattle.mig_c_loads.specs.Frames.{frame_of, round_end_of, with_round_end}
 use Rattle.mig_c_loads.specs.declared.fault.FoundFault.{FoundFault}

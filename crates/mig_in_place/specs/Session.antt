@@ -18,8 +18,7 @@ use Rattle.mig_answer.specs.declared.verdict.Verdict.{Verdict}
 use Rattle.mig_answer.specs.declared.verdict.Verdict.TheVariants.{Running}
 use Rattle.mig_answer.specs.declared.status.Status.{Status}
 use Rattle.mig_answer.specs.declared.status.Status.TheVariants.{Pending}
-use Rattle.mig_single_load.specs.declared.fault.Fault.{Fault}
-use Rattle.mig_answer.specs.Status.{main_status, channel_status, stream_end, channel_end, fault_of}
+use Rattle.mig_answer.specs.Status.{main_status, channel_status}
 use Rattle.mig_answer.specs.Texts.{Text, Texts, Readings, AreReadings, no_text}
 use Rattle.mig_answer.specs.Rounds.{record_pages_at, base_at}
 use Rattle.mig_answer.specs.MultiLoad.{main_at, channels_at, hello_ids, repeated_hello, verdicts_told, passes, failed}
@@ -73,15 +72,7 @@ pub record TakesBytes (given : LoadSettings) (uuid : List ℕ) (k : ℕ) (texts 
   pub is_pending : status_of k readings from ≡ Pending
   pub is_free : IsHeldBack readings from → ⊥
 
--- ---- what is known of the bytes before the verdict
-
--- the fault of a source's own bytes: none is there, or the first
-abbrev pub fault_in : Readings → Source → Option Fault
-fault_in readings source.Main = fault_of (stream_end readings.main.state)
-fault_in readings (source.Channel j) = get_or (map (λ c. fault_of (channel_end c.state)) readings.channels) j None
-
-abbrev pub HasFault : LoadSettings → List ℕ → Texts → Source → Option Fault → Type 0
-HasFault given uuid texts from found = (readings : Readings) × AreReadings given uuid texts readings × (found ≡ fault_in readings from)
+-- ---- whether all rounds are in before the verdict
 
 -- All rounds are in: the main stream is closed, and each of its k rounds was judged lawful. The
 -- memory has them on top of its earlier content, and nothing else.

@@ -17,7 +17,7 @@ ghost use Rattle.mig_answer.specs.Texts.{no_text, no_texts};
 ghost use Rattle.mig_answer.specs.MultiLoad.{failed};
 ghost use Rattle.mig_session.specs.declared.source.Source.TheVariants as source;
 ghost use Rattle.mig_session.specs.declared.source.Source.TheVariants.{Main as main_source};
-ghost use Rattle.mig_session.specs.Session.{HasSource, count_of, no_count, with_fed, with_end, feed_step, end_step, IsSourceValidUpTo};
+ghost use Rattle.mig_session.specs.Session.{HasSource, count_of, no_count, with_fed, with_end, feed_step, end_step, IsSourceValidUpTo, HasFault};
 ghost use Rattle.mig_in_place.specs.Answer.{IsInPlaceAnswer};
 ghost use Rattle.mig_stream.specs.Reading.{Settings};
 ghost use Rattle.mig_stream.specs.Reader.{HasTable, HasClosedAt};
@@ -30,7 +30,7 @@ ghost use Rattle.mig_in_place.specs.Apart.{TakesApart};
 ghost use Rattle.mig_assemble.specs.HeadPlaces.{LieIn};
 ghost use Rattle.mig_in_place.specs.Round.{KeepsSome};
 ghost use Rattle.mig_in_place.specs.Sources.{counts_of, main_count, channel_count, at_next_round, StandsAt, HoldsChannel, TellsChannelStatus, TellsHello, HasTakenRecords};
-ghost use Rattle.mig_in_place.specs.Session.{TakesBytes, StandsFor, LacksMemory, StepsOn, StillLacks, RunsOut, Tells, HasFault, HasAllRounds, MoreMayCome, HaveTaken, Loading, Loads, Stands, IsDue, TellsVerdict, PassesAt, IsUnsettled, Lacks, LacksBehind, with_bytes, with_over, TakesNoMore, IsOpenAt, IsMainOf};
+ghost use Rattle.mig_in_place.specs.Session.{TakesBytes, StandsFor, LacksMemory, StepsOn, StillLacks, RunsOut, Tells, HasAllRounds, MoreMayCome, HaveTaken, Loading, Loads, Stands, IsDue, TellsVerdict, PassesAt, IsUnsettled, Lacks, LacksBehind, with_bytes, with_over, TakesNoMore, IsOpenAt, IsMainOf};
 
 use crate::channel::Channel;
 use crate::main_stream::{MainStream, is_clean, is_pending};

@@ -1,6 +1,6 @@
 -- What a session keeps of a channel, and what that says.
-use Rattle.std.proofs.Common.{ℕ, ◌≡◌, ◌≢◌, ◌+◌, ◌<◌, ◌≤◌, true, false, List, [], length, map, get_or, refl, sym, ap, subst, ◌∙◌, inl, inr, Option, Some, None, arith}
-use Rattle.std.specs.Prelude.{IfSome, IfNone, is_some}
+use Rattle.std.proofs.Common.{ℕ, ◌≡◌, ◌≢◌, ◌+◌, ◌<◌, ◌≤◌, Bool, true, false, List, [], length, map, get_or, refl, sym, ap, subst, ◌∙◌, inl, inr, Option, Some, None, arith}
+use Rattle.std.specs.Prelude.{IfSome, IfNone, is_some, not}
 use Rattle.std.proofs.lemmas.Bool.{cases_lt}
 use Rattle.std.proofs.lemmas.List.{length-append}
 use Rattle.std.proofs.Math.ListN.{get_or-eq_default}
@@ -13,10 +13,13 @@ use Rattle.mig_packet.specs.Reader.{Reader, RoundOfPackets, Stands, StepsOn, Tel
 use Rattle.mig_packet.proofs.Exists.{one_reading_law}
 use Rattle.mig_answer.specs.declared.status.Status.{Status}
 use Rattle.mig_answer.specs.declared.status.Status.TheVariants.{Whole}
-use Rattle.mig_answer.specs.Status.{channel_status, channel_end, is_whole}
+use Rattle.mig_single_load.specs.declared.fault.Fault.{Fault}
+use Rattle.mig_answer.specs.Status.{channel_status, channel_end, is_whole, fault_of}
 use Rattle.mig_answer.specs.Texts.{Text, with_piece, over}
 use Rattle.mig_answer.specs.Rounds.{channel_packets_at}
 use Rattle.mig_session.specs.Sources.{FedChannel, HoldsChannel, IsChannelRound, TakesChannel, TellsChannelStatus, TellsHello, channel_so_far, with_one, packets_of, IsOfSize}
+use Rattle.mig_session.specs.Session.{HasChannelFault}
+use Rattle.mig_session.specs.Advancing.{TellsOnly}
 use Rattle.mig_answer.proofs.Statuses.{status_whole, status_end, channel_ends}
 use Rattle.mig_answer.proofs.GrowingChannels.{same_rounds, round_stays}
 
@@ -133,6 +136,40 @@ pub tells_hello : (c : FedChannel) (hello : Option ℕ) → Tells c.reader (λ g
 tells_hello c hello tells = λ given k text reading size holds is.
     let has = tells given (channel_so_far text (with_one k c.round)) holds.stands in
     has.2 ∙ (same_rounds given text.bytes false text.ended has.0 reading has.1 is).1
+
+-- the fault of the bytes is the reading's
+pub fault_is : (given : Settings) (text : Text) (reading : ChannelReading) (found : Option Fault) → IsPageSize given.page_size → HasChannelFault given text found → IsReading given text.bytes text.ended reading
+    → found ≡ fault_of (channel_end reading.state)
+fault_is given text reading found size has is =
+    let state = has.1 in
+    let one = one_reading_law given text.bytes text.ended size in
+    let same : state.0 ≡ reading = one.2 state.0 state.1 ∙ sym (one.2 reading is) in
+    has.2 ∙ ap (λ (x : ChannelState). fault_of (channel_end x)) (state.2 ∙ ap (λ (x : ChannelReading). x.state) same)
+
+-- if no round waits, and there is no fault, it has the judged rounds alone
+fault_told : (found : Option Fault) (told : Bool) → is_some found ≡ not told → (told ≡ true → found ≡ None) × (found ≡ None → told ≡ true)
+fault_told None true e = (λ t. refl, λ none. refl)
+fault_told None false e = absurd cc
+fault_told (Some f) true e = absurd cc
+fault_told (Some f) false e = (λ t. absurd cc, λ none. absurd cc)
+
+pub only_of : (reader : Reader) (o : Option RoundOfPackets) (found : Option Fault) (told : Bool)
+    → ((given : Settings) (k : ℕ) (text : Text) → HoldsChannel given k text (kept reader o) → HasChannelFault given text found) → is_some o ≡ false → is_some found ≡ not told → TellsOnly (kept reader o) told
+only_of reader (Some r) found told has none e = absurd cc
+only_of reader None found told has none e = λ given k text reading size holds is.
+    let fault : found ≡ fault_of (channel_end reading.state) = fault_is given text reading found size (has given k text holds) is in
+    let by = fault_told found told e in (
+      λ t. record { has_rounds = sym (none_waits given k text reader reading size holds is); has_no_fault = sym fault ∙ by.0 t },
+      λ only. by.1 (fault ∙ only.has_no_fault),
+    )
+
+-- a round that waits is a further one
+pub not_only : (reader : Reader) (o : Option RoundOfPackets) → is_some o ≡ true → TellsOnly (kept reader o) false
+not_only reader None some = absurd cc
+not_only reader (Some r) some = λ given k text reading size holds is. (
+  λ t. absurd cc,
+  λ only. let waits = (waits_here given k text r reading holds.has_round is).0 in absurd (omega (arith, waits, only.has_rounds)),
+)
 
 -- a channel that has the round has one that waits
 pub whole_waits : (given : Settings) (k : ℕ) (text : Text) (c : FedChannel) (reading : ChannelReading) → IsPageSize given.page_size → HoldsChannel given k text c

@@ -20,9 +20,11 @@ use Rattle.mig_single_load.specs.Settings.{main_of}
 use Rattle.mig_single_load.specs.declared.settings.LoadSettings.{LoadSettings}
 use Rattle.mig_answer.specs.declared.status.Status.{Status}
 use Rattle.mig_answer.specs.declared.status.Status.TheVariants.{Whole}
-use Rattle.mig_answer.specs.Status.{main_status, stream_end, is_whole}
+use Rattle.mig_single_load.specs.declared.fault.Fault.{Fault}
+use Rattle.mig_answer.specs.Status.{main_status, stream_end, is_whole, fault_of}
 use Rattle.mig_answer.specs.Texts.{Text, IsMainReading, with_piece, over}
 use Rattle.mig_session.specs.Sources.{FedMain, HoldsMain, IsMainRound, TakesMain, TellsMainStatus, main_so_far, main_waiting, with_one}
+use Rattle.mig_session.specs.Session.{HasMainFault}
 use Rattle.mig_answer.proofs.Statuses.{status_whole, status_end, stream_ends}
 use Rattle.mig_answer.proofs.GrowingMain.{main_round_stays}
 
@@ -151,6 +153,14 @@ tells_end reader state status tells e = λ given k text reading size holds is.
     let same = same_found given text has.0 reading size has.1 is in
     e ∙ ap stream_end (has.2 ∙ sym (ap (λ (x : StreamReading). x.state) same))
     ∙ sym (status_end k (length reading.rounds) (stream_end reading.state) (none_waits given k text reader reading size holds is))
+
+-- the fault of the bytes is the reading's
+pub fault_is : (given : LoadSettings) (text : Text) (reading : StreamReading) (found : Option Fault) → IsPageSize given.page_size → HasMainFault (main_of given) text found → IsMainReading given text reading
+    → found ≡ fault_of (stream_end reading.state)
+fault_is given text reading found size has is =
+    let state = has.1.0 in
+    let same = same_found given text state reading size has.1.1 is in
+    has.2 ∙ ap (λ (x : StreamState). fault_of (stream_end x)) (has.1.2 ∙ sym (ap (λ (x : StreamReading). x.state) same))
 
 -- a main stream that has the round has one that waits
 pub whole_waits : (given : LoadSettings) (k : ℕ) (text : Text) (m : FedMain) (reading : StreamReading) → IsPageSize given.page_size → HoldsMain (main_of given) k text m → IsMainReading given text reading

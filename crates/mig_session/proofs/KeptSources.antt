@@ -1,7 +1,8 @@
 -- What a session keeps of all its sources, and what they say together.
-use Rattle.std.proofs.Common.{ℕ, zero, suc, ◌≡◌, ◌≢◌, ◌+◌, ◌<◌, ◌≤◌, List, [], ◌∷◌, ◌++◌, append_assoc, length, map, take, drop, set, get_or, replicate, refl, sym, ap, subst, ◌∙◌, Option, Some, None, arith}
-use Rattle.std.specs.Prelude.{slice_get, Result, Ok, Err, OnOk}
-use Rattle.std.specs.List.{All, AllZip, flat_map, enumerate_from}
+use Rattle.std.proofs.Common.{ℕ, zero, suc, ◌≡◌, ◌≢◌, ◌+◌, ◌<◌, ◌≤◌, Bool, true, false, List, [], ◌∷◌, ◌++◌, append_assoc, length, map, take, drop, set, get_or, replicate, refl, sym, ap, subst, ◌∙◌, Option, Some, None, arith}
+use Rattle.std.specs.Prelude.{◌&&◌, ◌↔◌, IsTrue, slice_get, Result, Ok, Err, OnOk}
+use Rattle.std.specs.List.{All, AllZip, flat_map, enumerate_from, list_all}
+use Rattle.std.proofs.lemmas.Bool.{and_parts}
 use Rattle.std.proofs.lemmas.List.{set_past, length-set, length-map, replicate_more, take_more, take_more_set, drop_more, drop-set-lt, map-append, append-nil}
 use Rattle.std.proofs.lemmas.Grind.{flat_map-append}
 use Rattle.std.proofs.lemmas.Option.{slice_get_read}
@@ -9,8 +10,7 @@ use Rattle.std.proofs.lemmas.List.Elements.{All-nil, All-cons, All-head, All-tai
 use Rattle.mig_mem.specs.PageSize.{IsPageSize}
 use Rattle.mig_mem.specs.First.{first_some}
 use Rattle.mig_stream.specs.Round.{RoundOfRecords}
-use Rattle.mig_stream.specs.Reader.{HasClosedAt, waiting as stream_waiting, IsValidUpTo as IsMainValidUpTo}
-use Rattle.mig_packet.specs.Reader.{IsValidUpTo}
+use Rattle.mig_stream.specs.Reader.{HasClosedAt, waiting as stream_waiting}
 use Rattle.mig_packet.specs.Packet.{Fields, fields_of}
 use Rattle.mig_packet.specs.Lent.{fields}
 use Rattle.mig_packet.specs.declared.packet.Packet.{Packet}
@@ -19,17 +19,20 @@ use Rattle.mig_single_load.specs.Settings.{main_of, channel_of}
 use Rattle.mig_single_load.specs.declared.settings.LoadSettings.{LoadSettings}
 use Rattle.mig_single_load.specs.declared.fault.Origin.TheVariants as origin
 use Rattle.mig_session.specs.declared.counts.Count.{Count}
+use Rattle.mig_session.specs.declared.places.Noted.{Noted}
 use Rattle.mig_answer.specs.declared.status.Status.{Status}
+use Rattle.mig_answer.specs.declared.status.Status.TheVariants.{Clean}
 use Rattle.mig_answer.specs.declared.verdict.Verdict.{Verdict}
 use Rattle.mig_session.specs.declared.source.Source.TheVariants as source
-use Rattle.mig_answer.specs.Status.{main_status, channel_status}
+use Rattle.mig_answer.specs.Status.{main_status, channel_status, stream_end, is_clean}
 use Rattle.mig_answer.specs.Texts.{Text, Texts, Readings, AreReadings, no_text}
 use Rattle.mig_answer.specs.Rounds.{channel_packets_at, packets_at}
 use Rattle.mig_answer.specs.MultiLoad.{Standing, main_standing, main_at, channels_at, hello_ids, repeated_hello, verdicts_told}
 use Rattle.mig_answer.specs.Told.{standings}
 use Rattle.mig_session.specs.Sources.{Places, FedMain, FedChannel, FedSources, channel_count, HoldsMain, HoldsChannel, Holds, TellsMainStatus, TellsChannelStatus, TellsHello, TellsAll, HaveRound, TakesMain, TakesChannel, packets_of, packets_of_all, IsOfSize, with_one, main_waiting}
-use Rattle.mig_session.specs.Session.{at_source, no_count, HasPlaces}
-use Rattle.mig_session.specs.Advancing.{IsDue}
+use Rattle.mig_session.specs.Session.{at_source, no_count, IsNotedOfMain, IsNotedOfChannel, HasPlaces, HasOnly}
+use Rattle.mig_session.specs.Advancing.{IsDue, TellsOnly, TellAllIn}
+use Rattle.mig_answer.proofs.Statuses.{status_end, clean_at, stream_closed}
 use Rattle.mig_answer.proofs.Judged.{IsWhole}
 use Rattle.mig_session.proofs.KeptChannel as channel
 use Rattle.mig_session.proofs.KeptMain as main
@@ -60,7 +63,7 @@ zip_here R (a ∷ xs) (b ∷ ys) zero x y zip is = subst (λ z. R x z) (let same
 zip_here R (a ∷ xs) (b ∷ ys) (suc j) x y zip is = zip_here R xs ys j x y zip.1 is
 
 -- a place that there isn't
-pub set_beyond : (ns : List ℕ) (j n : ℕ) → length ns ≤ j → set ns j n ≡ ns
+pub set_beyond : (ns : List Noted) (j : ℕ) (n : Noted) → length ns ≤ j → set ns j n ≡ ns
 set_beyond ns j n le = set_past ns j n le
 
 -- ---- the verdict
@@ -118,6 +121,63 @@ tells_all k s main_told statuses hellos repeated told tells_main tells_channels 
     ∙ ap (λ (l : List Standing). first_some (verdicts_told k (main_at k readings) l repeated)) c
     ∙ ap (λ (o : Option ℕ). first_some (verdicts_told k (main_at k readings) (channels_at k readings) o)) h
 
+-- ---- whether all rounds are in
+
+and_true : (b : Bool) → (b && true) ≡ b
+and_true true = refl
+and_true false = refl
+
+and_false : (b : Bool) → (b && false) ≡ false
+and_false true = refl
+and_false false = refl
+
+told_more : (told : List Bool) (t : Bool) → list_all (λ (x : Bool). x) (told ++ t ∷ []) ≡ (list_all (λ (x : Bool). x) told && t)
+told_more [] t = and_true t
+told_more (true ∷ told) t = told_more told t
+told_more (false ∷ told) t = refl
+
+-- one more channel was looked at
+pub more_true : (told : List Bool) (t : Bool) → t ≡ true → list_all (λ (x : Bool). x) (told ++ t ∷ []) ≡ list_all (λ (x : Bool). x) told
+more_true told t e = told_more told t ∙ ap (λ (b : Bool). list_all (λ (x : Bool). x) told && b) e ∙ and_true (list_all (λ (x : Bool). x) told)
+
+pub more_false : (told : List Bool) (t : Bool) → t ≡ false → list_all (λ (x : Bool). x) (told ++ t ∷ []) ≡ false
+more_false told t e = told_more told t ∙ ap (λ (b : Bool). list_all (λ (x : Bool). x) told && b) e ∙ and_false (list_all (λ (x : Bool). x) told)
+
+only_all : (given : Settings) (k : ℕ) (texts : List Text) (readings : List ChannelReading) (channels : List FedChannel) (told : List Bool) → IsPageSize given.page_size
+    → AllZip (HoldsChannel given k) texts channels → AllZip (λ (text : Text) (reading : ChannelReading). IsReading given text.bytes text.ended reading) texts readings
+    → AllZip TellsOnly channels told → IsTrue (list_all (λ (t : Bool). t) told) ↔ All (HasOnly k) readings
+only_all given k [] [] [] [] size holds are tell = (λ t. All-nil (HasOnly k), λ all. refl)
+only_all given k [] readings (c ∷ channels) told size holds are tell = absurd holds
+only_all given k [] (r ∷ readings) channels told size holds are tell = absurd are
+only_all given k [] [] [] (t ∷ told) size holds are tell = absurd tell
+only_all given k (text ∷ texts) readings [] told size holds are tell = absurd holds
+only_all given k (text ∷ texts) [] (c ∷ channels) told size holds are tell = absurd are
+only_all given k (text ∷ texts) (r ∷ readings) (c ∷ channels) [] size holds are tell = absurd tell
+only_all given k (text ∷ texts) (r ∷ readings) (c ∷ channels) (t ∷ told) size holds are tell =
+    let here = tell.0 given k text r size holds.0 are.0 in
+    let rest = only_all given k texts readings channels told size holds.1 are.1 tell.1 in (
+      λ yes. let parts = and_parts t (list_all (λ (x : Bool). x) told) yes in All-cons (HasOnly k) r readings (here.0 parts.0) (rest.0 parts.1),
+      λ all. rw (here.1 (All-head (HasOnly k) r readings all), rest.1 (All-tail (HasOnly k) r readings all)) refl,
+    )
+
+pub all_in_closed : (s : FedSources) (told : List Bool) (result : Bool) → TellsMainStatus s.main Clean → AllZip TellsOnly s.channels told → result ≡ list_all (λ t. t) told → TellAllIn s result
+all_in_closed s told result tells tell e = λ given uuid k texts readings size holds are.
+    let m : Clean ≡ main_status k readings.main = tells given k texts.main readings.main size holds.main are.has_main in
+    let at = clean_at k (length readings.main.rounds) (stream_end readings.main.state) (sym (ap is_clean m)) in
+    let only = only_all (channel_of given uuid (length texts.channels)) k texts.channels readings.channels s.channels told size holds.channels are.has_channels tell in (
+      λ yes. record { is_closed = stream_closed false readings.main.state at.1; has_all = sym at.0; channels = only.0 (sym e ∙ yes) },
+      λ all. e ∙ only.1 all.channels,
+    )
+
+pub all_in_open : (s : FedSources) (status : Status) → TellsMainStatus s.main status → is_clean status ≡ false → TellAllIn s false
+all_in_open s status tells other = λ given uuid k texts readings size holds are.
+    let m : status ≡ main_status k readings.main = tells given k texts.main readings.main size holds.main are.has_main in (
+      λ no. absurd cc,
+      λ all.
+          let clean : main_status k readings.main ≡ Clean = status_end k (length readings.main.rounds) (stream_end readings.main.state) (sym all.has_all) ∙ ap stream_end all.is_closed in
+          let clash : is_clean status ≡ true = ap is_clean (m ∙ clean) in absurd (let bad : true ≡ false = sym clash ∙ other in cc),
+    )
+
 -- ---- a source takes a step
 
 pub main_steps : (given : LoadSettings) (uuid : List ℕ) (k : ℕ) (step : Text → Text) (texts : Texts) (s : FedSources) (m : FedMain) → Holds given uuid k texts s
@@ -136,23 +196,23 @@ channel_steps given uuid k j step texts s c holds here =
           (zip_set (HoldsChannel channel_given k) texts.channels s.channels j text c holds.channels here);
     }
 
--- and its valid prefix is noted
-pub main_noted : (given : LoadSettings) (uuid : List ℕ) (step : Text → Text) (texts : Texts) (places : Places) (n : ℕ) (o : Option ℕ) → HasPlaces given uuid texts places
-    → IsMainValidUpTo (main_of given) (step texts.main).bytes n → HasClosedAt (main_of given) (step texts.main).bytes o
+-- and is noted
+pub main_noted : (given : LoadSettings) (uuid : List ℕ) (step : Text → Text) (texts : Texts) (places : Places) (n : Noted) (o : Option ℕ) → HasPlaces given uuid texts places
+    → IsNotedOfMain (main_of given) (step texts.main) n → HasClosedAt (main_of given) (step texts.main).bytes o
     → HasPlaces given uuid (at_source source.Main step texts) (record places { main = n; closed_at = o })
-main_noted given uuid step texts places n o have valid closed = record { main = valid; closed = closed; channels = have.channels }
+main_noted given uuid step texts places n o have noted closed = record { main = noted; closed = closed; channels = have.channels }
 
-pub channel_noted : (given : LoadSettings) (uuid : List ℕ) (j : ℕ) (step : Text → Text) (texts : Texts) (places : Places) (n : ℕ) → HasPlaces given uuid texts places
-    → IsValidUpTo (channel_of given uuid (length (at_source (source.Channel j) step texts).channels)) (step (get_or texts.channels j no_text)).bytes n
+pub channel_noted : (given : LoadSettings) (uuid : List ℕ) (j : ℕ) (step : Text → Text) (texts : Texts) (places : Places) (n : Noted) → HasPlaces given uuid texts places
+    → IsNotedOfChannel (channel_of given uuid (length (at_source (source.Channel j) step texts).channels)) (step (get_or texts.channels j no_text)) n
     → HasPlaces given uuid (at_source (source.Channel j) step texts) (record places { channels = set places.channels j n })
-channel_noted given uuid j step texts places n have valid =
+channel_noted given uuid j step texts places n have noted =
     let text : Text = step (get_or texts.channels j no_text) in
-    let are_valid : ℕ → Text → ℕ → Type 0 = λ many t m. IsValidUpTo (channel_of given uuid many) t.bytes m in
+    let are_noted : ℕ → Text → Noted → Type 0 = λ many t m. IsNotedOfChannel (channel_of given uuid many) t m in
     record {
       main = have.main;
       closed = have.closed;
-      channels = zip_set (are_valid (length (set texts.channels j text))) texts.channels places.channels j text n
-          (subst (λ (many : ℕ). AllZip (are_valid many) texts.channels places.channels) (sym (length-set texts.channels j text)) have.channels) valid;
+      channels = zip_set (are_noted (length (set texts.channels j text))) texts.channels places.channels j text n
+          (subst (λ (many : ℕ). AllZip (are_noted many) texts.channels places.channels) (sym (length-set texts.channels j text)) have.channels) noted;
     }
 
 -- the channel that was read represents the stream with the step

@@ -1,9 +1,9 @@
 -- What a session represents: before the first piece, after each, and once a source has ended.
 use Rattle.std.proofs.Common.{ℕ, zero, suc, ◌≡◌, ◌≢◌, ◌⊎◌, ◌+◌, ◌<◌, Bool, true, false, List, [], ◌∷◌, ◌++◌, append_assoc, length, map, set, get_or, replicate, refl, sym, ap, subst, ◌∙◌, cond, inl, inr, Option, Some, None, arith}
-use Rattle.std.specs.Prelude.{nat_lt, ◌==◌, IsFalse, slice_get, Result, Ok, Err, IfOk, OnOk, IfSome}
-use Rattle.std.specs.List.{AllZip, All, enumerate_from, range_with_len}
-use Rattle.std.specs.Option.{option_map, unwrap_or}
-use Rattle.std.proofs.lemmas.Bool.{cases_order, le-ltb, ne_eqb, cond-false}
+use Rattle.std.specs.Prelude.{nat_lt, ◌==◌, ◌↔◌, IsTrue, IsFalse, slice_get, Result, Ok, Err, IfOk, OnOk, IfSome}
+use Rattle.std.specs.List.{AllZip, All, enumerate_from, range_with_len, list_all}
+use Rattle.std.specs.Option.{option_map, option_and_then, unwrap_or}
+use Rattle.std.proofs.lemmas.Bool.{cases_order, le-ltb, ne_eqb, cond-false, and_parts}
 use Rattle.std.proofs.lemmas.List.{length-append, append-nil, length-map, length-set, get_or-map, take-append-le}
 use Rattle.std.proofs.lemmas.List.Elements.{All-nil, All-cons, All-head, All-tail}
 use Rattle.mig_mem.specs.PageSize.{IsPageSize}
@@ -16,33 +16,38 @@ use Rattle.mig_stream.specs.Reading.{Settings as StreamSettings, StreamReading, 
 use Rattle.mig_stream.specs.Reader as stream
 use Rattle.mig_stream.proofs.Feeding.{reads_short}
 use Rattle.mig_packet.specs.Reader as channel
+use Rattle.mig_packet.specs.declared.state.ChannelState.{ChannelState}
 use Rattle.mig_packet.specs.declared.state.ChannelState.TheVariants as channel_state
 use Rattle.mig_packet.specs.Progress.{ChannelProgress, start as channel_start}
 use Rattle.mig_packet.proofs.Feeding.{reads_short as channel_short}
 use Rattle.mig_packet.specs.Reading.{Settings, ChannelReading, IsReading, Reads as ChannelReads}
 use Rattle.mig_assemble.specs.Target.{LoadTarget}
 use Rattle.mig_session.specs.declared.counts.Count.{Count}
+use Rattle.mig_session.specs.declared.places.Noted.{Noted}
 use Rattle.mig_session.specs.declared.source.Source.{Source}
 use Rattle.mig_session.specs.declared.source.Source.TheVariants as source
 use Rattle.mig_single_load.specs.Settings.{main_of, channel_of, mode_of}
 use Rattle.mig_single_load.specs.declared.settings.LoadSettings.{LoadSettings}
 use Rattle.mig_single_load.specs.declared.fault.Origin.TheVariants as origin
+use Rattle.mig_single_load.specs.declared.fault.Fault.{Fault}
 use Rattle.mig_answer.specs.declared.status.Status.{Status}
 use Rattle.mig_answer.specs.declared.status.Status.TheVariants.{Whole, Pending}
 use Rattle.mig_answer.specs.declared.verdict.Verdict.{Verdict}
 use Rattle.mig_answer.specs.declared.verdict.Verdict.TheVariants.{Running, Done, Failed}
-use Rattle.mig_answer.specs.Status.{status_at, stream_end, channel_end, channel_status, is_whole, is_pending}
+use Rattle.mig_answer.specs.Status.{status_at, stream_end, channel_end, channel_status, is_whole, is_pending, is_clean, fault_of}
 use Rattle.mig_answer.specs.Texts.{Text, Texts, Readings, IsMainReading, AreReadings, no_text, no_texts, with_piece, over}
 use Rattle.mig_answer.specs.Rounds.{memory_at, base_at, pages_at}
 use Rattle.mig_answer.specs.MultiLoad.{IsAnswer, Standing, main_at, channels_at, passes, IsFirstStop, verdict_at}
 use Rattle.mig_answer.specs.Growing.{GoesOn, GoOn}
 use Rattle.mig_session.specs.Sources.{Counts, Places, FedChannel, FedSources, main_count, channel_count, counts_of, HoldsChannel, Holds, TellsAll}
-use Rattle.mig_session.specs.Session.{LoadSession, rounds_loaded, answer_in, HasSource, count_of, no_count, with_count, with_fed, with_end, count_in, counts_in, at_source, feed_step, end_step, HasBase, IsRunning, place_of, HasPlaces, HavePlaces, IsSourceValidUpTo, AsRead, StandsFor, LacksMemory, StandsForSome, IsSession}
-use Rattle.mig_session.specs.Advancing.{Feeding, HasPutRounds, HasRounds, Advances, TellsVerdict, HasAdvanced, HasTaken, failed_without_memory, IsDue}
-use Rattle.mig_answer.proofs.Statuses.{status_whole, status_end, stream_ends, channel_ends}
+use Rattle.mig_session.specs.Session.{LoadSession, rounds_loaded, answer_in, HasSource, count_of, no_count, with_count, with_fed, with_end, count_in, counts_in, at_source, feed_step, end_step, HasBase, IsRunning, HasFault, HasMainFault, HasChannelFault, place_of, noted_fault, nothing_noted, IsNotedOfChannel, HasPlaces, HavePlaces, IsSourceValidUpTo, HasOnly, HasAllRounds, AsRead, StandsFor, LacksMemory, StandsForSome, IsSession}
+use Rattle.mig_session.specs.Advancing.{Feeding, HasPutRounds, HasRounds, Advances, TellsVerdict, HasAdvanced, HasTaken, failed_without_memory, IsDue, TellAllIn}
+use Rattle.mig_answer.proofs.Statuses.{status_whole, status_end, stream_ends, channel_ends, clean_at, stream_closed, passes_all}
+use Rattle.mig_answer.proofs.Never.{done_is_clean}
 use Rattle.mig_answer.proofs.Judged.{IsWhole, IsSettled, settled_is_told}
 use Rattle.mig_answer.proofs.OneAnswer.{same_main, some_readings, same_readings}
-use Rattle.mig_session.proofs.KeptMain.{same_found}
+use Rattle.mig_session.proofs.KeptMain.{same_found, fault_is as main_fault}
+use Rattle.mig_session.proofs.KeptChannel.{fault_is as channel_fault}
 use Rattle.mig_session.proofs.Telling.{due_sources}
 use Rattle.mig_session.proofs.Advances.{told_of, told_without}
 use Rattle.mig_answer.proofs.GrowingChannels.{same_rounds}
@@ -270,13 +275,26 @@ channel_first given =
     let reads : ChannelReads begin [] begin [] channel_state.Reading = channel_short begin [] (record { has_no_fault = refl; is_short = λ le. absurd (omega (arith, le)) }) in
     record { to = begin; rest = []; found = channel_state.Reading; reads = reads; has_length = omega (arith, ap (λ (l : List ℕ). length l) reads.has_text, length-append reads.front []) }
 
-channels_first : (given : Settings) (n : ℕ) → AllZip (λ (text : Text) (m : ℕ). channel.IsValidUpTo given text.bytes m) (replicate n no_text) (replicate n 0)
-channels_first given zero = tt
-channels_first given (suc n) = (channel_first given, channels_first given n)
+-- and has no fault
+main_sound : (given : LoadSettings) → HasMainFault (main_of given) no_text None
+main_sound given =
+    let begin : StreamProgress = start given.frame (mode_of given.round_end) given.page_size given.limit given.waiting in
+    (Reading, (nothing_read, record { to = begin; rest = []; reads = reads_short begin [] (omega arith); has_table = refl; has_rounds = refl }, refl), refl)
 
-pub places_first : (given : LoadSettings) (uuid : List ℕ) (n : ℕ) (places : Places) → places ≡ record { main = 0; closed_at = None; channels = replicate n 0 } → HasPlaces given uuid (no_texts n) places
+channel_sound : (given : Settings) → HasChannelFault given no_text None
+channel_sound given =
+    let begin : ChannelProgress = channel_start given.page_size given.uuid given.channels given.waiting in
+    let reads : ChannelReads begin [] begin [] channel_state.Reading = channel_short begin [] (record { has_no_fault = refl; is_short = λ le. absurd (omega (arith, le)) }) in
+    let reading : ChannelReading = record { hello = None; rounds = []; state = channel_state.Reading } in
+    (channel_state.Reading, (reading, record { to = begin; rest = []; found = channel_state.Reading; reads = reads; has_hello = refl; has_rounds = refl; has_state = refl }, refl), refl)
+
+channels_first : (given : Settings) (n : ℕ) → AllZip (IsNotedOfChannel given) (replicate n no_text) (replicate n nothing_noted)
+channels_first given zero = tt
+channels_first given (suc n) = (record { is_valid = channel_first given; has_fault = channel_sound given }, channels_first given n)
+
+pub places_first : (given : LoadSettings) (uuid : List ℕ) (n : ℕ) (places : Places) → places ≡ record { main = nothing_noted; closed_at = None; channels = replicate n nothing_noted } → HasPlaces given uuid (no_texts n) places
 places_first given uuid n places is = rw is record {
-  main = main_first given;
+  main = record { is_valid = main_first given; has_fault = main_sound given };
   closed = main_open given;
   channels = channels_first (channel_of given uuid (length (replicate n no_text))) n;
 }
@@ -499,6 +517,10 @@ pub there_fed : (counts : Counts) (from : Source) (n : ℕ) → HasSource counts
 there_fed counts source.Main n there = tt
 there_fed counts (source.Channel j) n there = subst (λ (k : ℕ). j < k) (sym (length-set counts.channels j _)) there
 
+pub there_ended : (counts : Counts) (from : Source) → HasSource counts from → HasSource (with_end counts from) from
+there_ended counts source.Main there = tt
+there_ended counts (source.Channel j) there = subst (λ (k : ℕ). j < k) (sym (length-set counts.channels j _)) there
+
 -- if a piece of a source was taken, the places are those with it
 abbrev pub Notes : Source → List ℕ → FedSources → Option Places → Option Places → Type 0
 Notes from piece sources old new = (given : LoadSettings) (uuid : List ℕ) (k : ℕ) (texts : Texts) → IsPageSize given.page_size → Holds given uuid k texts sources
@@ -509,24 +531,10 @@ places_now : (given : LoadSettings) (uuid : List ℕ) (texts : Texts) (s : LoadS
 places_now given uuid texts s sources some stands =
     subst (λ (t : Texts). HavePlaces given uuid t s.places) (stands.has_read_all (λ none. let bad : Some sources ≡ None = sym some ∙ none in absurd cc)) stands.have_places
 
--- an end leaves them where they are
-places_over : (given : Settings) (j : ℕ) (texts : List Text) (ns : List ℕ) → AllZip (λ (text : Text) (n : ℕ). channel.IsValidUpTo given text.bytes n) texts ns
-    → AllZip (λ (text : Text) (n : ℕ). channel.IsValidUpTo given text.bytes n) (set texts j (over (get_or texts j no_text))) ns
-places_over given j [] [] have = tt
-places_over given j [] (n ∷ ns) have = absurd have
-places_over given j (text ∷ texts) [] have = absurd have
-places_over given zero (text ∷ texts) (n ∷ ns) have = (have.0, have.1)
-places_over given (suc j) (text ∷ texts) (n ∷ ns) have = (have.0, places_over given j texts ns have.1)
-
-places_ended : (given : LoadSettings) (uuid : List ℕ) (from : Source) (texts : Texts) (places : Option Places) → HavePlaces given uuid texts places → HavePlaces given uuid (end_step from texts) places
-places_ended given uuid from texts None have = absurd have
-places_ended given uuid source.Main texts (Some places) have = record { main = have.main; closed = have.closed; channels = have.channels }
-places_ended given uuid (source.Channel j) texts (Some places) have = record {
-  main = have.main;
-  closed = have.closed;
-  channels = subst (λ (n : ℕ). AllZip (λ (text : Text) (m : ℕ). channel.IsValidUpTo (channel_of given uuid n) text.bytes m) (set texts.channels j (over (get_or texts.channels j no_text))) places.channels)
-      (sym (length-set texts.channels j (over (get_or texts.channels j no_text)))) (places_over (channel_of given uuid (length texts.channels)) j texts.channels places.channels have.channels);
-}
+-- if a source was ended, they are those with its end
+abbrev pub NotesEnd : Source → FedSources → Option Places → Option Places → Type 0
+NotesEnd from sources old new = (given : LoadSettings) (uuid : List ℕ) (k : ℕ) (texts : Texts) → Holds given uuid k texts sources
+    → HavePlaces given uuid texts old → HavePlaces given uuid (end_step from texts) new
 
 -- a piece was taken
 pub feed_steps : {E : Type 0} (given : LoadSettings) (uuid : List ℕ) (texts : Texts) (s : LoadSession) (sources new : FedSources) (from : Source) (piece : List ℕ) (target : Option LoadTarget)
@@ -597,11 +605,11 @@ told_either f s None v advances none told = told_without f s v advances (none re
 told_either f s (Some t) v advances none told = told_of f s t v advances told
 
 pub end_steps : (given : LoadSettings) (uuid : List ℕ) (texts : Texts) (s : LoadSession) (sources new : FedSources) (from : Source) (n : ℕ) (told : Option Verdict) (verdict : Verdict)
-    (kept : Option FedSources) (counts : Counts) (places : Option Places) → IsSession s → StandsFor given uuid texts s → s.sources ≡ Some sources → places ≡ s.places
+    (kept : Option FedSources) (counts : Counts) (places : Option Places) → IsSession s → StandsFor given uuid texts s → s.sources ≡ Some sources → NotesEnd from sources s.places places
     → ((given : LoadSettings) (uuid : List ℕ) (k : ℕ) (texts : Texts) → Holds given uuid k texts sources → Holds given uuid k (end_step from texts) new)
     → n ≡ rounds_loaded s.target → TellsAll n new told → verdict ≡ unwrap_or told Running → counts ≡ with_end s.counts from → Keeps verdict kept new
     → StandsFor given uuid (end_step from texts) (record { counts = counts; places = places; sources = kept; target = s.target; verdict = verdict })
-end_steps given uuid texts s sources new from n told verdict kept counts places is stands some same_places holds same tells is_verdict counted keeps =
+end_steps given uuid texts s sources new from n told verdict kept counts places is stands some notes holds same tells is_verdict counted keeps =
     let before : Readings = stands.is_answer.readings in
     let f : Feeding = record { given = given; uuid = uuid; texts = texts; readings = before } in
     let advances = feeding_of given uuid texts s sources some stands in
@@ -617,7 +625,7 @@ end_steps given uuid texts s sources new from n told verdict kept counts places 
     let here : TellsVerdict next.0 s.target verdict = subst (λ (v : Verdict). TellsVerdict next.0 s.target v) (sym is_verdict) (is_told told refl) in
     stands_told given uuid (end_step from texts) next.0 counts places kept new s.target verdict stands.is_page_size next.1
     (counted ∙ ap (λ (c : Counts). with_end c from) stands.has_counts ∙ sym (counts_ended from texts)) further_on.holds further_on.has_rounds here (kept_or_not verdict kept new keeps)
-    (subst (λ (o : Option Places). HavePlaces given uuid (end_step from texts) o) (sym same_places) (places_ended given uuid from texts s.places (places_now given uuid texts s sources some stands)))
+    (notes given uuid (rounds_loaded s.target) texts advances.holds (places_now given uuid texts s sources some stands))
   where
     go : (o : Option Verdict) → TellsAll (rounds_loaded s.target) new o
         → Advances (record { given = given; uuid = uuid; texts = end_step from texts; readings = (some_readings given uuid (end_step from texts) stands.is_page_size).0 }) new s.target
@@ -670,22 +678,48 @@ as_many_texts [] (y ∷ b) go = absurd go
 as_many_texts (x ∷ a) [] go = absurd go
 as_many_texts (x ∷ a) (y ∷ b) go = ap suc (as_many_texts a b go.1)
 
-valid_at : (R : Text → ℕ → Type 0) (texts : List Text) (ns : List ℕ) (j : ℕ) → AllZip R texts ns → j < length texts → (n : ℕ) × (slice_get ns j ≡ Some n) × R (get_or texts j no_text) n
-valid_at R [] ns j zip below = absurd (omega (arith, below))
-valid_at R (text ∷ texts) [] j zip below = absurd zip
-valid_at R (text ∷ texts) (n ∷ ns) zero zip below = (n, refl, zip.0)
-valid_at R (text ∷ texts) (n ∷ ns) (suc j) zip below = valid_at R texts ns j zip.1 (omega (arith, below))
+noted_at : (R : Text → Noted → Type 0) (texts : List Text) (ns : List Noted) (j : ℕ) → AllZip R texts ns → j < length texts → (n : Noted) × (slice_get ns j ≡ Some n) × R (get_or texts j no_text) n
+noted_at R [] ns j zip below = absurd (omega (arith, below))
+noted_at R (text ∷ texts) [] j zip below = absurd zip
+noted_at R (text ∷ texts) (n ∷ ns) zero zip below = (n, refl, zip.0)
+noted_at R (text ∷ texts) (n ∷ ns) (suc j) zip below = noted_at R texts ns j zip.1 (omega (arith, below))
+
+-- what is noted of a channel that there is
+channel_read : (given : LoadSettings) (uuid : List ℕ) (texts : Texts) (s : LoadSession) (p : Places) (j : ℕ) → (stands : StandsFor given uuid texts s) → s.places ≡ Some p → HasSource s.counts (source.Channel j)
+    → (n : Noted) × (slice_get p.channels j ≡ Some n) × IsNotedOfChannel (channel_of given uuid (length stands.read.channels)) (get_or stands.read.channels j no_text) n × (j < length stands.read.channels)
+channel_read given uuid texts s p j stands some there =
+    let read : Texts = stands.read in
+    let counted : j < length (map count_in texts.channels) = subst (λ (c : Counts). j < length c.channels) stands.has_counts there in
+    let below : j < length read.channels = omega (arith, counted, length-map texts.channels count_in, as_many_texts read.channels texts.channels stands.goes_on.channels) in
+    let here = noted_at (IsNotedOfChannel (channel_of given uuid (length read.channels))) read.channels p.channels j (places_read given uuid texts s p stands some).channels below in
+    (here.0, here.1, here.2, below)
 
 pub source_read : (given : LoadSettings) (uuid : List ℕ) (texts : Texts) (s : LoadSession) (p : Places) (from : Source) → (stands : StandsFor given uuid texts s) → s.places ≡ Some p → HasSource s.counts from
     → IsSourceValidUpTo given uuid stands.read from (place_of p from)
-source_read given uuid texts s p source.Main stands some there = (places_read given uuid texts s p stands some).main
+source_read given uuid texts s p source.Main stands some there = (places_read given uuid texts s p stands some).main.is_valid
 source_read given uuid texts s p (source.Channel j) stands some there =
-    let read : Texts = stands.read in
-    let below : j < length (map count_in texts.channels) = subst (λ (c : Counts). j < length c.channels) stands.has_counts there in
-    let here = valid_at (λ (text : Text) (n : ℕ). channel.IsValidUpTo (channel_of given uuid (length read.channels)) text.bytes n) read.channels p.channels j
-    (places_read given uuid texts s p stands some).channels
-    (omega (arith, below, length-map texts.channels count_in, as_many_texts read.channels texts.channels stands.goes_on.channels)) in
-    subst (λ (o : Option ℕ). IsSourceValidUpTo given uuid read (source.Channel j) o) (sym here.1) here.2
+    let here = channel_read given uuid texts s p j stands some there in
+    subst (λ (o : Option Noted). IsSourceValidUpTo given uuid stands.read (source.Channel j) (option_map (λ n. n.valid_up_to) o)) (sym here.1) here.2.is_valid
+
+-- ---- the faults of their bytes
+
+fault_at : (given : Settings) (texts : List Text) (readings : List ChannelReading) (j : ℕ) (found : Option Fault) → IsPageSize given.page_size → j < length texts
+    → Are given texts readings → HasChannelFault given (get_or texts j no_text) found → found ≡ get_or (map (λ (r : ChannelReading). fault_of (channel_end r.state)) readings) j None
+fault_at given [] readings j found size below are has = absurd (omega (arith, below))
+fault_at given (text ∷ texts) [] j found size below are has = absurd are
+fault_at given (text ∷ texts) (r ∷ readings) zero found size below are has = channel_fault given text r found size has are.0
+fault_at given (text ∷ texts) (r ∷ readings) (suc j) found size below are has = fault_at given texts readings j found size (omega (arith, below)) are.1 has
+
+pub fault_read : (given : LoadSettings) (uuid : List ℕ) (texts : Texts) (s : LoadSession) (p : Places) (from : Source) → (stands : StandsFor given uuid texts s) → s.places ≡ Some p → HasSource s.counts from
+    → HasFault given uuid stands.read from (noted_fault p from)
+fault_read given uuid texts s p source.Main stands some there =
+    let one = some_readings given uuid stands.read stands.is_page_size in
+    (one.0, one.1, main_fault given stands.read.main one.0.main p.main.fault stands.is_page_size (places_read given uuid texts s p stands some).main.has_fault one.1.has_main)
+fault_read given uuid texts s p (source.Channel j) stands some there =
+    let one = some_readings given uuid stands.read stands.is_page_size in
+    let here = channel_read given uuid texts s p j stands some there in
+    let is = fault_at (channel_of given uuid (length stands.read.channels)) stands.read.channels one.0.channels j here.0.fault stands.is_page_size here.3 one.1.has_channels here.2.has_fault in
+    (one.0, one.1, ap (option_and_then (λ (n : Noted). n.fault)) here.1 ∙ is)
 
 -- a stream that is closed is so if other bytes follow
 closed_more : (given : StreamSettings) (text more : List ℕ) (n : ℕ) → stream.IsClosedAt given text n → stream.IsClosedAt given (text ++ more) n
@@ -719,3 +753,54 @@ has_source_of s t from same there = subst (λ (x : LoadSession). HasSource x.cou
 
 pub open_of : (s t : LoadSession) (from : Source) → s ≡ t → IsFalse (count_of t.counts from).ended → IsFalse (count_of s.counts from).ended
 open_of s t from same open_ = subst (λ (x : LoadSession). IsFalse (count_of x.counts from).ended) (sym same) open_
+
+-- ---- whether all rounds are in
+
+-- while it runs
+pub all_in_running : (given : LoadSettings) (uuid : List ℕ) (texts : Texts) (s : LoadSession) (sources : FedSources) (told : Bool) → s.sources ≡ Some sources → StandsFor given uuid texts s → TellAllIn sources told
+    → IsTrue told ↔ HasAllRounds given uuid texts (answer_in s)
+all_in_running given uuid texts s sources told some stands tells =
+    let is = stands.is_answer in
+    let advances = feeding_of given uuid texts s sources some stands in (
+      λ yes. record {
+        readings = is.readings;
+        are_readings = is.are_readings;
+        have_only = (tells given uuid (rounds_loaded s.target) texts is.readings stands.is_page_size advances.holds is.are_readings).0 yes;
+        have_passed = is.has_rounds.before;
+        has_memory = is.has_memory;
+      },
+      λ all. (tells given uuid (rounds_loaded s.target) texts all.readings stands.is_page_size advances.holds all.are_readings).1 all.have_only,
+    )
+
+-- once it is done
+no_fault : (state : ChannelState) → is_clean (channel_end state) ≡ true → fault_of (channel_end state) ≡ None
+no_fault channel_state.Reading clean = absurd cc
+no_fault channel_state.Closed clean = refl
+no_fault (channel_state.Bad f) clean = absurd cc
+
+channels_only : (k from : ℕ) (readings : List ChannelReading) → All (λ (s : Standing). is_clean s.status ≡ true) (map (standing_at k) (enumerate_from from readings)) → All (HasOnly k) readings
+channels_only k from [] all = All-nil (HasOnly k)
+channels_only k from (r ∷ readings) all =
+    let rest : List Standing = map (standing_at k) (enumerate_from (from + 1) readings) in
+    let at = clean_at k (length r.rounds) (channel_end r.state) (All-head (λ (s : Standing). is_clean s.status ≡ true) (standing_at k (from, r)) rest all) in
+    All-cons (HasOnly k) r readings (record { has_rounds = sym at.0; has_no_fault = no_fault r.state at.1 })
+    (channels_only k (from + 1) readings (All-tail (λ (s : Standing). is_clean s.status ≡ true) (standing_at k (from, r)) rest all))
+
+pub all_in_done : (given : LoadSettings) (uuid : List ℕ) (texts : Texts) (s : LoadSession) → StandsFor given uuid texts s → s.verdict ≡ Done → HasAllRounds given uuid texts (answer_in s)
+all_in_done given uuid texts s stands done =
+    let is = stands.is_answer in
+    let k : ℕ = rounds_loaded s.target in
+    let all = and_parts (is_clean (main_at k is.readings).status) (list_all (λ (x : Standing). is_clean x.status) (channels_at k is.readings))
+    (done_is_clean k is.readings (sym is.has_verdict ∙ done)) in
+    let main = clean_at k (length is.readings.main.rounds) (stream_end is.readings.main.state) all.0 in
+    record {
+      readings = is.readings;
+      are_readings = is.are_readings;
+      have_only = record {
+        is_closed = stream_closed false is.readings.main.state main.1;
+        has_all = sym main.0;
+        channels = channels_only k 0 is.readings.channels (passes_all (λ (x : Standing). is_clean x.status) (channels_at k is.readings) all.1);
+      };
+      have_passed = is.has_rounds.before;
+      has_memory = is.has_memory;
+    }

@@ -1,8 +1,9 @@
 -- How a session advances: it judges the rounds that all sources have, and applies them.
-use Rattle.std.specs.Prelude.{ℕ, ◌≡◌, ◌≢◌, ◌+◌, ◌≤◌, ◌<◌, ◌^◌, ◌⊎◌, List, Option, None, Some, IfSome, IfOk, IsTrue, Result, Ok, Err, ⊤}
+use Rattle.std.specs.Prelude.{ℕ, ◌≡◌, ◌≢◌, ◌+◌, ◌≤◌, ◌<◌, ◌^◌, ◌⊎◌, ◌↔◌, Bool, List, Option, None, Some, IfSome, IfOk, IsTrue, Result, Ok, Err, ⊤}
 use Rattle.std.specs.Option.{option_map}
 use Rattle.mig_mem.specs.PageSize.{IsPageSize}
 use Rattle.mig_mem.specs.First.{first_some}
+use Rattle.mig_packet.specs.Reading.{Settings as ChannelSettings, ChannelReading, IsReading}
 use Rattle.mig_assemble.specs.Target.{LoadTarget}
 use Rattle.mig_single_load.specs.declared.settings.LoadSettings.{LoadSettings}
 use Rattle.mig_single_load.specs.declared.fault.LoadFault.{LoadFault}
@@ -11,12 +12,12 @@ use Rattle.mig_single_load.specs.declared.fault.Fault.TheVariants as fault
 use Rattle.mig_session.specs.declared.source.Source.{Source}
 use Rattle.mig_answer.specs.declared.verdict.Verdict.{Verdict}
 use Rattle.mig_answer.specs.declared.verdict.Verdict.TheVariants.{Failed}
-use Rattle.mig_answer.specs.Texts.{Texts, Readings, AreReadings}
+use Rattle.mig_answer.specs.Texts.{Text, Texts, Readings, AreReadings}
 use Rattle.mig_answer.specs.Rounds.{memory_at}
 use Rattle.mig_answer.specs.MultiLoad.{main_at, channels_at, hello_ids, repeated_hello, verdicts_told, passes, IsFirstStop, failed, verdict_at}
 use Rattle.mig_answer.specs.Putting.{HasLoaded}
-use Rattle.mig_session.specs.Sources.{FedSources, Holds}
-use Rattle.mig_session.specs.Session.{rounds_loaded, feed_step}
+use Rattle.mig_session.specs.Sources.{FedChannel, FedSources, HoldsChannel, Holds}
+use Rattle.mig_session.specs.Session.{rounds_loaded, feed_step, HasOnly, HaveOnly}
 
 -- a session's settings and UUID, the bytes of each source so far, and what readers read in them
 pub record Feeding : Type 0 where
@@ -79,3 +80,15 @@ pub record RoundIsDue (f : Feeding) (s : FedSources) (t : LoadTarget) : Type 0 w
 abbrev pub PutsOrRefuses : Feeding → LoadTarget → Result ⊤ LoadFault → LoadTarget → Type 0
 PutsOrRefuses f old (Ok x) new = HasRounds f.readings (Some new) × (new.rounds ≡ old.rounds + 1)
 PutsOrRefuses f old (Err found) new = (new ≡ old) × (((found.fault ≢ fault.NoMemory) × TellsVerdict f.readings (Some old) (Failed found)) ⊎ (found.fault ≡ fault.NoMemory))
+
+-- ---- whether all rounds are in
+
+-- whether a channel has the judged rounds alone, and no fault
+abbrev pub TellsOnly : FedChannel → Bool → Type 0
+TellsOnly c told = (given : ChannelSettings) (k : ℕ) (text : Text) (reading : ChannelReading) → IsPageSize given.page_size
+    → HoldsChannel given k text c → IsReading given text.bytes text.ended reading → IsTrue told ↔ HasOnly k reading
+
+-- whether the main stream is closed after the judged rounds, and each channel has them alone
+abbrev pub TellAllIn : FedSources → Bool → Type 0
+TellAllIn s told = (given : LoadSettings) (uuid : List ℕ) (k : ℕ) (texts : Texts) (readings : Readings) → IsPageSize given.page_size
+    → Holds given uuid k texts s → AreReadings given uuid texts readings → IsTrue told ↔ HaveOnly k readings

@@ -1,23 +1,30 @@
 -- A load whose streams are fed in pieces: what a session holds, and the streams that it represents.
-use Rattle.std.specs.Prelude.{ℕ, ◌≡◌, ◌≢◌, ◌≤◌, ◌<◌, ◌+◌, ◌^◌, true, false, List, length, map, slice_get, slice_set, get_or, Option, None, Some, IfSome, ⊤}
+use Rattle.std.specs.Prelude.{ℕ, ◌≡◌, ◌≢◌, ◌≤◌, ◌<◌, ◌+◌, ◌^◌, true, false, List, length, map, slice_get, slice_set, get_or, Option, None, Some, IfSome, IsTrue, ⊤, All}
 use Rattle.std.specs.List.{AllZip}
-use Rattle.std.specs.Option.{option_map, option_map_or}
+use Rattle.std.specs.Option.{option_map, option_map_or, option_and_then}
 use Rattle.mig_mem.specs.PageSize.{IsPageSize}
-use Rattle.mig_mem.specs.RamTable.{RamTable}
 use Rattle.mig_assemble.specs.Target.{LoadTarget}
+use Rattle.mig_stream.specs.declared.item.StreamState.{StreamState}
+use Rattle.mig_stream.specs.declared.item.StreamState.TheVariants as stream_state
+use Rattle.mig_stream.specs.Reading.{Settings as StreamSettings}
 use Rattle.mig_stream.specs.Reader as stream
+use Rattle.mig_packet.specs.declared.state.ChannelState.{ChannelState}
+use Rattle.mig_packet.specs.Reading.{Settings as ChannelSettings, ChannelReading}
 use Rattle.mig_packet.specs.Reader as channel
 use Rattle.mig_single_load.specs.Settings.{main_of, channel_of}
 use Rattle.mig_single_load.specs.declared.settings.LoadSettings.{LoadSettings}
+use Rattle.mig_single_load.specs.declared.fault.Fault.{Fault}
 use Rattle.mig_session.specs.declared.counts.Count.{Count}
+use Rattle.mig_session.specs.declared.places.Noted.{Noted}
 use Rattle.mig_session.specs.declared.source.Source.{Source}
 use Rattle.mig_session.specs.declared.source.Source.TheVariants as source
 use Rattle.mig_answer.specs.declared.verdict.Verdict.{Verdict}
 use Rattle.mig_answer.specs.declared.verdict.Verdict.TheVariants.{Running}
 use Rattle.mig_answer.specs.Growing.{GoOn}
+use Rattle.mig_answer.specs.Status.{stream_end, channel_end, fault_of}
 use Rattle.mig_answer.specs.Texts.{Text, Texts, Readings, AreReadings, no_text, with_piece, over}
-use Rattle.mig_answer.specs.Rounds.{base_at}
-use Rattle.mig_answer.specs.MultiLoad.{Answer, IsAnswer, IsWithoutMemory}
+use Rattle.mig_answer.specs.Rounds.{base_at, memory_at}
+use Rattle.mig_answer.specs.MultiLoad.{Answer, IsAnswer, IsWithoutMemory, passes}
 use Rattle.mig_session.specs.Sources.{Counts, Places, FedSources, counts_of, Holds}
 
 -- ---- what a session holds
@@ -25,7 +32,7 @@ use Rattle.mig_session.specs.Sources.{Counts, Places, FedSources, counts_of, Hol
 pub record LoadSession : Type 0 where
   -- the counts of each stream's bytes
   pub counts : Counts
-  -- up to which byte each was valid, as far as it was read; None after a refused allocation
+  -- what is noted of each, as far as it was read; None after a refused allocation
   pub places : Option Places
   -- the state of each source, while the load runs
   pub sources : Option FedSources
@@ -98,18 +105,55 @@ pub record IsRunning (given : LoadSettings) (uuid : List ℕ) (texts : Texts) (t
   pub holds : Holds given uuid (rounds_loaded target) texts sources
   pub has_base : IfSome target (HasBase given uuid texts)
 
--- ---- up to which byte the streams are valid
+-- ---- the fault of one source's own bytes, whatever other sources have
 
--- that of a source, None for a channel that doesn't exist
+-- none is there, or the first
+abbrev pub fault_in : Readings → Source → Option Fault
+fault_in readings source.Main = fault_of (stream_end readings.main.state)
+fault_in readings (source.Channel j) = get_or (map (λ c. fault_of (channel_end c.state)) readings.channels) j None
+
+-- a source's own bytes have this fault, or none
+abbrev pub HasFault : LoadSettings → List ℕ → Texts → Source → Option Fault → Type 0
+HasFault given uuid texts from found = (readings : Readings) × AreReadings given uuid texts readings × (found ≡ fault_in readings from)
+
+-- that of a main stream, and that of a channel, by their bytes alone
+abbrev pub HasMainFault : StreamSettings → Text → Option Fault → Type 0
+HasMainFault given text found = (state : StreamState) × stream.HasState given text.bytes text.ended state × (found ≡ fault_of (stream_end state))
+
+abbrev pub HasChannelFault : ChannelSettings → Text → Option Fault → Type 0
+HasChannelFault given text found = (state : ChannelState) × channel.HasState given text.bytes text.ended state × (found ≡ fault_of (channel_end state))
+
+-- ---- what is noted of the streams: up to which byte they are valid, and their faults
+
+-- before the first byte
+abbrev pub nothing_noted : Noted
+nothing_noted = record { valid_up_to = 0; fault = None }
+
+-- up to which byte a source is valid, None for a channel that doesn't exist
 abbrev pub place_of : Places → Source → Option ℕ
-place_of places source.Main = Some places.main
-place_of places (source.Channel j) = slice_get places.channels j
+place_of places source.Main = Some places.main.valid_up_to
+place_of places (source.Channel j) = option_map (λ noted. noted.valid_up_to) (slice_get places.channels j)
 
--- These are the offsets up to which the streams are valid, and where the main stream is closed.
+-- the fault of a source, None for a channel that doesn't exist
+abbrev pub noted_fault : Places → Source → Option Fault
+noted_fault places source.Main = places.main.fault
+noted_fault places (source.Channel j) = option_and_then (λ noted. noted.fault) (slice_get places.channels j)
+
+-- A main stream is valid up to there, and has this fault.
+pub record IsNotedOfMain (given : StreamSettings) (text : Text) (noted : Noted) : Type 0 where
+  pub is_valid : stream.IsValidUpTo given text.bytes noted.valid_up_to
+  pub has_fault : HasMainFault given text noted.fault
+
+-- A channel is valid up to there, and has this fault.
+pub record IsNotedOfChannel (given : ChannelSettings) (text : Text) (noted : Noted) : Type 0 where
+  pub is_valid : channel.IsValidUpTo given text.bytes noted.valid_up_to
+  pub has_fault : HasChannelFault given text noted.fault
+
+-- This is noted of the streams, and where the main stream is closed.
 pub record HasPlaces (given : LoadSettings) (uuid : List ℕ) (texts : Texts) (places : Places) : Type 0 where
-  pub main : stream.IsValidUpTo (main_of given) texts.main.bytes places.main
+  pub main : IsNotedOfMain (main_of given) texts.main places.main
   pub closed : stream.HasClosedAt (main_of given) texts.main.bytes places.closed_at
-  pub channels : AllZip (λ (text : Text) (n : ℕ). channel.IsValidUpTo (channel_of given uuid (length texts.channels)) text.bytes n) texts.channels places.channels
+  pub channels : AllZip (IsNotedOfChannel (channel_of given uuid (length texts.channels))) texts.channels places.channels
 
 abbrev pub HavePlaces : LoadSettings → List ℕ → Texts → Option Places → Type 0
 HavePlaces given uuid texts None = ⊥
@@ -148,6 +192,27 @@ pub record HasRead (given : LoadSettings) (uuid : List ℕ) (texts : Texts) (s :
 -- This holds of the streams as far as the session read them.
 abbrev pub AsRead : LoadSettings → List ℕ → Texts → LoadSession → (Texts → Type 0) → Type 0
 AsRead given uuid texts s IsSo = (read : Texts) × HasRead given uuid texts s read × IsSo read
+
+-- A channel has k rounds, and no fault.
+pub record HasOnly (k : ℕ) (c : ChannelReading) : Type 0 where
+  pub has_rounds : length c.rounds ≡ k
+  pub has_no_fault : fault_of (channel_end c.state) ≡ None
+
+-- The main stream is closed after k rounds. Each channel has as many, and no fault.
+pub record HaveOnly (k : ℕ) (readings : Readings) : Type 0 where
+  pub is_closed : readings.main.state ≡ stream_state.Closed
+  pub has_all : length readings.main.rounds ≡ k
+  pub channels : All (HasOnly k) readings.channels
+
+-- All rounds are in: the main stream is closed, each of its rounds was judged lawful, and the
+-- memory is that after them. No channel has a further round, or a fault. The channels may not have
+-- ended.
+pub record HasAllRounds (given : LoadSettings) (uuid : List ℕ) (texts : Texts) (answer : Answer) : Type 0 where
+  pub readings : Readings
+  pub are_readings : AreReadings given uuid texts readings
+  pub have_only : HaveOnly answer.rounds readings
+  pub have_passed : (j : ℕ) → j < answer.rounds → IsTrue (passes j readings)
+  pub has_memory : answer.memory ≡ memory_at answer.rounds readings
 
 -- The session represents these streams after a refused allocation: its answer is the one for that,
 -- and stays.

@@ -16,6 +16,7 @@ use Rattle.mig_packet.specs.Reader as channel_reader
 use Rattle.mig_single_load.specs.Settings.{main_of, channel_of}
 use Rattle.mig_single_load.specs.declared.settings.LoadSettings.{LoadSettings}
 use Rattle.mig_session.specs.declared.counts.Count.{Count}
+use Rattle.mig_session.specs.declared.places.Noted.{Noted}
 use Rattle.mig_answer.specs.declared.status.Status.{Status}
 use Rattle.mig_answer.specs.declared.verdict.Verdict.{Verdict}
 use Rattle.mig_answer.specs.Status.{main_status, channel_status}
@@ -42,11 +43,11 @@ pub record Counts : Type 0 where
   pub main : Count
   pub channels : List Count
 
--- up to which byte each source is valid, and where the main stream is closed
+-- what is noted of each source, and where the main stream is closed
 pub record Places : Type 0 where
-  pub main : ℕ
+  pub main : Noted
   pub closed_at : Option ℕ
-  pub channels : List ℕ
+  pub channels : List Noted
 
 abbrev pub main_count : FedMain → Count
 main_count m = record { fed = m.reader.fed; ended = m.reader.ended }

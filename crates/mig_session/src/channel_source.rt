@@ -6,14 +6,17 @@ ghost use Rattle.mig_packet.specs.Lent.{fields};
 ghost use Rattle.mig_packet.specs.Reading.{Settings};
 ghost use Rattle.mig_packet.specs.Reader.{IsValidUpTo};
 ghost use Rattle.mig_answer.specs.Texts.{Text, no_text, with_piece, over};
+ghost use Rattle.mig_session.specs.Session.{HasChannelFault, IsNotedOfChannel};
 ghost use Rattle.mig_session.specs.Sources.{HoldsChannel, TakesChannel, TellsChannelStatus, TellsHello, channel_count, packets_of, IsOfSize};
+ghost use Rattle.mig_session.specs.Advancing.{TellsOnly};
 ghost use Rattle.mig_single_load.specs.Settings.{channel_of};
 
+use crate::places::{Noted, fault_of};
 use mig_answer::{Status, channel_end};
 use mig_assemble::Gathered;
 use mig_mem::NoMemory;
 use mig_packet::{ChannelReader, PacketRound};
-use mig_single_load::LoadSettings;
+use mig_single_load::{Fault, LoadSettings};
 use std::alloc::{Allocator, Global};
 use std::marker::Model;
 use uuid::Uuid;
@@ -133,6 +136,31 @@ impl<A: Allocator> ChannelSource<A> {
         ensures { (given : Settings) (k : ℕ) (text : Text) → HoldsChannel given k text self.now → IsValidUpTo given text.bytes result }
     {
         self.reader.valid_up_to()
+    }
+
+    /// Returns the fault of the channel's bytes.
+    pub(crate) fn fault(&self) -> Option<Fault>
+        ensures { (given : Settings) (k : ℕ) (text : Text) → HoldsChannel given k text self.now → HasChannelFault given text result }
+    {
+        fault_of(channel_end(self.reader.state()))
+    }
+
+    /// Returns what is noted of the channel.
+    pub(crate) fn noted(&self) -> Noted
+        ensures { (given : Settings) (k : ℕ) (text : Text) → HoldsChannel given k text self.now → IsNotedOfChannel given text result }
+    {
+        Noted {
+            valid_up_to: self.valid_up_to(),
+            fault: self.fault(),
+        }
+    }
+
+    /// Returns whether the channel has the rounds that were judged and no further one, and no
+    /// fault.
+    pub(crate) fn has_only(&self) -> bool
+        ensures { TellsOnly self.now result }
+    {
+        self.round.is_none() && self.fault().is_none()
     }
 
     /// Returns the id that its hello names. None before the hello is complete, or if the hello has

@@ -8,11 +8,13 @@ ghost use Rattle.mig_stream.specs.Reading.{Settings};
 ghost use Rattle.mig_stream.specs.Reader.{waiting, HasTable, HasClosedAt, IsValidUpTo};
 ghost use Rattle.mig_single_load.specs.Settings.{main_of};
 ghost use Rattle.mig_answer.specs.Texts.{Text, no_text, with_piece, over};
+ghost use Rattle.mig_session.specs.Session.{HasMainFault, IsNotedOfMain};
 ghost use Rattle.mig_session.specs.Sources.{HoldsMain, TakesMain, TellsMainStatus, main_count, main_waiting};
 
+use crate::places::{Noted, fault_of};
 use mig_answer::{Status, stream_end};
 use mig_mem::{NoMemory, Table};
-use mig_single_load::LoadSettings;
+use mig_single_load::{Fault, LoadSettings};
 use mig_stream::{StreamReader, StreamRound};
 use std::alloc::{Allocator, Global};
 use std::marker::Model;
@@ -116,6 +118,23 @@ impl<A: Allocator> MainSource<A> {
         ensures { (given : Settings) (k : ℕ) (text : Text) → HoldsMain given k text self.now → IsValidUpTo given text.bytes result }
     {
         self.reader.valid_up_to()
+    }
+
+    /// Returns the fault of the stream's bytes.
+    pub(crate) fn fault(&self) -> Option<Fault>
+        ensures { (given : Settings) (k : ℕ) (text : Text) → HoldsMain given k text self.now → HasMainFault given text result }
+    {
+        fault_of(stream_end(self.reader.state()))
+    }
+
+    /// Returns what is noted of the stream.
+    pub(crate) fn noted(&self) -> Noted
+        ensures { (given : Settings) (k : ℕ) (text : Text) → HoldsMain given k text self.now → IsNotedOfMain given text result }
+    {
+        Noted {
+            valid_up_to: self.valid_up_to(),
+            fault: self.fault(),
+        }
     }
 
     /// Returns where the stream is closed, if it is.

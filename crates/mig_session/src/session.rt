@@ -1,18 +1,18 @@
 //! The load of streams on several channels that are fed in pieces, in any order: for callers that
 //! read from connections, and for `pump`.
 
-ghost use Rattle.std.specs.Prelude.{ℕ, ◌≡◌, ◌≢◌, ◌+◌, ◌<◌, ◌≤◌, ◌^◌, ◌↔◌, IsTrue, List, Option, None, Some, IsOk, IsFalse, IfOk, IfSome, OnOk, OnErr, length, map, replicate};
+ghost use Rattle.std.specs.Prelude.{ℕ, ◌≡◌, ◌≢◌, ◌+◌, ◌<◌, ◌≤◌, ◌^◌, ◌↔◌, ◌⊎◌, IsTrue, List, Option, None, Some, IsOk, IsFalse, IfOk, IfSome, OnOk, OnErr, length, map, replicate};
 ghost use Rattle.std.specs.Option.{option_copied, unwrap_or};
 ghost use Rattle.mig_mem.specs.PageSize.{IsPageSize};
 ghost use Rattle.mig_single_load.specs.declared.fault.Fault.TheVariants.{NoMemory as fault_no_memory};
 ghost use Rattle.mig_single_load.specs.declared.settings.LoadSettings.{LoadSettings};
 ghost use Rattle.mig_single_load.specs.Settings.{ram_settings, main_of};
-ghost use Rattle.mig_answer.specs.declared.verdict.Verdict.TheVariants.{Running as running, Failed as failed_with};
+ghost use Rattle.mig_answer.specs.declared.verdict.Verdict.TheVariants.{Running as running, Done as done, Failed as failed_with};
 ghost use Rattle.mig_answer.specs.declared.verdict.Verdict.{Verdict};
 ghost use Rattle.mig_stream.specs.Reader.{HasClosedAt, IsClosedAt};
 ghost use Rattle.mig_answer.specs.Texts.{Text, Texts, no_texts};
 ghost use Rattle.mig_session.specs.Sources.{counts_of, Holds, TellsAll};
-ghost use Rattle.mig_session.specs.Session.{HasSource, count_of, no_count, with_fed, with_end, at_source, feed_step, end_step, answer_in, rounds_loaded, HavePlaces, IsSourceValidUpTo, AsRead, StandsFor, LacksMemory, StepsOn, RunsOut, StillLacks, KeepsRounds};
+ghost use Rattle.mig_session.specs.Session.{HasSource, count_of, no_count, with_fed, with_end, at_source, feed_step, end_step, answer_in, rounds_loaded, HavePlaces, IsSourceValidUpTo, HasFault, HasAllRounds, AsRead, StandsFor, LacksMemory, StepsOn, RunsOut, StillLacks, KeepsRounds};
 ghost use Rattle.mig_session.specs.Advancing.{Feeding, Advances, HasAdvanced, HasTaken, TellsVerdict, failed_without_memory};
 
 use crate::Source;
@@ -62,8 +62,7 @@ use uuid::Uuid;
 pub struct Session<A: Allocator = Global> {
     alloc: A,
     counts: SourceCounts<A>,
-    // up to which byte each source was valid, as far as it was read; None after a refused
-    // allocation
+    // what is noted of each source, as far as it was read; None after a refused allocation
     places: Option<SourcePlaces<A>>,
     // while it runs
     sources: Option<Sources<A>>,
@@ -99,6 +98,12 @@ fn rounds_of<A: Allocator>(target: &Option<Target<A>>) -> u64
         Some(target) => target.rounds(),
         None => 0,
     }
+}
+
+fn is_done(verdict: Verdict) -> bool
+    ensures { IsTrue result ↔ verdict ≡ done }
+{
+    matches!(verdict, Verdict::Done)
 }
 
 // Returns the verdict that a fault of a round gives. `Err` is `NoMemory`.
@@ -192,7 +197,7 @@ fn advance<A: Allocator + Copy>(
     }
 }
 
-// Notes up to which byte `source` is valid, unless an allocation was refused.
+// Notes up to which byte `source` is valid, and its fault, unless an allocation was refused.
 fn note<A: Allocator>(sources: &Sources<A>, source: Source, places: &mut Option<SourcePlaces<A>>)
     requires { HasSource (counts_of sources.now) source }
     ensures { (given : LoadSettings) (uuid : List ℕ) (k : ℕ) (step : Text → Text) (texts : Texts) → Holds given uuid k (at_source source step texts) sources.now
@@ -232,14 +237,22 @@ fn take<A: Allocator + Copy>(
 }
 
 // Ends a source. Returns the verdict after `rounds` rounds.
-fn end_source<A: Allocator>(sources: &mut Sources<A>, source: Source, rounds: u64) -> Verdict
+fn end_source<A: Allocator>(
+    sources: &mut Sources<A>,
+    places: &mut Option<SourcePlaces<A>>,
+    source: Source,
+    rounds: u64,
+) -> Verdict
     requires { HasSource (counts_of sources.old) source }
     ensures holds { (given : LoadSettings) (uuid : List ℕ) (k : ℕ) (texts : Texts) → Holds given uuid k texts sources.old
         → Holds given uuid k (end_step source texts) sources.new }
     ensures told { (told : Option Verdict) × TellsAll rounds sources.new told × (result ≡ unwrap_or told running) }
     ensures counts { counts_of sources.new ≡ with_end (counts_of sources.old) source }
+    ensures places { (given : LoadSettings) (uuid : List ℕ) (k : ℕ) (texts : Texts) → Holds given uuid k texts sources.old
+        → HavePlaces given uuid texts places.old → HavePlaces given uuid (end_step source texts) places.new }
 {
     sources.end(source);
+    note(sources, source, places);
     sources.told(rounds).unwrap_or(Verdict::Running)
 }
 
@@ -376,7 +389,7 @@ impl<A: Allocator> Session<A> {
         let rounds = rounds_of(&self.target);
         let verdict = match &mut self.sources {
             None => return,
-            Some(sources) => end_source(sources, source, rounds),
+            Some(sources) => end_source(sources, &mut self.places, source, rounds),
         };
         self.verdict = verdict;
         keep(&mut self.sources, verdict);
@@ -456,8 +469,51 @@ impl<A: Allocator> Session<A> {
         ensures lacking { (given : LoadSettings) (uuid : List ℕ) (texts : Texts) → LacksMemory given uuid texts self.now → result ≡ None }
     {
         match &self.places {
-            Some(places) => places.of(source),
+            Some(places) => places.valid_up_to(source),
             None => None,
+        }
+    }
+
+    /// Returns the fault of the bytes of `source` by themselves, whatever other sources have: a
+    /// `Fault::Stream` or a `Fault::Channel`. It is known at once, while the verdict waits for the
+    /// other sources. So it says which connection broke: a source that was ended too early has
+    /// `Truncated`, or a channel after a packet without SYNC `Unsynced`.
+    ///
+    /// A session reads no more of its sources once its verdict isn't `Running`: from then on each
+    /// has the fault that it had. None after a refused allocation.
+    pub fn fault_of(&self, source: Source) -> Option<Fault>
+        requires { HasSource self.now.counts source }
+        ensures stands { (given : LoadSettings) (uuid : List ℕ) (texts : Texts) → StandsFor given uuid texts self.now
+            → AsRead given uuid texts self.now (λ read. HasFault given uuid read source result) }
+        ensures lacking { (given : LoadSettings) (uuid : List ℕ) (texts : Texts) → LacksMemory given uuid texts self.now → result ≡ None }
+    {
+        match &self.places {
+            Some(places) => places.fault_of(source),
+            None => None,
+        }
+    }
+
+    /// Returns whether all rounds are in: the main stream is closed, each of its rounds was judged
+    /// lawful and is in the memory, and no channel has a further round or a fault. The channels may
+    /// not have ended yet.
+    ///
+    /// QEMU with a return path ends its channels only after the answer, and `Verdict::Done` waits
+    /// for their ends. So answer where this is true. Then the channels end, and the verdict is
+    /// `Done`.
+    ///
+    /// A packet of a round that isn't complete isn't in the memory, and doesn't count here. If a
+    /// channel ends with one, that is its fault.
+    pub fn has_all_rounds(&self) -> bool
+        ensures all { IsTrue result → (given : LoadSettings) (uuid : List ℕ) (texts : Texts) → StandsFor given uuid texts self.now
+            → HasAllRounds given uuid texts (answer_in self.now) }
+        ensures exact { self.now.verdict ≡ running → (given : LoadSettings) (uuid : List ℕ) (texts : Texts) → StandsFor given uuid texts self.now
+            → HasAllRounds given uuid texts (answer_in self.now) → IsTrue result }
+        ensures done { self.now.verdict ≡ done → IsTrue result }
+        ensures failed { IsTrue result → (self.now.verdict ≡ running) ⊎ (self.now.verdict ≡ done) }
+    {
+        match &self.sources {
+            Some(sources) => sources.all_in(),
+            None => is_done(self.verdict),
         }
     }
 

@@ -1,8 +1,8 @@
 //! A session's state of all its sources, and their verdict at the round that is judged next.
 //! `Session` has it while it runs.
 
-ghost use Rattle.std.specs.Prelude.{ℕ, ◌≡◌, ◌≢◌, ◌+◌, ◌<◌, ◌≤◌, ◌^◌, ◌++◌, List, [], None, IsFalse, IfOk, OnOk, OnErr, All, length, map, replicate, vec_len, vec_capacity};
-ghost use Rattle.std.specs.List.{AllZip};
+ghost use Rattle.std.specs.Prelude.{ℕ, ◌≡◌, ◌≢◌, ◌+◌, ◌<◌, ◌≤◌, ◌^◌, ◌++◌, Bool, List, [], None, IsFalse, IfOk, OnOk, OnErr, All, length, map, replicate, vec_len, vec_capacity};
+ghost use Rattle.std.specs.List.{AllZip, list_all};
 ghost use Rattle.mig_mem.specs.PageSize.{IsPageSize};
 ghost use Rattle.std.specs.Option.{option_copied};
 ghost use Rattle.mig_stream.specs.Reader.{HasTable};
@@ -13,7 +13,7 @@ ghost use Rattle.mig_answer.specs.Texts.{Text, Texts, no_text, no_texts};
 ghost use Rattle.mig_answer.specs.MultiLoad.{repeated_hello};
 ghost use Rattle.mig_session.specs.Sources.{FedSources, Holds, HoldsChannel, counts_of, channel_count, TellsChannelStatus, TellsHello, TellsAll, HaveRound, TakesChannel, packets_of_all, IsOfSize, main_waiting};
 ghost use Rattle.mig_session.specs.Session.{HasSource, HasPlaces, count_of, with_fed, with_end, at_source, feed_step, end_step, no_count};
-ghost use Rattle.mig_session.specs.Advancing.{Feeding, RoundIsDue, PutsOrRefuses};
+ghost use Rattle.mig_session.specs.Advancing.{Feeding, RoundIsDue, PutsOrRefuses, TellsOnly, TellAllIn};
 
 use crate::Source;
 use crate::channel_source::ChannelSource;
@@ -90,6 +90,19 @@ fn look_at_hellos<A: Allocator>(channels: &[ChannelSource<A>], hellos: &mut Vec<
     for channel in channels {
         hellos.push_reserved(channel.hello());
     }
+}
+
+// Returns whether each channel has the rounds that were judged and no further one, and no fault.
+fn have_only<A: Allocator>(channels: &[ChannelSource<A>]) -> bool
+    ensures { (told : List Bool) × AllZip TellsOnly channels.now told × (result ≡ list_all (λ t. t) told) }
+{
+    let mut all = true;
+    for channel in channels {
+        if !channel.has_only() {
+            all = false;
+        }
+    }
+    all
 }
 
 // Gathers the packets of the round that is judged next.
@@ -218,17 +231,28 @@ impl<A: Allocator> Sources<A> {
         verdict_told(round, main, &self.statuses, repeated_id(&self.hellos))
     }
 
-    /// Notes up to which byte `source` is valid, and where a main stream is closed.
+    /// Returns whether the main stream is closed after the rounds that were judged, and each channel
+    /// has them and no further one, and no fault.
+    pub(crate) fn all_in(&self) -> bool
+        ensures { TellAllIn self.now result }
+    {
+        match self.main.status() {
+            Status::Clean => have_only(&self.channels),
+            Status::Whole | Status::Bad(_) | Status::Pending => false,
+        }
+    }
+
+    /// Notes up to which byte `source` is valid, its fault, and where a main stream is closed.
     pub(crate) fn note(&self, source: Source, places: &mut SourcePlaces<A>)
         requires { HasSource (counts_of self.now) source }
         ensures { (given : LoadSettings) (uuid : List ℕ) (k : ℕ) (step : Text → Text) (texts : Texts) → Holds given uuid k (at_source source step texts) self.now
             → HasPlaces given uuid texts places.old → HasPlaces given uuid (at_source source step texts) places.new }
     {
         match source {
-            Source::Main => places.set_main(self.main.valid_up_to(), self.main.closed_at()),
+            Source::Main => places.set_main(self.main.noted(), self.main.closed_at()),
             Source::Channel(j) => {
                 let channel = &self.channels[j];
-                places.set_channel(j, channel.valid_up_to());
+                places.set_channel(j, channel.noted());
             }
         }
     }

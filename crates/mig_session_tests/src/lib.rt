@@ -7,6 +7,8 @@
 #[cfg(test)]
 mod drawn;
 #[cfg(test)]
+mod ends;
+#[cfg(test)]
 mod feeding;
 #[cfg(test)]
 mod guests;

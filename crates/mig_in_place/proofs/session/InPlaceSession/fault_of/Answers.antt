@@ -8,9 +8,9 @@ use Rattle.mig_single_load.specs.declared.settings.LoadSettings.{LoadSettings}
 use Rattle.mig_answer.proofs.OneAnswer.{some_readings}
 use Rattle.mig_session.specs.declared.source.Source.{Source}
 use Rattle.mig_session.specs.declared.source.Source.TheVariants as source
-use Rattle.mig_session.specs.Session.{HasSource}
+use Rattle.mig_session.specs.Session.{HasSource, HasFault}
 use Rattle.mig_in_place.specs.Sources.{KeptChannel, channel_count, counts_of}
-use Rattle.mig_in_place.specs.Session.{InPlaceLoad, Loading, HaveTaken, HasFault}
+use Rattle.mig_in_place.specs.Session.{InPlaceLoad, Loading, HaveTaken}
 use Rattle.mig_in_place.proofs.Faults.{fault_at}
 use Rattle.mig_in_place.proofs.Refused.{stands_found}
 use Rattle.mig_in_place.proofs.session.InPlaceSession.fault_of.Goals as goal
