@@ -721,6 +721,23 @@ ZIMGASOL_API zimgasol_status zimgasol_session_closed_at(zimgasol_session *sessio
 ZIMGASOL_API bool zimgasol_session_valid_up_to(zimgasol_session *session, size_t source,
     uint64_t *at);
 
+/* Reports in *found the fault of a source's bytes by themselves, whatever other sources have, and
+ * returns its number, or DONE if they have none. It is known at once, while the verdict is RUNNING
+ * as long as another source may still have bytes. A source that was ended too early has
+ * STREAM_TRUNCATED, CHANNEL_TRUNCATED, or after a packet without SYNC CHANNEL_UNSYNCED: so it says
+ * which connection broke. Returns BAD_SOURCE, with *found unchanged. What is fed once the verdict
+ * is there isn't read: from then on each source has the fault that it had. After NO_MEMORY no fault
+ * is known. */
+ZIMGASOL_API zimgasol_status zimgasol_session_fault_of(zimgasol_session *session, size_t source,
+    zimgasol_fault *found);
+
+/* Returns whether all rounds are in: the main stream is closed, each of its rounds was judged
+ * lawful and is in the memory, and no channel has a further round or a fault. QEMU with a return
+ * path ends its channels only after the answer, and DONE waits for their ends. So answer where this
+ * is true. Then the channels end, and the verdict is DONE. A packet of a round that isn't complete
+ * isn't in the memory, and doesn't count here: if a channel ends with one, that is its fault. */
+ZIMGASOL_API bool zimgasol_session_has_all_rounds(zimgasol_session *session);
+
 /* As those of a loader, but that _rounds counts rounds alone: START and END are none. */
 ZIMGASOL_API uint64_t zimgasol_session_rounds(zimgasol_session *session);
 ZIMGASOL_API size_t zimgasol_session_blocks(zimgasol_session *session);

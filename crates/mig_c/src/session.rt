@@ -8,7 +8,7 @@ ghost use Rattle.mig_c_loads.specs.Frames.{waiting_of as most_waiting};
 ghost use Rattle.mig_c.specs.Kinds.{session_in, Turns, Tells};
 ghost use Rattle.mig_c_loads.specs.Found.{seen_of_verdict};
 ghost use Rattle.mig_c_loads.specs.Reading.{GivesPage, GivesPages, GivesBlock, FindsFilled, place_at, block_count};
-ghost use Rattle.mig_c_loads.specs.Sessions.{Opens, OpensSession, FeedsSource, EndsSource, source_of, TellsFed, TellsClosedAt, TellsValidUpTo};
+ghost use Rattle.mig_c_loads.specs.Sessions.{Opens, OpensSession, FeedsSource, EndsSource, source_of, TellsFed, TellsClosedAt, TellsValidUpTo, TellsFault, TellsAllRounds};
 
 use crate::handle::{Handle, SessionHandle};
 use crate::object::Object;
@@ -19,8 +19,8 @@ use mig_c_calls::status::{
 };
 use mig_c_loads::{
     AskedSettings, FoundFault, closed_at_of, count_blocks, end_source, fed_of, feed_source,
-    frame_of, read_block, read_page, read_pages, round_end_of, source_of, valid_up_to_of,
-    verdict_of, waiting_of,
+    frame_of, read_block, read_page, read_pages, round_end_of, source_fault_of, source_of,
+    valid_up_to_of, verdict_of, waiting_of,
 };
 use mig_mem::{NoMemory, is_page_size};
 use mig_session::{Session, Source};
@@ -278,6 +278,61 @@ pub extern "C" fn zimgasol_session_valid_up_to(
 {
     let object = session.handle.take().into_box(alloc);
     let result = valid_up_to(&object, source_of(source), at);
+    session.handle = Handle::of(object);
+    result
+}
+
+fn fault_of(object: &Object, source: Source, found: &mut FoundFault) -> u32
+    requires { IsSome (session_in (Some object.now)) }
+    ensures { Tells (TellsFault source result found.old found.new) (session_in (Some object.now)) }
+{
+    match object {
+        Object::Session(session) => source_fault_of(session, source, found),
+        _ => unreachable!(),
+    }
+}
+
+/// Reports the fault of a source's own bytes, or that they have none, whatever other sources have.
+#[unsafe(no_mangle)]
+pub extern "C" fn zimgasol_session_fault_of(
+    alloc: Global,
+    session: &mut SessionHandle,
+    source: usize,
+    found: &mut FoundFault,
+) -> u32
+    requires session { IsSome (session_in session.old.handle.value) }
+    ensures same { session.new.handle.value ≡ session.old.handle.value }
+    ensures tells { Tells (TellsFault (source_of source) result found.old found.new) (session_in session.old.handle.value) }
+{
+    let object = session.handle.take().into_box(alloc);
+    let status = fault_of(&object, source_of(source), found);
+    session.handle = Handle::of(object);
+    status
+}
+
+fn has_all_rounds(object: &Object) -> bool
+    requires { IsSome (session_in (Some object.now)) }
+    ensures { Tells (TellsAllRounds result) (session_in (Some object.now)) }
+{
+    match object {
+        Object::Session(session) => mig_c_loads::has_all_rounds(session),
+        _ => unreachable!(),
+    }
+}
+
+/// Returns whether all rounds are in: the main stream is closed, the memory has all its rounds, and
+/// no channel has a further round or a fault, though the channels may not have ended yet.
+#[unsafe(no_mangle)]
+pub extern "C" fn zimgasol_session_has_all_rounds(
+    alloc: Global,
+    session: &mut SessionHandle,
+) -> bool
+    requires session { IsSome (session_in session.old.handle.value) }
+    ensures same { session.new.handle.value ≡ session.old.handle.value }
+    ensures tells { Tells (TellsAllRounds result) (session_in session.old.handle.value) }
+{
+    let object = session.handle.take().into_box(alloc);
+    let result = has_all_rounds(&object);
     session.handle = Handle::of(object);
     result
 }

@@ -3,16 +3,18 @@ use Rattle.std.specs.Prelude.{◌≡◌, ◌≢◌, ◌⊎◌, ◌≤◌, ◌<�
 use Rattle.mig_session.specs.declared.source.Source.{Source}
 use Rattle.mig_session.specs.declared.source.Source.TheVariants as source
 use Rattle.mig_single_load.specs.declared.settings.LoadSettings.{LoadSettings}
-use Rattle.mig_answer.specs.declared.verdict.Verdict.TheVariants.{Running}
+use Rattle.mig_single_load.specs.declared.fault.Fault.{Fault}
+use Rattle.mig_answer.specs.declared.verdict.Verdict.TheVariants.{Running, Done}
 use Rattle.mig_stream.specs.Reader.{IsClosedAt, HasClosedAt}
 use Rattle.mig_single_load.specs.Settings.{main_of}
 use Rattle.mig_answer.specs.Texts.{Texts, no_texts}
-use Rattle.mig_session.specs.Session.{LoadSession, StandsFor, HasSource, count_of, feed_step, end_step, answer_in, StepsOn, RunsOut, StillLacks, AsRead, LacksMemory, IsSourceValidUpTo}
+use Rattle.mig_session.specs.Session.{LoadSession, StandsFor, HasSource, count_of, feed_step, end_step, answer_in, StepsOn, RunsOut, StillLacks, AsRead, LacksMemory, IsSourceValidUpTo, HasFault, HasAllRounds}
 use Rattle.mig_session.specs.Advancing.{failed_without_memory}
 use Rattle.mig_mem.specs.PageSize.{IsPageSize}
 use Rattle.mig_c_calls.specs.Status.{IsOneOf, done, running, no_memory, bad_page_size, bad_limit, bad_channels, bad_source, is_over, too_long, bad_length, bad_frame, bad_round_end}
 use Rattle.mig_c_loads.specs.Frames.{frame_of, round_end_of, main_settings}
-use Rattle.mig_c_loads.specs.Found.{if_told}
+use Rattle.mig_c_loads.specs.declared.fault.FoundFault.{FoundFault}
+use Rattle.mig_c_loads.specs.Found.{if_told, no_fault, seen_of_source}
 
 -- a session that was fed nothing
 abbrev pub Opens : Option LoadSettings → List ℕ → ℕ → Option LoadSession → Type 0
@@ -86,6 +88,22 @@ pub record TellsValidUpTo (from : Source) (told : Bool) (before after : ℕ) (s 
   pub lacking : (given : LoadSettings) (uuid : List ℕ) (texts : Texts) → LacksMemory given uuid texts s → IsFalse told
   pub foreign : (HasSource s.counts from → ⊥) → IsFalse told
   pub same : IsFalse told → after ≡ before
+
+-- C sees the fault of a source's own bytes, as far as they were read, or that they have none. None is
+-- known after a refused allocation. If there is no such source what C has stays.
+pub record TellsFault (from : Source) (status : ℕ) (before after : FoundFault) (s : LoadSession) : Type 0 where
+  pub stands : HasSource s.counts from → (given : LoadSettings) (uuid : List ℕ) (texts : Texts) → StandsFor given uuid texts s
+      → (found : Option Fault) × AsRead given uuid texts s (λ read. HasFault given uuid read from found) × (after ≡ seen_of_source (answer_in s).rounds from found)
+  pub lacking : (given : LoadSettings) (uuid : List ℕ) (texts : Texts) → LacksMemory given uuid texts s → HasSource s.counts from → after ≡ no_fault
+  pub number : HasSource s.counts from → status ≡ after.number
+  pub foreign : (HasSource s.counts from → ⊥) → (status ≡ bad_source) × (after ≡ before)
+
+-- whether all rounds are in
+pub record TellsAllRounds (told : Bool) (s : LoadSession) : Type 0 where
+  pub all : IsTrue told → (given : LoadSettings) (uuid : List ℕ) (texts : Texts) → StandsFor given uuid texts s → HasAllRounds given uuid texts (answer_in s)
+  pub exact : s.verdict ≡ Running → (given : LoadSettings) (uuid : List ℕ) (texts : Texts) → StandsFor given uuid texts s → HasAllRounds given uuid texts (answer_in s) → IsTrue told
+  pub done : s.verdict ≡ Done → IsTrue told
+  pub failed : IsTrue told → (s.verdict ≡ Running) ⊎ (s.verdict ≡ Done)
 
 -- the source of a number: 0 is the main stream, 1 + j channel j
 abbrev pub source_of : ℕ → Source

@@ -42,5 +42,6 @@ pub use reading::{count_blocks, next_nonzero, read_block, read_page, read_pages}
 pub use round_end::round_end_of;
 pub use settings::{AskedSettings, waiting_of};
 pub use sources::{
-    closed_at_of, end_source, fed_of, feed_source, source_of, valid_up_to_of, verdict_of,
+    closed_at_of, end_source, fed_of, feed_source, has_all_rounds, source_fault_of, source_of,
+    valid_up_to_of, verdict_of,
 };

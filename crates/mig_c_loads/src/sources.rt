@@ -3,9 +3,9 @@
 ghost use Rattle.std.specs.Prelude.{◌≡◌, ◌↔◌, IsTrue};
 ghost use Rattle.mig_session.specs.Session.{HasSource, answer_in};
 ghost use Rattle.mig_c_loads.specs.Found.{seen_of_verdict};
-ghost use Rattle.mig_c_loads.specs.Sessions.{FeedsSource, EndsSource, TellsFed, TellsClosedAt, TellsValidUpTo, source_of};
+ghost use Rattle.mig_c_loads.specs.Sessions.{FeedsSource, EndsSource, TellsFed, TellsClosedAt, TellsValidUpTo, TellsFault, TellsAllRounds, source_of};
 
-use crate::fault::{FoundFault, found, none, running};
+use crate::fault::{FoundFault, found, none, of_source, running};
 use mig_answer::Verdict;
 use mig_c_calls::status::{BAD_SOURCE, DONE, IS_OVER, NO_MEMORY, RUNNING, TOO_LONG};
 use mig_mem::NoMemory;
@@ -90,6 +90,25 @@ pub fn valid_up_to_of(session: &Session<Global>, source: Source, at: &mut u64) -
         }
         None => false,
     }
+}
+
+/// Reports the fault of a source's own bytes, or that they have none.
+pub fn source_fault_of(session: &Session<Global>, source: Source, told: &mut FoundFault) -> u32
+    ensures { TellsFault source result told.old told.new session.now }
+{
+    if !has_source(session, source) {
+        return BAD_SOURCE;
+    }
+    let fault = of_source(session.rounds(), source, session.fault_of(source));
+    *told = fault;
+    fault.number
+}
+
+/// Returns whether all rounds are in.
+pub fn has_all_rounds(session: &Session<Global>) -> bool
+    ensures { TellsAllRounds result session.now }
+{
+    session.has_all_rounds()
 }
 
 /// Ends a source.

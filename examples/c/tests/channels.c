@@ -435,8 +435,7 @@ static int load_cut(zimgasol_table *table) {
         fault.number == 7);
     WANT(zimgasol_in_place_session_feed(&load, into, 2, ZIMGASOL_CHANNEL(1), stream[2], 20,
              &taken) == ZIMGASOL_DONE);
-    WANT(zimgasol_in_place_session_fault_of(&load, ZIMGASOL_CHANNEL(1), &fault) ==
-            ZIMGASOL_DONE &&
+    WANT(zimgasol_in_place_session_fault_of(&load, ZIMGASOL_CHANNEL(1), &fault) == ZIMGASOL_DONE &&
         fault.number == 0);
     WANT(zimgasol_in_place_session_end(&load, ZIMGASOL_CHANNEL(1)) == ZIMGASOL_DONE);
     WANT(zimgasol_in_place_session_fault_of(&load, ZIMGASOL_CHANNEL(1), &fault) ==
@@ -446,6 +445,61 @@ static int load_cut(zimgasol_table *table) {
     WANT(zimgasol_in_place_session_fault_of(&load, ZIMGASOL_MAIN, &fault) == ZIMGASOL_DONE);
     WANT(zimgasol_in_place_session_verdict(&load, &fault) == ZIMGASOL_RUNNING);
     zimgasol_in_place_session_free(&load);
+    return 0;
+}
+
+/* In a session a channel that lacks its last byte is told as cut while the main stream goes on, and
+ * still once the verdict is there. */
+static int session_cut(void) {
+    zimgasol_session load = {0};
+    zimgasol_fault fault = {.number = 7};
+    size_t cut = ZIMGASOL_CHANNEL(1), half = length[0] / 2;
+    WANT(zimgasol_session_new(&load, PAGE, uuid, 16, CHANNELS, (PAGES + OTHER) * PAGE,
+             ZIMGASOL_FRAME_RAM) == ZIMGASOL_DONE);
+    WANT(zimgasol_session_fault_of(&load, 1 + CHANNELS, &fault) == ZIMGASOL_BAD_SOURCE &&
+        fault.number == 7);
+    WANT(zimgasol_session_feed(&load, cut, stream[cut], length[cut] - 1) == ZIMGASOL_DONE);
+    WANT(zimgasol_session_fault_of(&load, cut, &fault) == ZIMGASOL_DONE && fault.number == 0);
+    WANT(zimgasol_session_end(&load, cut) == ZIMGASOL_DONE);
+    WANT(zimgasol_session_feed(&load, ZIMGASOL_MAIN, stream[0], half) == ZIMGASOL_DONE);
+    WANT(zimgasol_session_verdict(&load, &fault) == ZIMGASOL_RUNNING);
+    WANT(zimgasol_session_fault_of(&load, cut, &fault) == ZIMGASOL_CHANNEL_TRUNCATED);
+    WANT(fault.source == cut && fault.round == 0 && fault.number == ZIMGASOL_CHANNEL_TRUNCATED);
+    WANT(zimgasol_session_fault_of(&load, ZIMGASOL_MAIN, &fault) == ZIMGASOL_DONE);
+    WANT(zimgasol_session_fault_of(&load, ZIMGASOL_CHANNEL(0), &fault) == ZIMGASOL_DONE);
+    WANT(zimgasol_session_feed(&load, 0, stream[0] + half, length[0] - half) == ZIMGASOL_DONE);
+    for (size_t source = 1; source <= CHANNELS; source++)
+        if (source != cut)
+            WANT(zimgasol_session_feed(&load, source, stream[source], length[source]) ==
+                    ZIMGASOL_DONE &&
+                zimgasol_session_end(&load, source) == ZIMGASOL_DONE);
+    WANT(zimgasol_session_verdict(&load, &fault) == ZIMGASOL_CHANNEL_TRUNCATED &&
+        fault.source == cut && fault.round == 1);
+    WANT(zimgasol_session_fault_of(&load, cut, &fault) == ZIMGASOL_CHANNEL_TRUNCATED &&
+        fault.source == cut && fault.round == 1);
+    WANT(zimgasol_session_fault_of(&load, ZIMGASOL_MAIN, &fault) == ZIMGASOL_DONE);
+    WANT(!zimgasol_session_has_all_rounds(&load));
+    zimgasol_session_free(&load);
+    return 0;
+}
+
+/* A session has all rounds once the last source was fed, before a channel ends. */
+static int session_ends(void) {
+    zimgasol_session load = {0};
+    zimgasol_fault fault;
+    WANT(zimgasol_session_new(&load, PAGE, uuid, 16, CHANNELS, (PAGES + OTHER) * PAGE,
+             ZIMGASOL_FRAME_RAM) == ZIMGASOL_DONE);
+    for (size_t source = 0; source <= CHANNELS; source++) {
+        WANT(!zimgasol_session_has_all_rounds(&load));
+        WANT(zimgasol_session_feed(&load, source, stream[source], length[source]) == ZIMGASOL_DONE);
+    }
+    WANT(zimgasol_session_verdict(&load, &fault) == ZIMGASOL_RUNNING);
+    WANT(zimgasol_session_rounds(&load) == 2 && zimgasol_session_has_all_rounds(&load));
+    for (size_t source = 1; source <= CHANNELS; source++)
+        WANT(zimgasol_session_end(&load, source) == ZIMGASOL_DONE);
+    WANT(zimgasol_session_verdict(&load, &fault) == ZIMGASOL_DONE);
+    WANT(zimgasol_session_has_all_rounds(&load));
+    zimgasol_session_free(&load);
     return 0;
 }
 
@@ -548,6 +602,7 @@ int main(void) {
     for (size_t i = 0; i < sizeof cuts / sizeof cuts[0]; i++)
         if (load_all(&table, cuts[i])) return 1;
     if (load_wrong(&table) || load_cut(&table) || load_limited(&table)) return 1;
+    if (session_cut() || session_ends()) return 1;
     printf("%zu bytes on the main stream, %zu, %zu and %zu on the channels; 0 pages differ\n",
         length[0], length[1], length[2], length[3]);
     if (send_named(&table) || foreign(&table)) return 1;

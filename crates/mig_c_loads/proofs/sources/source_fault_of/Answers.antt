@@ -1,0 +1,16 @@
+use Rattle.std.proofs.Common.{◌≡◌, ℕ, None, refl, ap, ◌∙◌}
+use Rattle.std.specs.Prelude.{Option}
+use Rattle.mig_single_load.specs.declared.fault.Fault.{Fault}
+use Rattle.mig_c_loads.specs.Found.{seen_of_source}
+use Rattle.mig_c_loads.proofs.sources.source_fault_of.Goals as goal
+
+pub returns : goal.returns
+returns c = record {
+  stands = λ _ given uuid texts stands.
+      (c.fault_of.result, c.fault_of.ensures.stands given uuid texts stands, c.of_source-fault.ensures ∙ ap (λ (n : ℕ). seen_of_source n c.args.source c.fault_of.result) c.rounds.ensures);
+  lacking = λ given uuid texts lacks _.
+      let none : c.fault_of.result ≡ None = c.fault_of.ensures.lacking given uuid texts lacks in
+      c.of_source-fault.ensures ∙ ap (λ (o : Option Fault). seen_of_source c.rounds.result c.args.source o) none;
+  number = λ _. refl;
+  foreign = λ foreign. absurd (foreign (c.if-not-has_source.ensures.0 refl));
+}
