@@ -16,5 +16,6 @@ pub mod Runs
 pub mod Once
 pub mod LawfulRounds
 pub mod Arriving
+mod AddingPlaces
 pub mod Heads
 pub mod HeadPlaces

@@ -10,7 +10,7 @@ use Rattle.mig_mem.specs.declared.place.Place.{Place}
 use Rattle.mig_mem.specs.RamTable.{RamTable}
 use Rattle.mig_mem.specs.Place.{place_eq, place_lt, has_place, IsPlace}
 use Rattle.mig_mem.specs.Image.{Page}
-use Rattle.mig_mem.specs.PlaceSet.{PlaceSet, places_where, with_place, without_place}
+use Rattle.mig_mem.specs.PlaceSet.{PlaceSet, with_place, without_place}
 use Rattle.mig_mem.proofs.PlaceOrder.{place_order, places_apart, place_eq-true, place_eq-from, place_eq-flip}
 use Rattle.mig_mem.proofs.Sets.{where_agree, where_none, where_with, where_without, has_place-where}
 use Rattle.mig_packet.specs.Packet.{Fields}
@@ -18,6 +18,7 @@ use Rattle.mig_packet.specs.declared.packet.Packet.{Packet}
 use Rattle.mig_packet.specs.Lent.{fields}
 use Rattle.mig_assemble.specs.Judging.{lesser, place_fault, packet_pages, all_round_pages, places_of}
 use Rattle.mig_assemble.specs.Seen.{HasSeen, HasLeft, SeesLess}
+use Rattle.mig_assemble.specs.NamedPlaces.{HasPlaces}
 use Rattle.mig_assemble.proofs.Elements.{contains_cases, contains_here, contains_later, contains_none}
 use Rattle.mig_assemble.proofs.Least.{least_twice-new, least_twice-again}
 
@@ -38,7 +39,7 @@ lacks_each (r ∷ rs) p h q k =
     ]
 
 -- one place more is among a list of places
-has_place-push : (ps : List Place) (p q : Place) → (place_eq q p || has_place ps q) ≡ has_place (ps ++ p ∷ []) q
+pub has_place-push : (ps : List Place) (p q : Place) → (place_eq q p || has_place ps q) ≡ has_place (ps ++ p ∷ []) q
 has_place-push ps p q =
     turned (place_eq q p) refl (has_place ps q) ∙ sym (list_any-append (λ r. place_eq r q) ps (p ∷ []))
   where
@@ -48,6 +49,13 @@ has_place-push ps p q =
     turned false e true = refl
     turned false e false = let f : place_eq p q ≡ false = place_eq-flip q p e in rw f refl
 
+-- and so it is in the set of these places
+pub place_added : (table : RamTable) (places : List Place) (s new : PlaceSet) (p : Place) → HasPlaces table places s → new ≡ with_place s p → HasPlaces table (places ++ p ∷ []) new
+place_added table places s new p has put =
+    put ∙ ap (λ (x : PlaceSet). with_place x p) has ∙ where_with table (has_place places) p
+    ∙ ap (λ (ps : List Place). record { table = table; marked = ps })
+    (where_agree table (λ q. place_eq q p || has_place places q) (has_place (places ++ p ∷ [])) (λ q _. has_place-push places p q))
+
 pub seen_nothing : (seen : PlaceSet) → seen.marked ≡ [] → HasSeen seen.table [] seen None
 seen_nothing seen none = record {
   marks = ap (λ (ps : List Place). record { table = seen.table; marked = ps }) (none ∙ sym (where_none seen.table (has_place []) (λ p is. refl)));
@@ -56,11 +64,8 @@ seen_nothing seen none = record {
 
 module _ (table : RamTable) (places : List Place) (seen new : PlaceSet) (double : Option Place) (place : Place)
     (so_far : HasSeen table places seen double) (is : IsPlace table place) (put : new ≡ with_place seen place) where
-  marks_more : new ≡ record { table = table; marked = places_where table (has_place (places ++ place ∷ [])) }
-  marks_more =
-      put ∙ ap (λ (s : PlaceSet). with_place s place) so_far.marks ∙ where_with table (has_place places) place
-      ∙ ap (λ (ps : List Place). record { table = table; marked = ps })
-      (where_agree table (λ q. place_eq q place || has_place places q) (has_place (places ++ place ∷ [])) (λ q _. has_place-push places place q))
+  marks_more : HasPlaces table (places ++ place ∷ []) new
+  marks_more = place_added table places seen new place so_far.marks put
 
   marked_is : has_place seen.marked place ≡ has_place places place
   marked_is = ap (λ (s : PlaceSet). has_place s.marked place) so_far.marks ∙ has_place-where table (has_place places) place is

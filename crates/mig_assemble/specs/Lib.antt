@@ -12,3 +12,4 @@ pub mod Seen
 pub mod PacketPages
 pub mod RoundList
 pub mod Arrivals
+pub mod NamedPlaces

@@ -14,9 +14,11 @@ ghost use Rattle.mig_assemble.specs.Target.{FitsTable, pages_of_round};
 ghost use Rattle.mig_assemble.specs.HeadPlaces.{Lie};
 ghost use Rattle.mig_assemble.specs.Arrivals.{Records, OnePacket, lesser_misplaced, HasCome, AlsoHas, HasSame, IsJudged};
 ghost use Rattle.mig_assemble.specs.Arrivals.{ArrivalsMakeTheRound, OtherPlacesStay, HeadsAreJudged};
+ghost use Rattle.mig_assemble.specs.NamedPlaces.{AddsArrivals};
 
 use crate::RoundFault;
 use crate::doubles::{mark_pages, mark_records};
+use crate::named::add_places;
 use crate::numbers::unsorted_fault;
 use crate::places::{Pages, pages_of};
 use crate::target::fits;
@@ -24,8 +26,8 @@ use mig_mem::{Dirty, NoMemory, Place, Table};
 use mig_packet::PacketHead;
 use mig_stream::StreamRound;
 use std::alloc::{Allocator, Global};
-use std::fmt;
 use std::marker::Model;
+use std::{fmt, mem};
 
 // A packet with a misplaced page: its number, and what is wrong.
 #[derive(Clone, Copy)]
@@ -166,6 +168,22 @@ impl<A: Allocator> Arrivals<A> {
         self.misplaced = None;
         self.double = None;
         self.seen.clear();
+    }
+
+    /// Adds the places of all that arrived to `named`, a set of the same table, and clears all that
+    /// arrived, for the next round. It takes a step for each place, and none if `named` is empty.
+    pub fn clear_into(&mut self, named: &mut Dirty<A>)
+        requires table { named.old.table ≡ self.old.seen.table }
+        ensures adds { AddsArrivals self.old named.old named.new }
+        ensures cleared { HasCome self.old.seen.table [] self.new }
+        ensures table { named.new.table ≡ named.old.table }
+    {
+        if named.count() == 0 {
+            mem::swap(named, &mut self.seen);
+        } else {
+            add_places(named, &self.seen);
+        }
+        self.clear();
     }
 }
 

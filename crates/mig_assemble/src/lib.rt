@@ -19,6 +19,7 @@ mod fault;
 mod gathered;
 mod judge;
 mod laws;
+mod named;
 mod numbers;
 mod places;
 mod put;

@@ -55,6 +55,24 @@ impl<M: GuestTarget, A: Allocator> Fresh<M, A> {
     {
         self.memory
     }
+
+    /// Takes a memory, and the pages of it that may hold other bytes than zeros: those that
+    /// `into_parts` returned, if the memory wasn't changed since.
+    pub fn from_parts(memory: M, written: Dirty<A>) -> Fresh<M, A>
+        requires zeros { AreZeros (M.image memory) written }
+        ensures { result ≡ M.image memory }
+    {
+        Fresh { memory, written }
+    }
+
+    /// Returns the memory, and the pages that may hold other bytes than zeros.
+    pub fn into_parts(self) -> (M, Dirty<A>)
+        ensures memory { M.image result.0 ≡ self }
+        ensures zeros { AreZeros self result.1 }
+    {
+        let Fresh { memory, written } = self;
+        (memory, written)
+    }
 }
 
 impl<M: GuestTarget, A: Allocator + Copy> Fresh<M, A> {

@@ -2,10 +2,12 @@
 //! (`Marking`), and which pages of blocks of zeros may hold something else (`Fresh`).
 #![tactic(auto)]
 
+mod counting;
 mod fresh;
 mod laws;
 mod marking;
 
+pub use counting::lacking;
 pub use fresh::Fresh;
 pub use laws::written_is_seen;
 pub use marking::Marking;

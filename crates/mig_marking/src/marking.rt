@@ -6,23 +6,12 @@ ghost use Rattle.mig_mem.specs.declared.place.Place.{Place};
 ghost use Rattle.mig_mem.specs.Place.{has_place};
 ghost use Rattle.mig_mem.specs.Image.{IsImage, content_at};
 ghost use Rattle.mig_mem.specs.PlaceSet.{IsPlaceSet};
-ghost use Rattle.mig_mem.specs.RamTable.{total_pages};
 ghost use Rattle.mig_marking.specs.Marking.{IsMarked, none_written, missing};
 
+use crate::counting::lacking;
 use mig_mem::{Dirty, GuestTarget, Place, Table};
 use std::alloc::{Allocator, Global};
 use std::marker::Model;
-
-// Returns how many pages all blocks of a table have.
-fn pages_of<A: Allocator>(table: &Table<A>) -> u64
-    ensures { result ≡ total_pages table.now.blocks }
-{
-    let mut pages = 0;
-    for i in 0..table.len() {
-        pages += table.pages(i);
-    }
-    pages
-}
 
 /// A memory into which a load writes, and the set of the pages that it wrote. Pass it to a load in
 /// place of the memory: it has a bit for each page, and writes each page once.
@@ -73,7 +62,9 @@ impl<M: GuestTarget, A: Allocator> Marking<M, A> {
         ensures image { IsImage self.now.memory }
         ensures set { IsPlaceSet self.now.written }
     {
-        pages_of(self.memory.table()) - self.written.count()
+        // shows that the memory has a content for each place (`IsImage`)
+        let _table = self.memory.table();
+        lacking(&self.written)
     }
 
     /// Returns the memory and the pages that were written.
