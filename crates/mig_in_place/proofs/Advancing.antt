@@ -5,7 +5,7 @@ use Rattle.std.specs.List.{AllZip, All, flat_map, range_with_len, list_all}
 use Rattle.std.specs.Option.{option_and_then, option_map_or, is_some}
 use Rattle.std.proofs.Math.ListN.{get_or-eq_default}
 use Rattle.std.proofs.lemmas.Bool.{cases_Bool, cases_order, and_parts}
-use Rattle.std.proofs.lemmas.List.{append-nil, length-map}
+use Rattle.std.proofs.lemmas.List.{append-nil, length-map, map-append}
 use Rattle.std.proofs.lemmas.List.Concat.{flat_map-append}
 use Rattle.std.proofs.lemmas.List.Folds.{list_any_none}
 use Rattle.std.proofs.lemmas.List.FromFn.{map-range_with_len_more}
@@ -15,6 +15,7 @@ use Rattle.mig_mem.specs.PageSize.{IsPageSize}
 use Rattle.mig_mem.specs.declared.place.Place.{Place}
 use Rattle.mig_mem.specs.RamTable.{RamTable}
 use Rattle.mig_mem.specs.Place.{has_place, place_eq}
+use Rattle.mig_mem.specs.PlaceSet.{PlaceSet}
 use Rattle.mig_mem.specs.Image.{Page, Image, content_at}
 use Rattle.mig_mem.specs.Round.{with_round, with_rounds, last_at}
 use Rattle.mig_mem.proofs.Images.{image_agree}
@@ -27,8 +28,10 @@ use Rattle.mig_packet.specs.Reading.{Settings, ChannelReading, IsReading}
 use Rattle.mig_packet.specs.Paging.{GivenSoFar, OpenPacket}
 use Rattle.mig_assemble.specs.declared.fault.RoundFault.{RoundFault}
 use Rattle.mig_assemble.specs.Judging.{refusal, place_fault, packet_pages, places_of, numbers}
-use Rattle.mig_assemble.specs.Arrivals.{Arrival, Records, OnePacket, records_in, packets_in}
-use Rattle.mig_assemble.proofs.Bags.{SameBag, bag_permutation, bag_length}
+use Rattle.mig_assemble.specs.Arrivals.{Arrival, Records, OnePacket, records_in, packets_in, pages_that_came}
+use Rattle.mig_assemble.specs.NamedPlaces.{HasPlaces, AddsArrivals}
+use Rattle.mig_assemble.proofs.Arriving.{came_in_order}
+use Rattle.mig_assemble.proofs.Bags.{SameBag, bag_permutation, bag_length, bag_behind, bag_flat_map}
 use Rattle.mig_assemble.proofs.OrderFree.{last_at-same, lawful_once}
 use Rattle.mig_assemble.proofs.Lawful.{lawful_lies_right}
 use Rattle.mig_assemble.proofs.Putting.{put_after}
@@ -48,7 +51,9 @@ use Rattle.mig_in_place.specs.Sources.{at_next_round, channel_count, IsChannelOf
 use Rattle.mig_in_place.specs.Session.{InPlaceLoad, IsRunning, Loading, Loads, IsDue, PassesAt, IsMainOf, records_come}
 use Rattle.mig_in_place.proofs.Channels.{rounds_are}
 use Rattle.mig_in_place.proofs.Keeping.{packets_push, same_table}
-use Rattle.mig_in_place.proofs.Lawful.{packets_of, heads_whole, fields_mapped, main_whole, channels_have, has_table, judged_as, all_packets}
+use Rattle.mig_in_place.specs.Missing.{places_in_rounds}
+use Rattle.mig_in_place.proofs.MissingPages.{rounds_more, has_same, bag_places, heads_places}
+use Rattle.mig_in_place.proofs.Lawful.{packets_of, heads_whole, fields_mapped, main_whole, channels_have, has_table, judged_as, all_packets, all_records}
 use Rattle.mig_in_place.proofs.Mains.{same_found}
 use Rattle.mig_in_place.proofs.NamedSoFar.{in_second, or_left, or_right}
 
@@ -156,6 +161,34 @@ module _ (f : Loading) (memory : Image) (s : InPlaceLoad) (loads : Loads f memor
       (λ p _. ap (λ (o : Option Page). option_map_or (λ (x : Page). x.content) o (content_at kept p)) (last_at-same p holds.written pages bag once))
       ∙ sym (onto-push f.first (map (λ i. pages_at table i r.readings) (range_with_len 0 k)) pages)
       ∙ ap (λ (l : List (List Page)). with_rounds f.first l) (sym (map-range_with_len_more (λ i. pages_at table i r.readings) 0 k k (omega arith)))
+
+  -- the places that came are those of the round
+  came_named : (p : Place) → has_place (places_of (pages_that_came table holds.arrivals)) p ≡ has_place (places_of (pages_at table k r.readings)) p
+  came_named p =
+      let came : List Fields = packets_in holds.arrivals in
+      let records : List Page = records_in holds.arrivals in
+      let H : List (List ℕ) = flat_map (packets_of k) r.readings.channels in
+      let zeros : List Fields = map as_zeros H in
+      let right : All (λ q. place_fault table q ≡ None) came = lawful_lies_right table s.base records came lawful in
+      let arrived : List Page = pages_that_came table holds.arrivals in
+      let in_order : List Page = records ++ flat_map (packet_pages table) came in
+      let by_heads : List Page = records ++ flat_map (packet_pages table) zeros in
+      bag_places arrived in_order p (bag_permutation arrived in_order (came_in_order table holds.arrivals right))
+      ∙ bag_places in_order by_heads p (bag_behind records (flat_map (packet_pages table) came) (flat_map (packet_pages table) zeros)
+      (bag_flat_map (packet_pages table) came zeros (bag_permutation came zeros (all_packets f memory s loads due))))
+      ∙ ap (λ (l : List Place). has_place l p)
+      (map-append (λ (x : Page). x.place) records (flat_map (packet_pages table) zeros)
+      ∙ ap (λ (l : List Place). places_of records ++ l) (heads_places table H)
+      ∙ sym (map-append (λ (x : Page). x.place) records (flat_map (packet_pages table) (map (fields_of table.page_size) H)))
+      ∙ ap (λ (l : List Fields). places_of (records ++ flat_map (packet_pages table) l)) (fields_mapped table.page_size k r.readings.channels)
+      ∙ ap (λ (l : List Page). places_of (l ++ flat_map (packet_pages table) (packets_at table.page_size k r.readings))) (all_records f memory s loads due))
+
+  pub named_next : (named : PlaceSet) → AddsArrivals s.round.arrivals s.named named → HasPlaces table (places_in_rounds table (k + 1) r.readings) named
+  named_next named adds =
+      let before : List Place = places_in_rounds table k r.readings in
+      let last : List Place = places_of (pages_at table k r.readings) in
+      subst (λ (l : List Place). HasPlaces table l named) (sym (rounds_more table k r.readings))
+      (has_same table before (places_of (pages_that_came table holds.arrivals)) last named came_named (adds table before holds.arrivals holds.keeps.has_come r.has_named))
 
   -- nothing more was written
   pub put_nothing : rounds_onto f.first (k + 1) r.readings ≡ with_round (rounds_onto f.first (k + 1) r.readings) []
@@ -348,8 +381,8 @@ pub next_counts : (channels : List KeptChannel) → map channel_count (map at_ne
 next_counts [] = refl
 next_counts (c ∷ channels) = ap (λ (l : List Count). channel_count c ∷ l) (next_counts channels)
 
-pub advanced : (f : Loading) (memory : Image) (s : InPlaceLoad) (loads : Loads f memory s) (due : IsDue f s.rounds) (passing : PassesAt f s.rounds) (cleared after : KeptRound) (next : KeptMain) (changed : Image) (base : ℕ)
-    → Keeps s.round.arrivals.seen.table [] cleared → base ≡ s.base + length s.round.arrivals.numbers
+pub advanced : (f : Loading) (memory : Image) (s : InPlaceLoad) (loads : Loads f memory s) (due : IsDue f s.rounds) (passing : PassesAt f s.rounds) (cleared after : KeptRound) (next : KeptMain) (changed : Image) (base : ℕ) (named : PlaceSet)
+    → Keeps s.round.arrivals.seen.table [] cleared → AddsArrivals s.round.arrivals s.named named → base ≡ s.base + length s.round.arrivals.numbers
     → HasTakenRecords (main_of (for_table f.first.table f.given)) (s.rounds + 1) f.texts.main (record s.sources.main { is_whole = false }) cleared memory next after changed
     → Loads f changed (record {
       table = s.table;
@@ -357,9 +390,10 @@ pub advanced : (f : Loading) (memory : Image) (s : InPlaceLoad) (loads : Loads f
       round = after;
       rounds = s.rounds + 1;
       base = base;
+      named = named;
       verdict = s.verdict;
     })
-advanced f memory s loads due passing cleared after next changed base keeps is_base taken =
+advanced f memory s loads due passing cleared after next changed base named keeps adds is_base taken =
     let given : LoadSettings = for_table f.first.table f.given in
     let r : IsRunning given f.uuid f.first f.texts memory s = loads.is_running in
     let k : ℕ = s.rounds in
@@ -399,6 +433,7 @@ advanced f memory s loads due passing cleared after next changed base keeps is_b
         has_channel = r.has_channel;
         channels = channels.0;
         has_base = counted f memory s loads due passing base is_base;
+        has_named = named_next f memory s loads due passing named adds;
         own = λ _. main.1;
         writes = λ _ _. channels.3;
         unknown = λ none. absurd (no none);

@@ -25,6 +25,7 @@ use Rattle.mig_answer.proofs.ToldSources.{told_at}
 use Rattle.mig_in_place.specs.Round.{Keeps}
 use Rattle.mig_in_place.specs.Sources.{KeptMain, KeptChannel, HoldsMain, HoldsChannel, IsChannelOf, HasHelloAlone}
 use Rattle.mig_in_place.specs.Session.{InPlaceLoad, Loading, Loads, StandsFor, IsMainOf}
+use Rattle.mig_in_place.proofs.MissingPages.{none_named}
 use Rattle.mig_in_place.proofs.Told.{stands_told}
 
 -- the reading of no bytes
@@ -61,8 +62,8 @@ all_alone given (suc n) = All-cons HasHelloAlone (none_given given) (replicate n
 pub stands_first : (given : LoadSettings) (uuid : List ℕ) (first : Image) (n : ℕ) (s : InPlaceLoad) → IsTable first.table → IsImage first → first.table ≡ s.table → 1 ≤ n → s.rounds ≡ 0 → s.base ≡ 0
     → s.verdict ≡ Running → HoldsMain (main_of (for_table first.table given)) 0 no_text s.sources.main
     → AllZip (λ text c. HoldsChannel (channel_of (for_table first.table given) uuid n) first.table 0 text (none_given (channel_of (for_table first.table given) uuid n)) c) (replicate n no_text) s.sources.channels
-    → Keeps first.table [] s.round → StandsFor given uuid first (no_texts n) first s
-stands_first given uuid first n s is_table is_image same many none no_base running main channels keeps =
+    → Keeps first.table [] s.round → s.named ≡ record { table = first.table; marked = [] } → StandsFor given uuid first (no_texts n) first s
+stands_first given uuid first n s is_table is_image same many none no_base running main channels keeps named =
     let here : LoadSettings = for_table first.table given in
     let size : IsPageSize here.page_size = is_table.has_page_size in
     let some = some_readings here uuid (no_texts n) size in
@@ -90,6 +91,7 @@ stands_first given uuid first n s is_table is_image same many none no_base runni
         channels = subst (λ (m : ℕ). AllZip (λ c kept. HoldsChannel (channel_of here uuid m) first.table s.rounds c.0 c.1 kept) (zip (replicate n no_text) (replicate n (none_given channel_given))) s.sources.channels) (sym count)
             (subst (λ (k : ℕ). AllZip (λ c kept. HoldsChannel channel_given first.table k c.0 c.1 kept) (zip (replicate n no_text) (replicate n (none_given channel_given))) s.sources.channels) (sym none) each.0);
         has_base = no_base ∙ ap (λ (k : ℕ). base_at k readings) (sym none);
+        has_named = none_named first.table s.rounds readings s.named none named;
         own = λ own. absurd (no own);
         writes = λ own right. absurd (no own);
         unknown = λ _. (refl, none, keeps);

@@ -16,8 +16,7 @@ use Rattle.mig_stream.proofs.Later.{Reads-more}
 use Rattle.mig_stream.proofs.Unique.{one_reading}
 use Rattle.mig_single_load.specs.Settings.{for_table, main_of}
 use Rattle.mig_single_load.specs.declared.settings.LoadSettings.{LoadSettings}
-use Rattle.mig_answer.specs.declared.status.Status.{Status}
-use Rattle.mig_answer.specs.declared.status.Status.TheVariants.{Whole, Clean, Bad, Pending}
+use Rattle.mig_answer.specs.declared.status.Status.TheVariants.{Whole, Pending}
 use Rattle.mig_answer.specs.Status.{status_at, stream_end}
 use Rattle.mig_answer.specs.Texts.{Texts, Readings}
 use Rattle.mig_answer.specs.MultiLoad.{main_at, channels_at, passes}
@@ -26,7 +25,7 @@ use Rattle.mig_answer.proofs.Judged.{IsWhole, has_round, whole_at}
 use Rattle.mig_answer.proofs.OneAnswer.{same_readings}
 use Rattle.mig_session.specs.declared.source.Source.TheVariants as source
 use Rattle.mig_in_place.specs.Session.{InPlaceLoad, StandsFor, TakesBytes}
-use Rattle.mig_in_place.specs.Turns.{KeptSource, FailsToRead, HasBytes, without_first, Takes, EndsWithTaken, HasLastPiece, HasBehind}
+use Rattle.mig_in_place.specs.Turns.{KeptSource, FailsToRead, HasBytes, without_first, Takes, EndsWithTaken, HasBehind}
 
 -- ---- a main stream of which bytes are taken isn't closed
 

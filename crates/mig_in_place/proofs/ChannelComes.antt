@@ -29,6 +29,7 @@ use Rattle.mig_in_place.specs.Sources.{KeptChannel, HoldsChannel, HoldsRound, Ho
 use Rattle.mig_in_place.specs.Session.{InPlaceLoad, IsRunning, Loading, Loads, LacksWithin, with_bytes, records_come}
 use Rattle.mig_in_place.proofs.Told.{lacks_memory, lacks_same}
 use Rattle.mig_in_place.proofs.Keeping.{same_table}
+use Rattle.mig_in_place.proofs.MissingPages.{named_still}
 use Rattle.mig_in_place.proofs.Waiting.{channel_goes, same_rounds_onto}
 
 -- ---- one of a list
@@ -239,6 +240,7 @@ module _ (f : Loading) (memory : Image) (s : InPlaceLoad) (loads : Loads f memor
               (put (HoldsChannel channel_given table k) f.texts.channels r.gave s.sources.channels j new more next r.as_many r.channels
               (subst (λ (t : RamTable). HoldsChannel channel_given t k new more next) to_table holds.holds));
           has_base = r.has_base ∙ sym (base_still r.readings now k stay r.have_passed);
+          has_named = named_still f.first k r.readings now s.named stay r.have_passed r.has_named;
           own = λ own.
               let records : List Page = records_come table.page_size k r.readings s.sources.main in
               let here : HoldsRound table (rounds_onto f.first k r.readings) k (record { records = records; channels = take j r.gave ++ more ∷ drop (suc j) r.gave }) round changed =

@@ -21,6 +21,7 @@ use Rattle.mig_in_place.specs.Answer.{rounds_onto}
 use Rattle.mig_in_place.specs.Sources.{KeptChannel, HoldsChannel, HoldsRound, WritesPages}
 use Rattle.mig_in_place.specs.Session.{InPlaceLoad, IsRunning, Loading, Loads, records_come}
 use Rattle.mig_in_place.proofs.ChannelComes.{all_set, all_there}
+use Rattle.mig_in_place.proofs.MissingPages.{named_still}
 use Rattle.mig_in_place.proofs.Waiting.{channel_goes, same_rounds_onto}
 
 end_at : (given : Settings) (t : RamTable) (k : ℕ) (texts : List Text) (gave : List GivenSoFar) (kept : List KeptChannel) (j : ℕ) (c next : KeptChannel) → length gave ≡ length texts → slice_get kept j ≡ Some c
@@ -82,6 +83,7 @@ channel_ended f memory s loads j c next is same ends =
             (end_at (channel_of given f.uuid (length f.texts.channels)) table k f.texts.channels r.gave s.sources.channels j c next r.as_many is
             (λ t g holds. ends (channel_of given f.uuid (length f.texts.channels)) table k t g holds) r.channels);
         has_base = r.has_base ∙ sym (base_still r.readings now k stay r.have_passed);
+        has_named = named_still f.first k r.readings now s.named stay r.have_passed r.has_named;
         own = λ own.
             subst (λ (m : Image). HoldsRound table m k (record { records = records_come table.page_size k now s.sources.main; channels = r.gave }) s.round memory) (sym onto)
             (subst (λ (x : List Page). HoldsRound table (rounds_onto f.first k r.readings) k (record { records = x; channels = r.gave }) s.round memory) (sym come) (r.own (sym as_before ∙ own)));

@@ -1,5 +1,5 @@
 -- Pages that a head names lie in a block.
-use Rattle.std.proofs.Common.{ℕ, ◌≡◌, ◌<◌, ◌/◌, List, length, get_or, arith}
+use Rattle.std.proofs.Common.{ℕ, ◌<◌, ◌/◌, List, length, get_or, arith}
 use Rattle.mig_mem.specs.RamTable.{RamTable}
 use Rattle.mig_mem.specs.Place.{IsPlace, place_at}
 use Rattle.mig_packet.specs.PacketHead.{offsets_in, as_zeros}

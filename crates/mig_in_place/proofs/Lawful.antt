@@ -223,6 +223,7 @@ judged_loads f memory s now same misplaced loads =
         has_channel = r.has_channel;
         channels = r.channels;
         has_base = r.has_base;
+        has_named = r.has_named;
         own = λ own. (let holds = r.own own in record {
           arrivals = holds.arrivals;
           keeps = same f.first.table holds.arrivals holds.keeps;

@@ -13,6 +13,7 @@ pub mod Steps
 pub mod Lying
 pub mod Came
 pub mod Midway
+pub mod MissingPages
 pub mod Heading
 pub mod NamedSoFar
 pub mod Writing

@@ -39,6 +39,7 @@ use Rattle.mig_in_place.specs.Session.{InPlaceLoad, IsRunning, Loading, Loads, S
 use Rattle.mig_in_place.proofs.Advancing.{pages_of, main_taken}
 use Rattle.mig_in_place.proofs.Mains.{same_found, table_is}
 use Rattle.mig_in_place.proofs.Places.{running_taken, text_taken}
+use Rattle.mig_in_place.proofs.MissingPages.{named_still}
 use Rattle.mig_in_place.proofs.Waiting.{main_goes, same_rounds_onto}
 
 -- channels of which only hellos have come gave nothing of a round
@@ -180,6 +181,7 @@ module _ (f : Loading) (memory : Image) (s : InPlaceLoad) (loads : Loads f memor
       has_channel = r.has_channel;
       channels = r.channels;
       has_base = r.has_base;
+      has_named = named_still f.first k r.readings now s.named stay r.have_passed r.has_named;
       own = come;
       writes = λ is right. writes_now is (sym misplaced ∙ right);
       unknown = λ none. (let before = r.unknown (none_still none) in (
@@ -274,5 +276,10 @@ module _ (f : Loading) (memory : Image) (s : InPlaceLoad) (loads : Loads f memor
           other = λ _. record { has_none = before.1; has_verdict = refl; has_memory = before.0 };
         };
         have_taken = text_taken given f.uuid f.texts s.sources k text m stands (running_taken given f.uuid f.first f.texts memory s r);
+        has_named = record {
+          readings = now;
+          are_readings = are_now;
+          has_places = λ _. named_still f.first k r.readings now s.named stay r.have_passed r.has_named;
+        };
         runs = λ running. absurd cc;
       }

@@ -6,6 +6,7 @@ use Rattle.mig_mem.specs.PageSize.{IsPageSize}
 use Rattle.mig_mem.specs.RamTable.{RamTable, IsTable}
 use Rattle.mig_mem.specs.declared.place.Place.{Place}
 use Rattle.mig_mem.specs.Image.{Page, Image, content_at}
+use Rattle.mig_mem.specs.PlaceSet.{PlaceSet}
 use Rattle.mig_mem.specs.Round.{with_rounds}
 use Rattle.mig_stream.specs.Reading.{StreamReading, IsReading as IsStreamReading}
 use Rattle.mig_stream.proofs.Exists.{one_reading_law as stream_law}
@@ -13,7 +14,7 @@ use Rattle.mig_packet.specs.Reading as channel
 use Rattle.mig_assemble.proofs.Elements.{contains_cases, contains_here, contains_later}
 use Rattle.mig_single_load.specs.Settings.{for_table, main_of, channel_of}
 use Rattle.mig_single_load.specs.declared.settings.LoadSettings.{LoadSettings}
-use Rattle.mig_single_load.specs.InPlace.{IsOfOtherTable}
+use Rattle.mig_single_load.specs.InPlace.{IsOfOwnTable, IsOfOtherTable}
 use Rattle.mig_single_load.proofs.Onto.{apart}
 use Rattle.mig_answer.specs.declared.verdict.Verdict.{Verdict}
 use Rattle.mig_answer.specs.declared.verdict.Verdict.TheVariants.{Running}
@@ -21,16 +22,18 @@ use Rattle.mig_answer.specs.Texts.{Text, Texts, Readings, IsMainReading, no_text
 use Rattle.mig_answer.specs.Growing.{GoOn}
 use Rattle.mig_answer.specs.Rounds.{memory_at}
 use Rattle.mig_answer.specs.MultiLoad.{Answer, IsAnswer, passes}
-use Rattle.mig_answer.proofs.OneAnswer.{some_readings}
+use Rattle.mig_answer.proofs.OneAnswer.{some_readings, same_readings}
 use Rattle.mig_answer.proofs.Growing.{ReadingsStay, readings_stay, pass_still, answers_law}
 use Rattle.mig_session.specs.declared.source.Source.{Source}
 use Rattle.mig_session.specs.declared.source.Source.TheVariants as source
 use Rattle.mig_session.specs.Session.{end_step}
 use Rattle.mig_in_place.specs.Named.{ChannelNames, SomeChannelNames, IsNamed}
 use Rattle.mig_in_place.specs.Answer.{rounds_onto, HasRoundsOnto, IsInPlaceAnswer, IsInPlaceWithoutMemory}
+use Rattle.mig_in_place.specs.Missing.{HasNamed}
 use Rattle.mig_in_place.specs.Session.{InPlaceLoad, HaveTaken, StandsFor, LacksMemory}
 use Rattle.mig_in_place.proofs.Done.{own_or_other}
 use Rattle.mig_in_place.proofs.Ended.{ended_goes, end_bytes}
+use Rattle.mig_in_place.proofs.MissingPages.{named_still}
 use Rattle.mig_in_place.proofs.Waiting.{main_goes, channel_goes, same_rounds_onto}
 
 -- ---- what is named stays named
@@ -154,6 +157,23 @@ module _ (given : LoadSettings) (uuid : List ℕ) (first : Image) (texts : Texts
         other = λ other. here.other (other.0, sym same ∙ other.1, other.2);
       }
 
+  -- so do the places that the rounds named
+  ended_named_places : (named : PlaceSet) → IsInPlaceAnswer given uuid first texts memory k verdict → HasNamed g uuid first texts k named → HasNamed g uuid first (end_step from texts) k named
+  ended_named_places named here has =
+      let size = is_table.has_page_size in
+      let next = some_readings g uuid (end_step from texts) size in
+      let stay = readings_stay g uuid texts (end_step from texts) has.readings next.0 size (ended_go from texts) has.are_readings next.1 in
+      let same = same_table g texts.main (end_step from texts).main has.readings.main next.0.main size (end_bytes from texts).0 has.are_readings.has_main next.1.has_main in
+      let again : here.readings ≡ has.readings = same_readings g uuid texts here.readings has.readings size here.are_readings has.are_readings in
+      record {
+        readings = next.0;
+        are_readings = next.1;
+        has_places = λ own.
+            let was : IsOfOwnTable first has.readings.main = subst (λ (o : Option RamTable). (o ≡ None) ⊎ (o ≡ Some first.table)) same own in
+            let mine = here.own (subst (λ (r : Readings). IsOfOwnTable first r.main) (sym again) was) in
+            named_still first k has.readings next.0 named stay (λ j below. subst (λ (r : Readings). IsTrue (passes j r)) again (mine.has_rounds.before j below)) (has.has_places was);
+      }
+
 -- ---- calls
 
 -- a source of a load ended, whose verdict is there
@@ -169,6 +189,8 @@ end_stands given uuid first texts memory s new from judged same takes stands =
       same_table = stands.same_table ∙ sym (ap (λ (x : InPlaceLoad). x.table) same);
       is_answer = subst (λ (x : InPlaceLoad). IsInPlaceAnswer given uuid first (end_step from texts) memory x.rounds x.verdict) (sym same) on;
       have_taken = takes stands.have_taken;
+      has_named = subst (λ (x : InPlaceLoad). HasNamed (for_table first.table given) uuid first (end_step from texts) x.rounds x.named) (sym same)
+          (ended_named_places given uuid first texts memory s.rounds s.verdict from stands.is_table s.named stands.is_answer stands.has_named);
       runs = λ runs. absurd (judged (sym verdict ∙ runs));
     }
 

@@ -1,6 +1,6 @@
 -- What was sent on several channels is loaded in place: the memory has the rounds sent on top of
 -- what it held.
-use Rattle.std.proofs.Common.{None, ℕ, zero, suc, ◌≡◌, ◌+◌, ◌<◌, ◌≤◌, Bool, true, false, List, [], ◌∷◌, ◌++◌, length, map, take, get_or, Option, refl, sym, ap, subst, ◌∙◌, inr, arith}
+use Rattle.std.proofs.Common.{ℕ, zero, suc, ◌≡◌, ◌+◌, ◌<◌, ◌≤◌, Bool, true, false, List, [], ◌∷◌, ◌++◌, length, map, take, get_or, refl, sym, ap, subst, ◌∙◌, inr, arith}
 use Rattle.std.specs.List.{range_with_len}
 use Rattle.std.proofs.lemmas.List.{length-map, get_or-map, take_more, take_all}
 use Rattle.std.proofs.lemmas.List.FromFn.{map-range_with_len_more}
@@ -38,7 +38,7 @@ use Rattle.mig_answer.proofs.Sent.{AreToldOf, IsReadAsSent}
 use Rattle.mig_answer.proofs.SentWithin.{told_within, within_law as sent_within, none_lets, before_as_sent}
 use Rattle.mig_answer.proofs.Headline.{of_told, as_sent, machine_as_sent}
 use Rattle.mig_answer.proofs.OneAnswer.{same_readings}
-use Rattle.mig_in_place.specs.Answer.{rounds_onto, IsOwnAnswer, IsOtherAnswer, IsInPlaceAnswer}
+use Rattle.mig_in_place.specs.Answer.{rounds_onto, IsOwnAnswer, IsInPlaceAnswer}
 use Rattle.mig_in_place.specs.Law.{SentIsLoadedInPlace, SentIsLoadedWithin, MachineSentIsLoadedInPlace, taken_texts}
 use Rattle.mig_answer.proofs.Statuses.{stream_closed}
 use Rattle.mig_in_place.proofs.Exact.{exact_law}

@@ -1,5 +1,5 @@
 -- As long as a load runs it takes bytes of some source.
-use Rattle.std.proofs.Common.{ℕ, suc, ◌≡◌, ◌+◌, ◌<◌, true, false, List, [], ◌∷◌, length, map, get_or, sym, ◌∙◌, inl, inr, arith}
+use Rattle.std.proofs.Common.{ℕ, suc, ◌≡◌, ◌+◌, ◌<◌, true, List, [], ◌∷◌, length, map, get_or, sym, ◌∙◌, inl, inr, arith}
 use Rattle.std.specs.List.{list_any, enumerate_from}
 use Rattle.std.proofs.lemmas.Bool.{false≢true, cases_Bool}
 use Rattle.std.proofs.lemmas.List.{length-map}

@@ -20,7 +20,7 @@ use Rattle.mig_session.specs.declared.source.Source.TheVariants as source
 use Rattle.mig_in_place.specs.declared.main_stream.SizeList.{SizeList}
 use Rattle.mig_in_place.specs.declared.main_stream.SizeList.TheVariants as list
 use Rattle.mig_in_place.specs.Round.{KeptRound, AlsoKeeps}
-use Rattle.mig_in_place.specs.Sources.{AtChannel, KeptChannel, HoldsAt, HoldsChannel, IsChannelOf, TellsTakes, TellsList, block_in, zeros_begun, rounds_come}
+use Rattle.mig_in_place.specs.Sources.{KeptChannel, HoldsAt, HoldsChannel, IsChannelOf, TellsTakes, TellsList, block_in, zeros_begun, rounds_come}
 use Rattle.mig_in_place.specs.Session.{InPlaceLoad, IsRunning, Loading, Loads, IsDue, with_bytes}
 use Rattle.mig_in_place.specs.TakenPackets.{TakesParts, TakesPacket, packet_bytes, pages_taken}
 use Rattle.mig_in_place.proofs.Channels.{kept, rounds_are}

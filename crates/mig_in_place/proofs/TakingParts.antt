@@ -1,6 +1,6 @@
 -- A reader that takes the parts of a packet, one after another.
-use Rattle.std.proofs.Common.{ℕ, ◌≡◌, ◌≢◌, ◌+◌, ◌*◌, ◌^◌, ◌≤◌, ◌<◌, ◌/◌, Bool, true, false, List, [], ◌∷◌, ◌++◌, length, map, take, get_or, Option, Some, None, refl, sym, ap, subst, ◌∙◌, append_assoc, inl, inr, arith, Bor}
-use Rattle.std.specs.Prelude.{IsTrue, IsFalse, IfSome}
+use Rattle.std.proofs.Common.{ℕ, ◌≡◌, ◌+◌, ◌*◌, ◌^◌, ◌≤◌, ◌<◌, ◌/◌, Bool, false, List, [], ◌∷◌, ◌++◌, length, map, take, get_or, Option, Some, None, refl, sym, ap, subst, ◌∙◌, append_assoc, arith, Bor}
+use Rattle.std.specs.Prelude.{IfSome}
 use Rattle.std.specs.List.{All, flat_map, range_with_len}
 use Rattle.std.specs.Option.{option_map}
 use Rattle.std.proofs.lemmas.Nat.{mul-le}
@@ -19,15 +19,12 @@ use Rattle.mig_packet.specs.declared.page_reader.PageContent.TheVariants as page
 use Rattle.mig_packet.specs.Packet.{normal_count, offset_at}
 use Rattle.mig_packet.specs.Reading.{Settings}
 use Rattle.mig_packet.specs.Paging.{GivenSoFar, PageHolder, Gives, GivesOn, HolderTells, Comes, with_came}
-use Rattle.mig_packet.specs.NextHead.{IsNextHead}
 use Rattle.mig_assemble.proofs.Putting.{put_page_more}
-use Rattle.mig_assemble.specs.HeadPlaces.{LieIn}
 use Rattle.mig_answer.specs.Texts.{Text, with_piece}
 use Rattle.mig_in_place.specs.declared.main_stream.SizeList.{SizeList}
-use Rattle.mig_in_place.specs.declared.main_stream.SizeList.TheVariants as list
 use Rattle.mig_in_place.specs.Round.{KeptRound}
-use Rattle.mig_in_place.specs.Sources.{AtChannel, KeptChannel, HoldsAt, AddsHead, WritesInto, block_in, zeros_begun}
-use Rattle.mig_in_place.specs.TakenPackets.{ArePages, AddsPacket, TakesParts, normal_page, packet_bytes, pages_taken}
+use Rattle.mig_in_place.specs.Sources.{AtChannel, HoldsAt, AddsHead, WritesInto, block_in, zeros_begun}
+use Rattle.mig_in_place.specs.TakenPackets.{ArePages, AddsPacket, TakesParts, normal_page, packet_bytes}
 use Rattle.mig_in_place.proofs.Channels.{kept}
 use Rattle.mig_in_place.proofs.Lying.{adds_page}
 use Rattle.mig_in_place.proofs.Midway.{Amid, AmidBehind, HoldsBehind, into_midst, head_came, page_came, packet_came}

@@ -171,6 +171,7 @@ same_running load uuid first texts memory s v r = record {
   has_channel = r.has_channel;
   channels = r.channels;
   has_base = r.has_base;
+  has_named = r.has_named;
   own = r.own;
   writes = r.writes;
   unknown = r.unknown;
@@ -203,6 +204,7 @@ stands_at f memory s v loads stops is =
         ]);
       };
       have_taken = running_taken given f.uuid f.first f.texts memory s r;
+      has_named = record { readings = r.readings; are_readings = r.are_readings; has_places = λ _. r.has_named };
       runs = λ _. same_running given f.uuid f.first f.texts memory s v r;
     }
 

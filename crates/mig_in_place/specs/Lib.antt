@@ -1,7 +1,8 @@
 -- Read first, in this order: the places that a round names so far; the answer of a load in place;
--- what an `InPlaceSession` represents; the laws
+-- the pages that no round named; what an `InPlaceSession` represents; the laws
 pub mod Named
 pub mod Answer
+pub mod Missing
 pub mod Session
 pub mod Law
 -- A packet that is taken at once, whose pages others read to their places

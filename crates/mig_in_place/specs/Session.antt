@@ -5,6 +5,7 @@ use Rattle.std.specs.List.{AllZip}
 use Rattle.mig_mem.specs.PageSize.{IsPageSize}
 use Rattle.mig_mem.specs.RamTable.{RamTable, IsTable}
 use Rattle.mig_mem.specs.Image.{Page, Image, IsImage}
+use Rattle.mig_mem.specs.PlaceSet.{PlaceSet}
 use Rattle.mig_stream.specs.declared.item.StreamState.TheVariants as stream_state
 use Rattle.mig_stream.specs.Reading as stream
 use Rattle.mig_stream.specs.Reader.{HasTable}
@@ -26,6 +27,8 @@ use Rattle.mig_mem.specs.First.{first_some}
 use Rattle.mig_session.specs.declared.source.Source.{Source}
 use Rattle.mig_session.specs.declared.source.Source.TheVariants as source
 use Rattle.mig_session.specs.Session.{with_fed, feed_step, end_step}
+use Rattle.mig_assemble.specs.NamedPlaces.{HasPlaces}
+use Rattle.mig_in_place.specs.Missing.{places_in_rounds, HasNamed}
 use Rattle.mig_in_place.specs.Answer.{rounds_onto, IsInPlaceAnswer, IsInPlaceWithoutMemory}
 use Rattle.mig_in_place.specs.declared.main_stream.SizeList.{SizeList}
 use Rattle.mig_in_place.specs.Named.{SomeHasPacket}
@@ -40,9 +43,10 @@ pub record InPlaceLoad : Type 0 where
   pub sources : KeptSources
   -- the arrivals of the current round
   pub round : KeptRound
-  -- how many rounds were judged lawful, and how many packets they had
+  -- how many rounds were judged lawful, how many packets they had, and the places that they named
   pub rounds : ℕ
   pub base : ℕ
+  pub named : PlaceSet
   pub verdict : Verdict
 
 -- ---- which bytes are taken
@@ -110,6 +114,7 @@ pub record IsRunning (given : LoadSettings) (uuid : List ℕ) (first : Image) (t
   pub has_channel : 1 ≤ length texts.channels
   pub channels : AllZip (λ c kept. HoldsChannel (channel_of given uuid (length texts.channels)) first.table s.rounds c.0 c.1 kept) (zip texts.channels gave) s.sources.channels
   pub has_base : s.base ≡ base_at s.rounds readings
+  pub has_named : HasPlaces first.table (places_in_rounds first.table s.rounds readings) s.named
   pub own : readings.main.table ≡ Some first.table
       → HoldsRound first.table (rounds_onto first s.rounds readings) s.rounds
       (record { records = records_come first.table.page_size s.rounds readings s.sources.main; channels = gave }) s.round memory
@@ -126,13 +131,15 @@ pub record HaveTaken (given : LoadSettings) (uuid : List ℕ) (texts : Texts) (s
   pub channels : AllZip (HasGiven (channel_of given uuid (length texts.channels))) texts.channels s.channels
 
 -- A load was made for the memory `first` with these settings and under this UUID, and took this
--- much of the streams. Its answer on them is that of a load in place. `memory` is the memory now.
+-- much of the streams. Its answer on them is that of a load in place, and it knows the places that
+-- the rounds counted named. `memory` is the memory now.
 pub record StandsFor (given : LoadSettings) (uuid : List ℕ) (first : Image) (texts : Texts) (memory : Image) (s : InPlaceLoad) : Type 0 where
   pub is_table : IsTable first.table
   pub is_image : IsImage first
   pub same_table : first.table ≡ s.table
   pub is_answer : IsInPlaceAnswer given uuid first texts memory s.rounds s.verdict
   pub have_taken : HaveTaken (for_table first.table given) uuid texts s.sources
+  pub has_named : HasNamed (for_table first.table given) uuid first texts s.rounds s.named
   pub runs : s.verdict ≡ Running → IsRunning (for_table first.table given) uuid first texts memory s
 
 -- `StandsFor`, after a refused allocation.
@@ -258,6 +265,7 @@ pub record IsLoad (s : InPlaceLoad) (statuses hellos : ℕ) : Type 0 where
   pub channels : All (IsChannelOf s.table) s.sources.channels
   pub round : KeepsSome s.table s.round
   pub main : s.verdict ≡ Running → IsMainOf s.table s.sources.main
+  pub same_named : s.named.table ≡ s.table
   pub is_few : s.base ≤ 2 ^ 63
   pub has_few_rounds : s.rounds ≤ 2 ^ 63
   pub has_room : length s.sources.channels ≤ statuses

@@ -4,6 +4,7 @@ ghost use Rattle.std.specs.Prelude.{◌≡◌, ◌+◌, ◌≤◌, ◌^◌, [], 
 ghost use Rattle.mig_assemble.specs.declared.fault.RoundFault.{RoundFault};
 ghost use Rattle.mig_assemble.specs.Target.{FitsTable, pages_of_round};
 ghost use Rattle.mig_assemble.specs.Arrivals.{Records, OnePacket, AlsoHas, IsJudged};
+ghost use Rattle.mig_assemble.specs.NamedPlaces.{AddsArrivals};
 ghost use Rattle.mig_assemble.specs.declared.places.Pages.TheVariants as pages;
 ghost use Rattle.mig_packet.specs.PacketHead.{as_zeros};
 ghost use Rattle.mig_assemble.specs.HeadPlaces.{Lie, LieIn};
@@ -11,7 +12,7 @@ ghost use Rattle.mig_assemble.specs.Judging.{place_fault};
 ghost use Rattle.mig_in_place.specs.Round.{Keeps, AlsoKeeps, KeepsSame, with_pages};
 
 use mig_assemble::{Arrivals, Pages, RoundFault, pages_of};
-use mig_mem::{NoMemory, Table};
+use mig_mem::{Dirty, NoMemory, Table};
 use mig_packet::PacketHead;
 use mig_stream::StreamRound;
 use std::alloc::{Allocator, Global};
@@ -129,11 +130,15 @@ impl<A: Allocator> RoundInHand<A> {
         self.arrivals.judge(base)
     }
 
-    /// Begins the next round, without arrivals.
-    pub(crate) fn clear(&mut self)
-        ensures { Keeps self.old.arrivals.seen.table [] self.new }
+    /// Adds the places of the round to `named`, a set of the same table, and begins the next round,
+    /// without arrivals.
+    pub(crate) fn clear_into(&mut self, named: &mut Dirty<A>)
+        requires table { named.old.table ≡ self.old.arrivals.seen.table }
+        ensures keeps { Keeps self.old.arrivals.seen.table [] self.new }
+        ensures adds { AddsArrivals self.old.arrivals named.old named.new }
+        ensures table { named.new.table ≡ named.old.table }
     {
-        self.arrivals.clear();
+        self.arrivals.clear_into(named);
         self.has_misplaced = false;
     }
 }

@@ -19,6 +19,7 @@ ghost use Rattle.mig_session.specs.declared.source.Source.TheVariants as source;
 ghost use Rattle.mig_session.specs.declared.source.Source.TheVariants.{Main as main_source};
 ghost use Rattle.mig_session.specs.Session.{HasSource, count_of, no_count, with_fed, with_end, feed_step, end_step, IsSourceValidUpTo, HasFault};
 ghost use Rattle.mig_in_place.specs.Answer.{IsInPlaceAnswer};
+ghost use Rattle.mig_in_place.specs.Missing.{HasMissing};
 ghost use Rattle.mig_stream.specs.Reading.{Settings};
 ghost use Rattle.mig_stream.specs.Reader.{HasTable, HasClosedAt};
 ghost use Rattle.mig_answer.specs.Texts.{Text, Texts};
@@ -37,7 +38,8 @@ use crate::main_stream::{MainStream, is_clean, is_pending};
 use crate::round::RoundInHand;
 use mig_answer::{Status, Verdict, repeated_id, verdict_told};
 use mig_assemble::put_records;
-use mig_mem::{GuestTarget, NoMemory, Table};
+use mig_marking::lacking;
+use mig_mem::{Dirty, GuestTarget, NoMemory, Table};
 use mig_packet::PacketHead;
 use mig_session::Source;
 use mig_single_load::{Fault, InPlaceFault, LoadFault, LoadSettings, Origin};
@@ -87,9 +89,10 @@ pub struct InPlaceSession<A: Allocator = Global> {
     // the channels' last statuses, with room for all of them
     statuses: Vec<Status, A>,
     hellos: Vec<Option<u8>, A>,
-    // how many rounds were judged, and how many packets they had
+    // how many rounds were judged, how many packets they had, and the places that they named
     rounds: u64,
     base: u64,
+    named: Dirty<A>,
     verdict: Verdict,
 }
 
@@ -105,6 +108,7 @@ impl<A: Allocator> Model for InPlaceSession<A> {
       round = s.round;
       rounds = s.rounds;
       base = s.base;
+      named = s.named;
       verdict = s.verdict;
     } };
 
@@ -114,6 +118,7 @@ impl<A: Allocator> Model for InPlaceSession<A> {
       round = s.round;
       rounds = s.rounds;
       base = s.base;
+      named = s.named;
       verdict = s.verdict;
     }) (vec_capacity s.statuses) (vec_capacity s.hellos) };
 }
@@ -285,6 +290,7 @@ impl<A: Allocator + Copy> InPlaceSession<A> {
             hellos: Vec::with_capacity(alloc, channels)?,
             rounds: 0,
             base: 0,
+            named: Dirty::none(alloc, table)?,
             verdict: Verdict::Running,
         })
     }
@@ -609,7 +615,7 @@ impl<A: Allocator> InPlaceSession<A> {
     {
         self.rounds += 1;
         self.base += self.round.len() as u64;
-        self.round.clear();
+        self.round.clear_into(&mut self.named);
         self.main.advance();
         advance_channels(&mut self.channels);
         take_main_round(&mut self.main, &mut self.round, memory);
@@ -806,6 +812,16 @@ impl<A: Allocator> InPlaceSession<A> {
             Verdict::Done => true,
             Verdict::Failed(_) => false,
         }
+    }
+
+    /// Returns how many pages of the memory no record and no packet of the rounds counted named. At
+    /// `Verdict::Done` these are the pages that the streams don't have: the memory holds there what
+    /// it held before. A load of a whole guest has none; a load of changes alone has many. It is
+    /// also 0 or more while the load runs, and nothing is promised of it after a refused allocation.
+    pub fn missing(&self) -> u64
+        ensures { (memory : Image) → Tells memory self.now (λ given uuid first texts. HasMissing (for_table first.table given) uuid first texts self.now.rounds result) }
+    {
+        lacking(&self.named)
     }
 
     // Returns whether a load that runs has all rounds: the main stream is closed at the current

@@ -1,4 +1,5 @@
-//! What a load says before its sources end: that all rounds are in, and which source broke.
+//! What a load says before its sources end: that all rounds are in, which source broke, and how many
+//! pages no round named.
 
 use crate::both::{LIMIT, ends, feed};
 use crate::texts::{Part, channel_of, main_of, one, sevens_then_zeros, text_of};
@@ -72,6 +73,26 @@ fn all_rounds_are_in_before_the_channels_end(rt: HostRuntime) {
     assert!(rt; is_in_with_the_last_sync(&rt, &mut load, &mut memory, &sent));
     assert!(rt; ends(&mut load, Source::Channel(0)) && ends(&mut load, Source::Channel(1)));
     assert!(rt; load.verdict() == Verdict::Done && load.has_all_rounds());
+}
+
+// Loads a round of one page, of three. Returns whether the others are missing when the load is done.
+fn lacks_two_pages(rt: &(impl AllocGlobal + Abort)) -> bool {
+    let (mut load, mut memory) = load_of(rt, 3, 1);
+    let (page, sync) = ((0, Part::Page(1, 7)), (1, Part::Sync));
+    let sent = one(rt, main_of(rt, 3, 1), channel_of(rt, 0, &[page, sync]));
+    let channel = Source::Channel(0);
+    let before = load.missing();
+    feeds_rest(rt, &mut load, &mut memory, &sent, Source::Main)
+        && feeds_rest(rt, &mut load, &mut memory, &sent, channel)
+        && ends(&mut load, Source::Main)
+        && ends(&mut load, channel)
+        && load.verdict() == Verdict::Done
+        && (before, load.missing()) == (3, 2)
+}
+
+#[test]
+fn pages_that_no_round_named_are_missing(rt: HostRuntime) {
+    assert!(rt; lacks_two_pages(&rt));
 }
 
 // Loads a round, behind which a packet of the next one comes. Returns whether the load says that

@@ -1,5 +1,4 @@
-use Rattle.std.proofs.Common.{ℕ, ◌≡◌, List, [], length, get_or, arith}
-use Rattle.mig_in_place.specs.TakenPackets.{ArePages}
+use Rattle.std.proofs.Common.{[], arith}
 use Rattle.mig_in_place.proofs.TakingParts.{all_pages}
 use Rattle.mig_in_place.proofs.apart.are_pages.Goals as goal
 

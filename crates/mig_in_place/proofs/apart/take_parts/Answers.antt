@@ -1,4 +1,4 @@
-use Rattle.std.proofs.Common.{ℕ, ◌≡◌, ◌+◌, ◌*◌, ◌<◌, ◌∙◌, List, [], length, get_or, Bor, sym, ap, arith}
+use Rattle.std.proofs.Common.{ℕ, List, [], length, get_or, Bor, arith}
 use Rattle.std.proofs.lemmas.List.{length-map}
 use Rattle.mig_mem.specs.Lent.{lent_bytes}
 use Rattle.mig_in_place.proofs.TakingParts.{head_taken, page_taken, all_taken, all_given, content_is, content_len, content_room}

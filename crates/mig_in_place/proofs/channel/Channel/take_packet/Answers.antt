@@ -4,7 +4,7 @@ use Rattle.std.proofs.lemmas.List.{length-map}
 use Rattle.mig_mem.specs.RamTable.{RamTable}
 use Rattle.mig_mem.specs.Lent.{lent_bytes}
 use Rattle.mig_packet.specs.PacketHead.{as_zeros}
-use Rattle.mig_packet.specs.Paging.{PageHolder, Gives, GivenSoFar}
+use Rattle.mig_packet.specs.Paging.{Gives, GivenSoFar}
 use Rattle.mig_packet.specs.Reading.{Settings}
 use Rattle.mig_packet.specs.Packet.{normal_count}
 use Rattle.mig_assemble.specs.Arrivals.{OnePacket}
@@ -15,7 +15,6 @@ use Rattle.mig_in_place.specs.declared.main_stream.SizeList.TheVariants as size_
 use Rattle.mig_in_place.specs.Round.{KeptRound, AlsoKeeps}
 use Rattle.mig_in_place.specs.Sources.{KeptChannel, IsChannelOf, TellsTakes, block_in}
 use Rattle.mig_in_place.specs.TakenPackets.{packet_bytes, TakesPacket, TakesParts, IsNextPacket, ArePages}
-use Rattle.mig_in_place.proofs.Channels.{kept}
 use Rattle.mig_in_place.proofs.Lying.{block_is}
 use Rattle.mig_in_place.proofs.TakingParts.{packet_len}
 use Rattle.mig_in_place.proofs.TakingPackets.{packet_taken, packet_channel}

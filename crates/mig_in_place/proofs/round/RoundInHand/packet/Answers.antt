@@ -1,4 +1,4 @@
-use Rattle.std.proofs.Common.{◌≡◌, ◌∙◌, ◌++◌, None, ◌∷◌, [], refl, sym, ap, subst, List, ℕ}
+use Rattle.std.proofs.Common.{◌∙◌, ◌++◌, ◌∷◌, [], refl, sym, ap, subst}
 use Rattle.std.specs.Prelude.{IsTrue}
 use Rattle.mig_packet.specs.PacketHead.{as_zeros}
 use Rattle.mig_assemble.specs.declared.places.Pages.{Pages}

@@ -10,6 +10,7 @@ use Rattle.mig_session.specs.declared.counts.Count.{Count}
 use Rattle.mig_in_place.specs.Round.{KeepsSome}
 use Rattle.mig_in_place.specs.Sources.{KeptMain, KeptChannel, IsChannelOf, StandsAt, HasTakenRecords, at_next_round, channel_count, main_count, counts_of}
 use Rattle.mig_in_place.specs.Session.{InPlaceLoad, Loads, IsDue, PassesAt, IsMainOf}
+use Rattle.mig_in_place.proofs.Keeping.{same_table}
 use Rattle.mig_in_place.proofs.Advancing.{advanced, stands_next, next_main, next_channels, next_counts, next_open}
 use Rattle.mig_in_place.proofs.session.InPlaceSession.advance.Goals as goal
 
@@ -19,6 +20,12 @@ take_main_round-requires-clause-main g c =
     let table : i.table ≡ (g.M.GuestTarget.image c.args.memory.now).table = ap (λ (x : InPlaceLoad). x.table) c.self.view_is ∙ sym c.requires.table in
     let runs = ap (λ (x : InPlaceLoad). x.verdict) c.self.view_is ∙ c.requires.runs in
     subst (λ (t : RamTable). IsMainOf t c.advance.new.self) table (subst (λ (m : KeptMain). IsMainOf i.table m) (sym c.advance.ensures) (next_main i.table i.main (c.self.invariant.main runs)))
+
+pub clear_into-requires : goal.clear_into-requires
+clear_into-requires g c =
+    let i = c.self.inside in
+    let keeps = c.self.invariant.round in
+    record { table = c.self.invariant.same_named ∙ sym (same_table i.table keeps.0 i.round.arrivals keeps.1.has_come) }
 
 pub invariant_of-self : goal.invariant_of-self
 invariant_of-self g c =
@@ -48,6 +55,7 @@ invariant_of-self g c =
       has_few_rounds = omega (arith, rounds, more);
       has_room = omega (arith, many, r1);
       has_hello_room = omega (arith, many, r2);
+      same_named = c.clear_into.ensures.table ∙ c.self.invariant.same_named;
     }
 
 pub returns-clause-loads : goal.returns-clause-loads
@@ -61,20 +69,20 @@ returns-clause-loads g c = λ f loads due passing.
     let len : length i.channels.items ≡ i.channels.len = search rules in
     let items_is : (with_items i.channels X).items ≡ map at_next_round i.channels.items = with_items_is i.channels X (count ∙ len) ∙ is in
     let s : InPlaceLoad =
-    record { table = i.table; sources = record { main = i.main; channels = i.channels.items }; round = i.round; rounds = i.rounds; base = i.base; verdict = i.verdict } in
+    record { table = i.table; sources = record { main = i.main; channels = i.channels.items }; round = i.round; rounds = i.rounds; base = i.base; named = i.named; verdict = i.verdict } in
     let mine : Loads f memory s = subst (λ (x : InPlaceLoad). Loads f memory x) (sym c.self.view_is) loads in
     let here : IsDue f i.rounds = subst (λ (x : InPlaceLoad). IsDue f x.rounds) (sym c.self.view_is) due in
     let pass : PassesAt f i.rounds = subst (λ (x : InPlaceLoad). PassesAt f x.rounds) (sym c.self.view_is) passing in
     let given = main_of (for_table f.first.table f.given) in
     let stands : StandsAt given (i.rounds + 1) f.texts.main c.advance.new.self =
     subst (λ (m : KeptMain). StandsAt given (i.rounds + 1) f.texts.main m) (sym c.advance.ensures) (stands_next f memory s mine here) in
-    let taken : HasTakenRecords given (i.rounds + 1) f.texts.main (record i.main { is_whole = false }) c.clear.new.self memory c.take_main_round.new.main c.take_main_round.new.round then =
-    subst (λ (m : KeptMain). HasTakenRecords given (i.rounds + 1) f.texts.main m c.clear.new.self memory c.take_main_round.new.main c.take_main_round.new.round then) c.advance.ensures
+    let taken : HasTakenRecords given (i.rounds + 1) f.texts.main (record i.main { is_whole = false }) c.clear_into.new.self memory c.take_main_round.new.main c.take_main_round.new.round then =
+    subst (λ (m : KeptMain). HasTakenRecords given (i.rounds + 1) f.texts.main m c.clear_into.new.self memory c.take_main_round.new.main c.take_main_round.new.round then) c.advance.ensures
     (c.take_main_round.ensures.taken given (i.rounds + 1) f.texts.main stands) in
     let base : i.base + c.len.result ≡ i.base + length i.round.arrivals.numbers = ap (λ (n : ℕ). i.base + n) c.len.ensures in
-    subst (λ (l : List KeptChannel). Loads f then (record { table = i.table; sources = record { main = c.take_main_round.new.main; channels = l }; round = c.take_main_round.new.round; rounds = i.rounds + 1; base = i.base + c.len.result; verdict = i.verdict }))
+    subst (λ (l : List KeptChannel). Loads f then (record { table = i.table; sources = record { main = c.take_main_round.new.main; channels = l }; round = c.take_main_round.new.round; rounds = i.rounds + 1; base = i.base + c.len.result; named = c.clear_into.new.named; verdict = i.verdict }))
     (sym items_is)
-    (advanced f memory s mine here pass c.clear.new.self c.take_main_round.new.round c.take_main_round.new.main then (i.base + c.len.result) c.clear.ensures base taken)
+    (advanced f memory s mine here pass c.clear_into.new.self c.take_main_round.new.round c.take_main_round.new.main then (i.base + c.len.result) c.clear_into.new.named c.clear_into.ensures.keeps c.clear_into.ensures.adds base taken)
 
 pub returns-clause-counts : goal.returns-clause-counts
 returns-clause-counts g c =

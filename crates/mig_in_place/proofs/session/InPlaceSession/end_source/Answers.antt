@@ -21,7 +21,7 @@ pub returns-in-Main-clause-loads : goal.returns-in-Main-clause-loads
 returns-in-Main-clause-loads g c = λ f memory loads.
     let i = c.self.inside in
     let s : InPlaceLoad =
-    record { table = i.table; sources = record { main = i.main; channels = i.channels.items }; round = i.round; rounds = i.rounds; base = i.base; verdict = i.verdict } in
+    record { table = i.table; sources = record { main = i.main; channels = i.channels.items }; round = i.round; rounds = i.rounds; base = i.base; named = i.named; verdict = i.verdict } in
     let mine : Loads f memory s = subst (λ (x : InPlaceLoad). Loads f memory x) (sym c.self.view_is) loads in
     let given = main_of (for_table f.first.table f.given) in
     let same = ap (λ (m : KeptMain). m.is_whole) c.end.ensures.value in
@@ -35,7 +35,7 @@ pub returns-in-Main-clause-taken : goal.returns-in-Main-clause-taken
 returns-in-Main-clause-taken g c = λ given uuid texts taken.
     let i = c.self.inside in
     let s : InPlaceLoad =
-    record { table = i.table; sources = record { main = i.main; channels = i.channels.items }; round = i.round; rounds = i.rounds; base = i.base; verdict = i.verdict } in
+    record { table = i.table; sources = record { main = i.main; channels = i.channels.items }; round = i.round; rounds = i.rounds; base = i.base; named = i.named; verdict = i.verdict } in
     let mine : HaveTaken given uuid texts s.sources = subst (λ (x : InPlaceLoad). HaveTaken given uuid texts x.sources) (sym c.self.view_is) taken in
     subst (λ (x : Source). HaveTaken given uuid (end_step x texts) (record s.sources { main = c.end.new.self })) (sym c.in-Main.is)
     (text_taken given uuid texts s.sources mine.rounds (over texts.main) c.end.new.self (c.end.ensures.stands (main_of given) mine.rounds texts.main mine.main) mine)
@@ -44,7 +44,7 @@ pub returns-in-Channel-clause-loads : goal.returns-in-Channel-clause-loads
 returns-in-Channel-clause-loads g c = λ f memory loads.
     let i = c.self.inside in
     let s : InPlaceLoad =
-    record { table = i.table; sources = record { main = i.main; channels = i.channels.items }; round = i.round; rounds = i.rounds; base = i.base; verdict = i.verdict } in
+    record { table = i.table; sources = record { main = i.main; channels = i.channels.items }; round = i.round; rounds = i.rounds; base = i.base; named = i.named; verdict = i.verdict } in
     let j : ℕ = c.in-Channel.j in
     let q : KeptChannel = c.index_mut-channel.result.now in
     let has : HasSource (counts_of s.sources) (source.Channel j) =
@@ -59,7 +59,7 @@ pub returns-in-Channel-clause-taken : goal.returns-in-Channel-clause-taken
 returns-in-Channel-clause-taken g c = λ given uuid texts taken.
     let i = c.self.inside in
     let s : InPlaceLoad =
-    record { table = i.table; sources = record { main = i.main; channels = i.channels.items }; round = i.round; rounds = i.rounds; base = i.base; verdict = i.verdict } in
+    record { table = i.table; sources = record { main = i.main; channels = i.channels.items }; round = i.round; rounds = i.rounds; base = i.base; named = i.named; verdict = i.verdict } in
     let j : ℕ = c.in-Channel.j in
     let q : KeptChannel = c.index_mut-channel.result.now in
     let has : HasSource (counts_of s.sources) (source.Channel j) =
@@ -74,7 +74,7 @@ pub returns-in-Channel-clause-counts : goal.returns-in-Channel-clause-counts
 returns-in-Channel-clause-counts g c =
     let i = c.self.inside in
     let s : InPlaceLoad =
-    record { table = i.table; sources = record { main = i.main; channels = i.channels.items }; round = i.round; rounds = i.rounds; base = i.base; verdict = i.verdict } in
+    record { table = i.table; sources = record { main = i.main; channels = i.channels.items }; round = i.round; rounds = i.rounds; base = i.base; named = i.named; verdict = i.verdict } in
     let j : ℕ = c.in-Channel.j in
     let q : KeptChannel = c.index_mut-channel.result.now in
     let has : HasSource (counts_of s.sources) (source.Channel j) =
@@ -106,6 +106,7 @@ invariant_of-self g c =
       has_few_rounds = v.has_few_rounds;
       has_room = v.has_room;
       has_hello_room = v.has_hello_room;
+      same_named = v.same_named;
     }
 
 pub invariant_of-self-in-Channel : goal.invariant_of-self-in-Channel
@@ -113,7 +114,7 @@ invariant_of-self-in-Channel g c =
     let v = c.self.invariant in
     let i = c.self.inside in
     let s : InPlaceLoad =
-    record { table = i.table; sources = record { main = i.main; channels = i.channels.items }; round = i.round; rounds = i.rounds; base = i.base; verdict = i.verdict } in
+    record { table = i.table; sources = record { main = i.main; channels = i.channels.items }; round = i.round; rounds = i.rounds; base = i.base; named = i.named; verdict = i.verdict } in
     let j : ℕ = c.in-Channel.j in
     let q : KeptChannel = c.index_mut-channel.result.now in
     let next : KeptChannel = c.end-in-Channel.new.self in
@@ -134,4 +135,5 @@ invariant_of-self-in-Channel g c =
       has_few_rounds = v.has_few_rounds;
       has_room = omega (arith, long, room);
       has_hello_room = omega (arith, long, hello_room);
+      same_named = v.same_named;
     }

@@ -16,7 +16,7 @@ returns-in-Main-clause-takes g c = λ memory running given uuid first texts stan
     let i = c.self.inside in
     let f : Loading = record { given = given; uuid = uuid; first = first; texts = texts } in
     let s : InPlaceLoad =
-    record { table = i.table; sources = record { main = i.main; channels = i.channels.items }; round = i.round; rounds = i.rounds; base = i.base; verdict = i.verdict } in
+    record { table = i.table; sources = record { main = i.main; channels = i.channels.items }; round = i.round; rounds = i.rounds; base = i.base; named = i.named; verdict = i.verdict } in
     let mine : Loads f memory s = subst (λ (x : InPlaceLoad). Loads f memory x) (sym c.self.view_is) (loads_of f memory c.args.self.now running stands) in
     subst (λ (x : Source). IsTrue c.is_pending.result ↔ TakesBytes (for_table first.table given) uuid c.args.self.now.rounds texts x) (sym c.in-Main.is)
     (subst (λ (x : InPlaceLoad). IsTrue c.is_pending.result ↔ TakesBytes (for_table first.table given) uuid x.rounds texts source.Main) c.self.view_is
@@ -29,7 +29,7 @@ returns-in-Channel-clause-takes g c = λ memory running given uuid first texts s
     let q : KeptChannel = c.index.result.now in
     let f : Loading = record { given = given; uuid = uuid; first = first; texts = texts } in
     let s : InPlaceLoad =
-    record { table = i.table; sources = record { main = i.main; channels = i.channels.items }; round = i.round; rounds = i.rounds; base = i.base; verdict = i.verdict } in
+    record { table = i.table; sources = record { main = i.main; channels = i.channels.items }; round = i.round; rounds = i.rounds; base = i.base; named = i.named; verdict = i.verdict } in
     let mine : Loads f memory s = subst (λ (x : InPlaceLoad). Loads f memory x) (sym c.self.view_is) (loads_of f memory c.args.self.now running stands) in
     let has : HasSource (counts_of s.sources) (source.Channel j) =
     subst (λ (x : InPlaceLoad). HasSource (counts_of x.sources) (source.Channel j)) (sym c.self.view_is) (subst (λ (x : Source). HasSource (counts_of c.args.self.now.sources) x) c.in-Channel.is c.requires) in

@@ -9,7 +9,7 @@ pub returns-in-Ok-clause-lawful : goal.returns-in-Ok-clause-lawful
 returns-in-Ok-clause-lawful g c = λ _ f memory loads due.
     let i = c.self.inside in
     let s : InPlaceLoad =
-    record { table = i.table; sources = record { main = i.main; channels = i.channels.items }; round = i.round; rounds = i.rounds; base = i.base; verdict = i.verdict } in
+    record { table = i.table; sources = record { main = i.main; channels = i.channels.items }; round = i.round; rounds = i.rounds; base = i.base; named = i.named; verdict = i.verdict } in
     let mine : Loads f memory s = subst (λ (x : InPlaceLoad). Loads f memory x) (sym c.self.view_is) loads in
     let here : IsDue f i.rounds = subst (λ (x : InPlaceLoad). IsDue f x.rounds) (sym c.self.view_is) due in
     let passes : PassesAt f i.rounds = lawful_passes f memory s mine here c.in-Ok.ensures.lawful in (
@@ -25,7 +25,7 @@ pub returns-in-Err-clause-refused : goal.returns-in-Err-clause-refused
 returns-in-Err-clause-refused g c = λ _ f memory loads due.
     let i = c.self.inside in
     let s : InPlaceLoad =
-    record { table = i.table; sources = record { main = i.main; channels = i.channels.items }; round = i.round; rounds = i.rounds; base = i.base; verdict = i.verdict } in
+    record { table = i.table; sources = record { main = i.main; channels = i.channels.items }; round = i.round; rounds = i.rounds; base = i.base; named = i.named; verdict = i.verdict } in
     let mine : Loads f memory s = subst (λ (x : InPlaceLoad). Loads f memory x) (sym c.self.view_is) loads in
     let here : IsDue f i.rounds = subst (λ (x : InPlaceLoad). IsDue f x.rounds) (sym c.self.view_is) due in
     let now : InPlaceLoad = record s { round = c.judge.new.self } in

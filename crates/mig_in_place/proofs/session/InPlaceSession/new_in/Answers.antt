@@ -3,6 +3,7 @@ use Rattle.std.specs.List.{AllZip}
 use Rattle.std.proofs.lemmas.List.{length-map, length-replicate}
 use Rattle.mig_mem.specs.PageSize.{IsPageSize}
 use Rattle.mig_mem.specs.RamTable.{RamTable, IsTable}
+use Rattle.mig_mem.specs.PlaceSet.{PlaceSet}
 use Rattle.mig_packet.specs.Reading.{Settings}
 use Rattle.mig_packet.specs.Paging.{none_given}
 use Rattle.mig_single_load.specs.declared.settings.LoadSettings.{LoadSettings}
@@ -41,6 +42,7 @@ invariant_of-result g c =
       has_few_rounds = omega arith;
       has_room = omega (arith, many, r1);
       has_hello_room = omega (arith, many, r2);
+      same_named = ap (λ (s : PlaceSet). s.table) c.in_ok-none.ensures ∙ sym same;
     }
 
 pub returns-clause-stands : goal.returns-clause-stands
@@ -51,10 +53,11 @@ returns-clause-stands g c = λ first image same.
     let is : IsTable first.table = subst IsTable (sym same) c.keeps_limits.ensures in
     let page : c.page_size-page_size.result ≡ first.table.page_size = c.page_size-page_size.ensures ∙ ap (λ (t : RamTable). t.page_size) (sym same) in
     let some = c.requires.channels in
-    let s : InPlaceLoad = record { table = table; sources = record { main = c.new.result; channels = channels }; round = c.in_ok-new.field-0; rounds = 0; base = 0; verdict = Running } in
+    let s : InPlaceLoad = record { table = table; sources = record { main = c.new.result; channels = channels }; round = c.in_ok-new.field-0; rounds = 0; base = 0; named = c.in_ok-none.field-0; verdict = Running } in
     let read : ℕ → Settings = λ k. channel_of (record c.args.settings { page_size = k }) c.args.uuid.now n in
     stands_first c.args.settings c.args.uuid.now first n s is image (same ∙ sym c.in_ok-copy_in.ensures) some.0 refl refl refl
     (subst (λ (k : ℕ). HoldsMain (main_of (record c.args.settings { page_size = k })) 0 no_text c.new.result) page c.new.ensures.holds)
     (subst (λ (k : ℕ). AllZip (λ (text : Text) (x : KeptChannel). HoldsChannel (read k) first.table 0 text (none_given (read k)) x) (replicate n no_text) channels) page
     (c.in_ok-new_channels.ensures.holds first.table))
     (subst (λ (t : RamTable). Keeps t [] c.in_ok-new.field-0) (sym same) c.in_ok-new.ensures.keeps)
+    (c.in_ok-none.ensures ∙ ap (λ (t : RamTable). record { table = t; marked = [] }) (sym same))

@@ -30,6 +30,7 @@ invariant_of-self g c =
       has_few_rounds = c.self.invariant.has_few_rounds;
       has_room = omega (arith, len, r1);
       has_hello_room = omega (arith, len, r2);
+      same_named = c.self.invariant.same_named;
     }
 
 pub returns-clause-read : goal.returns-clause-read
@@ -38,7 +39,7 @@ returns-clause-read g c = if_ok c.read.result c.read.ensures.read (λ n has f lo
     let q : KeptChannel = c.index_mut-channel.result.now in
     let memory : Image = g.M.GuestTarget.image c.args.memory.now in
     let s : InPlaceLoad =
-    record { table = i.table; sources = record { main = i.main; channels = i.channels.items }; round = i.round; rounds = i.rounds; base = i.base; verdict = i.verdict } in
+    record { table = i.table; sources = record { main = i.main; channels = i.channels.items }; round = i.round; rounds = i.rounds; base = i.base; named = i.named; verdict = i.verdict } in
     let mine : Loads f memory s = subst (λ (x : InPlaceLoad). Loads f memory x) (sym c.self.view_is) loads in
     let below : c.args.j < length i.channels.items = (let e = ap (λ (x : InPlaceLoad). length x.sources.channels) c.self.view_is in let lt = c.requires.source in omega (arith, e, lt)) in
     let is : slice_get i.channels.items c.args.j ≡ Some q = slice_get_read i.channels.items (length i.channels.items) c.args.j q refl below c.index_mut-channel.ensures.value in
@@ -53,7 +54,7 @@ returns-clause-lacks g c = on_err c.read.result c.read.ensures.some (λ some.
     let q : KeptChannel = c.index_mut-channel.result.now in
     let memory : Image = g.M.GuestTarget.image c.args.memory.now in
     let s : InPlaceLoad =
-    record { table = i.table; sources = record { main = i.main; channels = i.channels.items }; round = i.round; rounds = i.rounds; base = i.base; verdict = i.verdict } in
+    record { table = i.table; sources = record { main = i.main; channels = i.channels.items }; round = i.round; rounds = i.rounds; base = i.base; named = i.named; verdict = i.verdict } in
     let below : c.args.j < length i.channels.items = (let e = ap (λ (x : InPlaceLoad). length x.sources.channels) c.self.view_is in let lt = c.requires.source in omega (arith, e, lt)) in
     let is : slice_get i.channels.items c.args.j ≡ Some q = slice_get_read i.channels.items (length i.channels.items) c.args.j q refl below c.index_mut-channel.ensures.value in
     let open_ : IsFalse q.reader.ended =

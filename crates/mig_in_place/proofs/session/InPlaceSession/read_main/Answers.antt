@@ -20,7 +20,7 @@ returns-then-is_of_other_table-clause-read g c = λ f loads.
     let i = c.self.inside in
     let memory : Image = g.M.GuestTarget.image c.args.memory.now in
     let s : InPlaceLoad =
-    record { table = i.table; sources = record { main = i.main; channels = i.channels.items }; round = i.round; rounds = i.rounds; base = i.base; verdict = i.verdict } in
+    record { table = i.table; sources = record { main = i.main; channels = i.channels.items }; round = i.round; rounds = i.rounds; base = i.base; named = i.named; verdict = i.verdict } in
     let mine : Loads f memory s = subst (λ (x : InPlaceLoad). Loads f memory x) (sym c.self.view_is) loads in
     let given = main_of (for_table f.first.table f.given) in
     let open_ : IsFalse i.main.reader.ended = ap (λ (x : InPlaceLoad). x.sources.main.reader.ended) c.self.view_is ∙ c.requires.open in
@@ -53,7 +53,7 @@ returns-clause-read g c = λ f loads.
     let i = c.self.inside in
     let memory : Image = g.M.GuestTarget.image c.args.memory.now in
     let s : InPlaceLoad =
-    record { table = i.table; sources = record { main = i.main; channels = i.channels.items }; round = i.round; rounds = i.rounds; base = i.base; verdict = i.verdict } in
+    record { table = i.table; sources = record { main = i.main; channels = i.channels.items }; round = i.round; rounds = i.rounds; base = i.base; named = i.named; verdict = i.verdict } in
     let mine : Loads f memory s = subst (λ (x : InPlaceLoad). Loads f memory x) (sym c.self.view_is) loads in
     let given = main_of (for_table f.first.table f.given) in
     let open_ : IsFalse i.main.reader.ended = ap (λ (x : InPlaceLoad). x.sources.main.reader.ended) c.self.view_is ∙ c.requires.open in

@@ -1,10 +1,9 @@
-use Rattle.std.proofs.Common.{◌≡◌, ◌<◌, ◌∙◌, Bool, true, false, List, ℕ, length, Some, refl, sym, ap, subst, arith}
-use Rattle.std.specs.Prelude.{IsTrue, IsFalse, Option, slice_get}
+use Rattle.std.proofs.Common.{◌≡◌, ◌<◌, ◌∙◌, List, ℕ, length, Some, refl, sym, ap, subst, arith}
+use Rattle.std.specs.Prelude.{IsFalse, Option, slice_get}
 use Rattle.std.specs.Option.{IsSomeAnd}
 use Rattle.std.proofs.lemmas.List.{length-set}
 use Rattle.std.proofs.lemmas.Option.{slice_get_read}
 use Rattle.mig_mem.specs.RamTable.{RamTable}
-use Rattle.mig_mem.specs.Image.{Image}
 use Rattle.mig_mem.specs.Lent.{lent_bytes}
 use Rattle.mig_session.specs.declared.counts.Count.{Count}
 use Rattle.mig_session.specs.declared.source.Source.TheVariants as source
@@ -39,6 +38,7 @@ invariant_of-self g c =
       has_few_rounds = c.self.invariant.has_few_rounds;
       has_room = omega (arith, len, r1);
       has_hello_room = omega (arith, len, r2);
+      same_named = c.self.invariant.same_named;
     }
 
 pub returns-clause-took : goal.returns-clause-took
@@ -46,7 +46,7 @@ returns-clause-took g c = if_ok c.take_packet.result (both_ok _ _ c.take_packet.
     let i = c.self.inside in
     let q : KeptChannel = c.index_mut-channel.result.now in
     let s : InPlaceLoad =
-    record { table = i.table; sources = record { main = i.main; channels = i.channels.items }; round = i.round; rounds = i.rounds; base = i.base; verdict = i.verdict } in
+    record { table = i.table; sources = record { main = i.main; channels = i.channels.items }; round = i.round; rounds = i.rounds; base = i.base; named = i.named; verdict = i.verdict } in
     let mine : Loads f memory s = subst (λ (x : InPlaceLoad). Loads f memory x) (sym c.self.view_is) loads in
     let below : c.args.j < length i.channels.items = (let e = ap (λ (x : InPlaceLoad). length x.sources.channels) c.self.view_is in let lt = c.requires.source in omega (arith, e, lt)) in
     let is : slice_get i.channels.items c.args.j ≡ Some q = slice_get_read i.channels.items (length i.channels.items) c.args.j q refl below c.index_mut-channel.ensures.value in

@@ -1,14 +1,13 @@
-use Rattle.std.proofs.Common.{◌≡◌, ◌≢◌, ◌<◌, ◌∙◌, true, false, List, ℕ, length, None, Some, sym, ap, subst, inl, inr, rules, arith}
-use Rattle.std.specs.Prelude.{IsTrue, IsFalse, IfSome, Option, slice_get}
+use Rattle.std.proofs.Common.{◌≡◌, inl, inr, rules}
+use Rattle.std.specs.Prelude.{IsTrue, IsFalse, slice_get}
 use Rattle.std.proofs.lemmas.Bool.{cases_Bool}
-use Rattle.std.proofs.lemmas.List.{length-map}
 use Rattle.mig_mem.specs.Image.{Image}
 use Rattle.mig_mem.specs.Round.{with_round}
 use Rattle.mig_mem.specs.Lent.{lent_bytes}
 use Rattle.mig_answer.specs.declared.verdict.Verdict.TheVariants.{Running}
 use Rattle.mig_session.specs.declared.source.Source.TheVariants as source
 use Rattle.mig_in_place.specs.Sources.{KeptChannel}
-use Rattle.mig_in_place.specs.Session.{InPlaceLoad, Loading, Loads, with_bytes}
+use Rattle.mig_in_place.specs.Session.{Loading, Loads, with_bytes}
 use Rattle.mig_in_place.specs.TakenPackets.{packet_bytes, pages_taken}
 use Rattle.mig_in_place.proofs.TakingPackets.{not_due, there_some}
 use Rattle.mig_in_place.proofs.session.InPlaceSession.take_packet.Goals as goal

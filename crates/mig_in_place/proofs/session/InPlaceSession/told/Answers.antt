@@ -13,7 +13,7 @@ pub returns-clause-told : goal.returns-clause-told
 returns-clause-told g c = λ f memory loads.
     let i = c.self.inside in
     let s : InPlaceLoad =
-    record { table = i.table; sources = record { main = i.main; channels = i.channels.items }; round = i.round; rounds = i.rounds; base = i.base; verdict = i.verdict } in
+    record { table = i.table; sources = record { main = i.main; channels = i.channels.items }; round = i.round; rounds = i.rounds; base = i.base; named = i.named; verdict = i.verdict } in
     let statuses : List Status = c.look_at_statuses.new.statuses.items in
     let hellos : List (Option ℕ) = c.look_at_hellos.new.hellos.items in
     let mine : Loads f memory s = subst (λ (x : InPlaceLoad). Loads f memory x) (sym c.self.view_is) loads in

@@ -1,8 +1,8 @@
-use Rattle.std.proofs.Common.{ℕ, ◌≡◌, ◌-◌, ◌++◌, List, length, take, drop, sym, ap, subst, ◌∙◌, arith}
+use Rattle.std.proofs.Common.{ℕ, ◌≡◌, ◌-◌, List, length, take, drop, sym, ap, ◌∙◌, arith}
 use Rattle.mig_stream.specs.Reading.{Settings}
 use Rattle.mig_stream.specs.Reader.{IsClosedAt}
 use Rattle.mig_single_load.specs.Settings.{main_of, for_table}
-use Rattle.mig_in_place.specs.Turns.{KeptSource, HasBehind}
+use Rattle.mig_in_place.specs.Turns.{KeptSource}
 use Rattle.mig_in_place.proofs.Behind.{behind_before, as_long, some_behind}
 use Rattle.mig_in_place.proofs.source_reader.SourceReader.behind.Goals as goal
 

@@ -1,0 +1,20 @@
+use Rattle.std.proofs.Common.{◌≡◌, ◌∙◌, not, length, ap}
+use Rattle.mig_mem.specs.PlaceSet.{PlaceSet, places_where}
+use Rattle.mig_mem.specs.Place.{has_place}
+use Rattle.mig_in_place.specs.Session.{InPlaceLoad}
+use Rattle.mig_in_place.proofs.MissingPages.{missing_is}
+use Rattle.mig_in_place.proofs.session.InPlaceSession.missing.Goals as goal
+
+pub returns : goal.returns
+returns g c = λ memory given uuid first texts stands.
+    let i = c.self.inside in
+    let named : i.named ≡ c.args.self.now.named = ap (λ (x : InPlaceLoad). x.named) c.self.view_is in
+    let has = stands.has_named in
+    record {
+      readings = has.readings;
+      are_readings = has.are_readings;
+      is_count = λ own.
+          c.lacking.ensures.value
+          ∙ ap (λ (s : PlaceSet). length (places_where s.table (λ p. not (has_place s.marked p)))) named
+          ∙ missing_is first.table c.args.self.now.rounds has.readings c.args.self.now.named (has.has_places own);
+    }
