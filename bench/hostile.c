@@ -103,13 +103,14 @@ static void report_cost(const char *name, const char *unit, uint64_t len, work *
 
 /* ---- loads */
 
-/* A stream, its table, and what a load of it ends with. `blocks` are those of a load in place, of
- * `pages` pages each. */
+/* A stream, its table, whether all its pages are zeros, and what a load of it ends with. `blocks`
+ * are those of a load in place, of `pages` pages each, fresh ones or others. */
 typedef struct hostile {
     stream bytes;
     guest guest; /* it has the stream's table */
     size_t count;
     uint64_t pages;
+    bool is_zeros, is_fresh;
     zimgasol_frame frame;
     zimgasol_status verdict;
     zimgasol_buffer blocks[BLOCKS];
@@ -140,10 +141,11 @@ static uint64_t load(void *of) {
 /* Loads a stream into blocks. Returns how many sections it had. */
 static uint64_t place(void *of) {
     hostile *h = of;
+    const zimgasol_settings settings = {.frame = h->frame, .zero_blocks = h->is_fresh};
     zimgasol_in_place load = {0};
     zimgasol_fault fault;
     size_t len;
-    check(zimgasol_in_place_new(&load, &h->guest.table, h->frame), "in_place_new");
+    check(zimgasol_in_place_new_within(&load, &h->guest.table, &settings), "in_place_new_within");
     for (size_t at = 0; (len = piece_len(&h->bytes, at, PIECE)) > 0; at += len)
         check(zimgasol_in_place_feed(&load, h->blocks, h->count, h->bytes.bytes + at, len),
             "in_place_feed");
@@ -177,7 +179,7 @@ static uint64_t feed_session(void *of) {
 
 /* Returns a stream of `count` blocks of `pages` pages that has no byte yet. */
 static hostile hostile_of(ids of, size_t count, uint64_t pages, zimgasol_frame frame) {
-    hostile made = {.count = count, .pages = pages, .frame = frame};
+    hostile made = {.count = count, .pages = pages, .is_zeros = true, .frame = frame};
     zimgasol_block *blocks = taken(calloc(count, sizeof *blocks), "a table");
     size_t entry = 0;
     for (size_t i = 0; i < count; i++) {
@@ -245,13 +247,17 @@ static void report_load(const char *name, hostile *h) {
     report_cost(name, "rounds loaded", h->bytes.len, load, h);
 }
 
-/* Measures a load into blocks that are in use before. */
-static void report_place(const char *name, hostile *h) {
+/* Measures a load into blocks that are in use before, or into fresh ones, which the load is told.
+ */
+static void report_place(const char *name, hostile *h, bool is_fresh) {
     size_t len = h->pages * PAGE;
-    uint8_t *memory = taken(malloc(h->count * len), "the blocks");
-    memset(memory, 0, h->count * len);
+    uint8_t *memory = taken(calloc(h->count, len), "the blocks");
+    for (size_t at = 0; !is_fresh && at < h->count * len; at += PAGE)
+        ((volatile uint8_t *)memory)[at] = 0;
     for (size_t i = 0; i < h->count; i++) h->blocks[i] = (zimgasol_buffer){memory + i * len, len};
-    report_cost(name, "rounds in place", h->bytes.len, place, h);
+    h->is_fresh = is_fresh;
+    report_cost(name, is_fresh ? "rounds, fresh blocks" : "rounds in place", h->bytes.len, place,
+        h);
     free(memory);
 }
 
@@ -264,7 +270,8 @@ static void hostile_free(hostile *h) {
  * that shows after all else was read. */
 static void report_both(const char *name, const char *cut, hostile *h) {
     report_load(name, h);
-    report_place(name, h);
+    report_place(name, h, false);
+    if (h->is_zeros) report_place(name, h, true);
     if (cut != NULL) {
         h->bytes.len--;
         h->verdict = ZIMGASOL_STREAM_TRUNCATED;
@@ -297,7 +304,7 @@ static void report_naming(const char *name, ids of) {
 
 /* Measures a guest that is sent `rounds` times, full of ones or of zeros. */
 static void report_guest(const char *name, const char *cut, bool is_zeros, unsigned rounds) {
-    hostile h = {.count = 1, .pages = PAGES};
+    hostile h = {.count = 1, .pages = PAGES, .is_zeros = is_zeros};
     guest sent = guest_of(PAGES);
     if (!is_zeros) guest_fill(&sent, 0);
     send_single(&sent, ZIMGASOL_FRAME_RAM, rounds, &h.bytes);

@@ -308,12 +308,20 @@ ZIMGASOL_ASSERT(sizeof(zimgasol_round_end) == sizeof(uint32_t), "an enum has the
  *    sections that one piece completes. So pieces are short, and a sender whose `_fed` rises far
  *    without `_rounds` is given up. Each load tests `waiting`, so that all have one result.
  *    2 * pages + 1 suffices if each page is sent at most once in a section or round.
+ *  - `zero_blocks`: any number but 0 says that the blocks of a load into the caller's own hold
+ *    zeros when it begins, as a fresh mapping does. The load keeps a bit for each page that may
+ *    hold something else. Any other page that comes as zeros it leaves alone: it neither reads nor
+ *    writes it. So blocks of a memfd, of a file or of huge pages stay as small as what they hold,
+ *    and a sender that repeats pages of zeros costs little. It is the caller's word that nothing
+ *    proves: where a page holds something else that was never written, it is left in the guest. A
+ *    load with memory of its own doesn't use it.
  *  - `reserved`: zeros, as room for what may come. */
 typedef struct zimgasol_settings {
     zimgasol_frame frame;
     zimgasol_round_end round_end;
     uint64_t waiting;
-    uint64_t reserved[6];
+    uint64_t zero_blocks;
+    uint64_t reserved[5];
 } zimgasol_settings;
 
 /* A RAM block: its id, which a byte 0 ends, as in QEMU's idstr, and how many pages it has. */
@@ -377,9 +385,10 @@ typedef struct zimgasol_buffer {
 } zimgasol_buffer;
 
 /* The pages of one packet, which the caller reads to their places (zimgasol_apart_claim): the block
- * that all of them are of, how many have contents in the packet (`normal`), how many are zeros
- * (`zero`), and their numbers in the block, those with contents first. The numbers after the first
- * `normal + zero` say nothing. */
+ * that all of them are of, how many have contents in the packet (`normal`), how many are to be
+ * cleared (`zero`), and their numbers in the block, those with contents first. The numbers after
+ * the first `normal + zero` say nothing. All pages of zeros of the packet are to be cleared, or
+ * with `zero_blocks` those that may hold something else. */
 typedef struct zimgasol_pages {
     size_t block;
     size_t normal;
@@ -854,6 +863,13 @@ ZIMGASOL_API zimgasol_status zimgasol_in_place_session_fault_of(
  * So answer where this is true. Then the channels end, and the verdict is DONE. */
 ZIMGASOL_API bool zimgasol_in_place_session_has_all_rounds(zimgasol_in_place_session *session);
 
+/* Returns how many pages of the blocks no record and no packet of the rounds counted named. With
+ * DONE, or where all rounds are in, the streams don't have these pages: the blocks hold there what
+ * they held at first. It is 0 for a whole guest; a stream of changes, or a main stream whose
+ * channels were lost, leaves pages out and is DONE all the same. After NO_MEMORY the number says
+ * nothing. */
+ZIMGASOL_API uint64_t zimgasol_in_place_session_missing(zimgasol_in_place_session *session);
+
 /* Frees it. The blocks stay the caller's. */
 ZIMGASOL_API void zimgasol_in_place_session_free(zimgasol_in_place_session *session);
 
@@ -877,7 +893,7 @@ ZIMGASOL_API void zimgasol_in_place_session_free(zimgasol_in_place_session *sess
  *     until the connection ends, or the verdict isn't RUNNING:
  *         head = the next ZIMGASOL_HEAD_LEN(page_size) bytes
  *         lock
- *         until _takes(ZIMGASOL_CHANNEL(j)), or the verdict isn't RUNNING: wait for turned
+ *         until all channels' hellos were fed, and _takes(ZIMGASOL_CHANNEL(j)): wait for turned
  *         while _claim(j, head, &pages) is IS_CLAIMED: wait for turned
  *         unlock
  *         if it was RUNNING:
@@ -894,11 +910,18 @@ ZIMGASOL_API void zimgasol_in_place_session_free(zimgasol_in_place_session *sess
  *             _feed(blocks, source, the bytes that weren't taken), signal turned
  *         unlock
  *
+ * Bytes are fed where nothing is claimed. A hello would wait as long as other threads claim pages,
+ * so none of them claims before all hellos were fed.
+ *
  * Each wait ends, too, once the verdict isn't RUNNING, or the load is given up: then nothing is
  * taken any more. The thread of the main stream feeds each piece that it reads, and ends it. The
  * head of a packet that is fed says how many bytes follow it: big-endian, in the 4 bytes at offset
  * 20, if those at 16 aren't all 0. With a fault in the head itself nothing more of the channel is
  * taken.
+ *
+ * The verdict waits for the other sources, and a live sender may wait for the source at fault. So
+ * _fault_of is asked after each _feed and _end. If there is a fault the load is given up, and the
+ * connections are shut down.
  *
  * If a connection ends while its thread reads claimed pages, the thread ends the channel without
  * _take, and gives up the load: the pages stay claimed, so nothing is fed any more. _fault_of has
@@ -954,6 +977,7 @@ ZIMGASOL_API bool zimgasol_apart_valid_up_to(zimgasol_apart *load, size_t source
 ZIMGASOL_API zimgasol_status zimgasol_apart_fault_of(zimgasol_apart *load, size_t source,
     zimgasol_fault *found);
 ZIMGASOL_API bool zimgasol_apart_has_all_rounds(zimgasol_apart *load);
+ZIMGASOL_API uint64_t zimgasol_apart_missing(zimgasol_apart *load);
 
 /* Frees it. The blocks stay the caller's. */
 ZIMGASOL_API void zimgasol_apart_free(zimgasol_apart *load);
@@ -1030,8 +1054,10 @@ ZIMGASOL_API void zimgasol_sender_free(zimgasol_sender *sender);
  * most `limit` pages. Each channel has a worker, with a handle of its own, which any thread may
  * step: workers of one round run at once, each on its own thread, and draw packet after packet
  * until none is left. No handle is shared between threads, and no call waits for another thread. A
- * handle passes to another thread as above: by a thread's start and join, or a lock. One round:
+ * handle passes to another thread as above: by a thread's start and join, or a lock. One round, of
+ * which the table comes before the first one, since a load takes no packet without it:
  *
+ *     while ((len = zimgasol_multi_drain(&multi, out, sizeof out)) > 0) send on the main stream
  *     zimgasol_multi_begin_round(&multi, dirty, count);
  *     for each channel: zimgasol_multi_worker(&multi, &workers[j]);
  *     on a thread for each worker:

@@ -7,9 +7,11 @@ sender in the header, and fed in pieces of several lengths. The answer has to be
 for every prefix and every fault, and so has that of a load into the program's own blocks, which
 have every page record up to the end or the fault. Then the example programs send and load files of
 memory, a guest is migrated while it runs, on one stream and on several channels, and a program has
-each allocation refused in turn. All but the cases also run under valgrind, if it is installed, and
-the live migration with AddressSanitizer. The binding from Rust is built if rustc is installed. The
-names that the archive defines and needs are compared with those in docs/C.md.
+each allocation refused in turn. Connections are lost in the middle of a round, at either end. All
+but the cases also run under valgrind, if it is installed, and the live migrations with
+AddressSanitizer, that on several channels with ThreadSanitizer, too. The binding from Rust is built
+if rustc is installed. The names that the archive defines and needs are compared with those in
+docs/C.md.
 """
 
 import ctypes
@@ -29,8 +31,11 @@ FLAGS = ["-std=c11", "-O1", "-g", "-Wall", "-Wextra", "-Werror", f"-I{TOP}/inclu
 CUTS = (0, 1, 7, 100, 4096)
 DATA = TOP / "crates/mig_rows/data"
 LIMIT = 1 << 40
+MOST_SECONDS = 1200
 
 CC = os.environ.get("CC", "cc")
+# a program ends at the first race
+os.environ.setdefault("TSAN_OPTIONS", "halt_on_error=1")
 VALGRIND = ["valgrind", "-q", "--error-exitcode=99", "--leak-check=full", "--errors-for-leak-kinds=all"] if shutil.which("valgrind") else None
 
 
@@ -614,7 +619,10 @@ class Rows:
 
 def run(*words, stdin=None, wanted=None, status=0):
     words = [str(word) for word in words]
-    done = subprocess.run(words, stdin=stdin, capture_output=True)
+    try:
+        done = subprocess.run(words, stdin=stdin, capture_output=True, timeout=MOST_SECONDS)
+    except subprocess.TimeoutExpired:
+        sys.exit(f"{' '.join(words)}: it hasn't ended after {MOST_SECONDS} seconds")
     if done.returncode != status or (wanted is not None and done.stdout.decode(errors="replace").strip() != wanted):
         sys.exit(f"{' '.join(words)}: status {done.returncode}\n{done.stdout.decode(errors='replace')[:2000]}{done.stderr.decode()[:4000]}")
     return done.stdout
@@ -702,16 +710,33 @@ def live():
 
 def channels():
     """A guest is migrated on several channels while it runs, with threads for each, or one that loads."""
-    for words in ((), ("-c", 1, "-m", 3, "-b", 1), ("-c", 8, "-m", 2), ("-k",), ("-k", "-c", 2, "-m", 2, "-b", 1), ("-p",)):
+    for words in ((), ("-c", 1, "-m", 3, "-b", 1), ("-c", 8, "-m", 2), ("-d", 0, "-r", 5), ("-k",), ("-k", "-c", 2, "-m", 2, "-b", 1), ("-p",)):
         run(OUT / "channels", *words, wanted="0 pages differ")
-    # pages that are copied word by word: the threads share nothing else that one of them writes
-    for words in ((), ("-c", 2), ("-p",)):
-        run(OUT / "channels_tsan", "-m", 4, "-k", *words, wanted="0 pages differ")
+    for words in ((), ("-c", 2), ("-k",), ("-p",), ("-k", "-p")):
+        run(OUT / "channels_tsan", "-m", 4, *words, wanted="0 pages differ")
     for words in ((), ("-k",), ("-p",)):
         run(OUT / "channels_asan", "-m", 4, *words, wanted="0 pages differ")
         if VALGRIND:
             run(*VALGRIND, "--fair-sched=yes", OUT / "channels", "-m", 1, *words, wanted="0 pages differ")
-        subprocess.run([OUT / "channels", "-m", "64", "-t", *words], check=True, stdout=subprocess.DEVNULL)
+        rounds_and_times(words)
+
+
+def rounds_and_times(words):
+    """Prints the last rounds of a migration, and its time beside that of a plain transfer."""
+    program = [OUT / "channels", "-m", "64", "-t", *words]
+    said = subprocess.run(program, check=True, capture_output=True, text=True).stderr.splitlines()
+    print(f"channels {' '.join(map(str, program[1:]))}: {said[-3]}; {said[-2]}; {said[-1]}")
+
+
+def lost_connections():
+    """A connection is lost in the middle of a round: both ends give up, and the load says what it lacks. Returns how often."""
+    before_each = [("channels", []), ("channels_tsan", []), ("channels_asan", [])] + [("channels", [*VALGRIND, "--fair-sched=yes"])] * bool(VALGRIND)
+    ways = list(itertools.product(("s0", "s1", "l0", "l1"), ((), ("-k",), ("-p",), ("-c", 1))))
+    for (program, before), (lost, words) in itertools.product(before_each, ways):
+        said = run(*before, OUT / program, "-m", 4, "-x", lost, *words, status=2).decode().strip()
+        if not re.fullmatch(r"not loaded: (34|44|45|53), .*, after \d+ rounds", said):
+            sys.exit(f"{program} -x {lost} {words}: {said}")
+    return len(before_each) * len(ways)
 
 
 def next_buffer():
@@ -813,8 +838,10 @@ def main():
     build("channel_calls", "examples/c/tests/channels.c")
     build("heads", "examples/c/tests/heads.c")
     build("round_ends", "examples/c/tests/round_ends.c")
+    build("zero_blocks", "examples/c/tests/zero_blocks.c")
     build("apart", "examples/c/tests/apart.c", "-pthread")
     build("apart_asan", "examples/c/tests/apart.c", "-pthread", "-fsanitize=address,undefined")
+    build("apart_tsan", "examples/c/tests/apart.c", "-pthread", "-fsanitize=thread")
     build("next_buffer", "examples/c/tests/next_buffer.c")
     build("held", "examples/c/tests/held.c")
     build("send_failing", "examples/c/send.c", TOP / "examples/c/tests/failing_read.c", "-Wl,--wrap=fread")
@@ -837,13 +864,16 @@ def main():
         print(run(*before, OUT / "channel_calls").decode().strip() + under)
         print(run(*before, OUT / "heads").decode().strip() + under)
         print(run(*before, OUT / "round_ends").decode().strip() + under)
+        print(run(*before, OUT / "zero_blocks").decode().strip() + under)
         print(run(*before, OUT / "apart").decode().strip() + under)
     failing_read()
     live()
     print("a guest migrated while it ran: no page differs")
     channels()
     run(OUT / "apart_asan")
+    run(OUT / "apart_tsan")
     print("a guest migrated while it ran, on several channels: no page differs")
+    print(f"connections lost in the middle of a round, {lost_connections()} times: both ends gave up")
     print(f"64 MiB of pages read straight into their block: {next_buffer()}")
     print(f"memory of loads into blocks of 64 MiB: {held(library)}")
     print(from_rust())

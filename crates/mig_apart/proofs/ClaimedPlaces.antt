@@ -17,15 +17,15 @@ use Rattle.mig_apart.specs.Claims.{ClaimsMore, ClaimsLess}
 abbrev pub nth : RamTable → ℕ → List ℕ → ℕ → Place
 nth table b head i = place_at b (offset_at head i / table.page_size)
 
--- the places of its first pages
-abbrev pub places_to : RamTable → ℕ → List ℕ → ℕ → List Place
-places_to table b head i = map (nth table b head) (range_with_len 0 i)
+-- the first places of some
+abbrev pub first_places : (ℕ → Place) → ℕ → List Place
+first_places f i = map f (range_with_len 0 i)
 
-has_more : (table : RamTable) (b : ℕ) (head : List ℕ) (i : ℕ) (p : Place) → has_place (places_to table b head (i + 1)) p ≡ (has_place (places_to table b head i) p || place_eq (nth table b head i) p)
-has_more table b head i p =
-    ap (λ (l : List Place). has_place l p) (map-range_with_len_more (nth table b head) 0 i i (omega arith))
-    ∙ list_any-append (λ (q : Place). place_eq q p) (places_to table b head i) (nth table b head i ∷ [])
-    ∙ ap (λ (x : Bool). has_place (places_to table b head i) p || x) (or_false (place_eq (nth table b head i) p))
+has_more : (f : ℕ → Place) (i : ℕ) (p : Place) → has_place (first_places f (i + 1)) p ≡ (has_place (first_places f i) p || place_eq (f i) p)
+has_more f i p =
+    ap (λ (l : List Place). has_place l p) (map-range_with_len_more f 0 i i (omega arith))
+    ∙ list_any-append (λ (q : Place). place_eq q p) (first_places f i) (f i ∷ [])
+    ∙ ap (λ (x : Bool). has_place (first_places f i) p || x) (or_false (place_eq (f i) p))
   where
     or_false : (x : Bool) → (x || false) ≡ x
     or_false true = refl
@@ -37,20 +37,20 @@ eq_sym p q = elim (cases_Bool (place_eq p q)) [
   | inr f ↦ f ∙ sym (place_eq-flip p q f)
 ]
 
--- So many places are claimed.
-pub record HasClaimed (table : RamTable) (b : ℕ) (head : List ℕ) (i : ℕ) (old now : PlaceSet) : Type 0 where
+-- The first i places are claimed.
+pub record HasClaimed (table : RamTable) (f : ℕ → Place) (i : ℕ) (old now : PlaceSet) : Type 0 where
   pub same_table : now.table ≡ table
-  pub claims : ClaimsMore table (places_to table b head i) old now
+  pub claims : ClaimsMore table (first_places f i) old now
 
-pub record HasFreed (table : RamTable) (b : ℕ) (head : List ℕ) (i : ℕ) (old now : PlaceSet) : Type 0 where
+pub record HasFreed (table : RamTable) (f : ℕ → Place) (i : ℕ) (old now : PlaceSet) : Type 0 where
   pub same_table : now.table ≡ table
-  pub frees : ClaimsLess table (places_to table b head i) old now
+  pub frees : ClaimsLess table (first_places f i) old now
 
-pub claimed_none : (table : RamTable) (b : ℕ) (head : List ℕ) (old : PlaceSet) → old.table ≡ table → HasClaimed table b head 0 old old
-claimed_none table b head old same = record { same_table = same; claims = λ p is. refl }
+pub claimed_none : (table : RamTable) (f : ℕ → Place) (old : PlaceSet) → old.table ≡ table → HasClaimed table f 0 old old
+claimed_none table f old same = record { same_table = same; claims = λ p is. refl }
 
-pub freed_none : (table : RamTable) (b : ℕ) (head : List ℕ) (old : PlaceSet) → old.table ≡ table → HasFreed table b head 0 old old
-freed_none table b head old same = record { same_table = same; frees = λ p is. sym (and_true (has_place old.marked p)) }
+pub freed_none : (table : RamTable) (f : ℕ → Place) (old : PlaceSet) → old.table ≡ table → HasFreed table f 0 old old
+freed_none table f old same = record { same_table = same; frees = λ p is. sym (and_true (has_place old.marked p)) }
   where
     and_true : (x : Bool) → (x && true) ≡ x
     and_true true = refl
@@ -67,9 +67,9 @@ and_order true true c = refl
 and_order true false c = refl
 and_order false b c = refl
 
-pub claimed_more : (table : RamTable) (b : ℕ) (head : List ℕ) (i : ℕ) (old now new : PlaceSet) → new ≡ with_place now (nth table b head i) → HasClaimed table b head i old now → HasClaimed table b head (i + 1) old new
-claimed_more table b head i old now new is at =
-    let n : Place = nth table b head i in
+pub claimed_more : (table : RamTable) (f : ℕ → Place) (i : ℕ) (old now new : PlaceSet) → new ≡ with_place now (f i) → HasClaimed table f i old now → HasClaimed table f (i + 1) old new
+claimed_more table f i old now new is at =
+    let n : Place = f i in
     record {
       same_table = ap (λ (s : PlaceSet). s.table) is ∙ at.same_table;
       claims = λ p there.
@@ -77,14 +77,14 @@ claimed_more table b head i old now new is at =
           ap (λ (s : PlaceSet). has_place s.marked p) is
           ∙ has_place-where now.table (λ q. place_eq q n || has_place now.marked q) p here
           ∙ ap (λ (x : Bool). place_eq p n || x) (at.claims p there)
-          ∙ or_order (place_eq p n) (has_place (places_to table b head i) p) (has_place old.marked p)
-          ∙ ap (λ (x : Bool). (has_place (places_to table b head i) p || x) || has_place old.marked p) (eq_sym p n)
-          ∙ ap (λ (x : Bool). x || has_place old.marked p) (sym (has_more table b head i p));
+          ∙ or_order (place_eq p n) (has_place (first_places f i) p) (has_place old.marked p)
+          ∙ ap (λ (x : Bool). (has_place (first_places f i) p || x) || has_place old.marked p) (eq_sym p n)
+          ∙ ap (λ (x : Bool). x || has_place old.marked p) (sym (has_more f i p));
     }
 
-pub freed_more : (table : RamTable) (b : ℕ) (head : List ℕ) (i : ℕ) (old now new : PlaceSet) → new ≡ without_place now (nth table b head i) → HasFreed table b head i old now → HasFreed table b head (i + 1) old new
-freed_more table b head i old now new is at =
-    let n : Place = nth table b head i in
+pub freed_more : (table : RamTable) (f : ℕ → Place) (i : ℕ) (old now new : PlaceSet) → new ≡ without_place now (f i) → HasFreed table f i old now → HasFreed table f (i + 1) old new
+freed_more table f i old now new is at =
+    let n : Place = f i in
     record {
       same_table = ap (λ (s : PlaceSet). s.table) is ∙ at.same_table;
       frees = λ p there.
@@ -92,7 +92,7 @@ freed_more table b head i old now new is at =
           ap (λ (s : PlaceSet). has_place s.marked p) is
           ∙ has_place-where now.table (λ q. has_place now.marked q && not (place_eq q n)) p here
           ∙ ap (λ (x : Bool). x && not (place_eq p n)) (at.frees p there)
-          ∙ and_order (has_place old.marked p) (has_place (places_to table b head i) p) (place_eq p n)
-          ∙ ap (λ (x : Bool). has_place old.marked p && not (has_place (places_to table b head i) p || x)) (eq_sym p n)
-          ∙ ap (λ (x : Bool). has_place old.marked p && not x) (sym (has_more table b head i p));
+          ∙ and_order (has_place old.marked p) (has_place (first_places f i) p) (place_eq p n)
+          ∙ ap (λ (x : Bool). has_place old.marked p && not (has_place (first_places f i) p || x)) (eq_sym p n)
+          ∙ ap (λ (x : Bool). has_place old.marked p && not x) (sym (has_more f i p));
     }

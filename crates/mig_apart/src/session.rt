@@ -40,7 +40,7 @@ pub enum Claim<'h> {
 }
 
 /// Loads a guest from a main stream and its channels into memory that is there, while others read
-/// the pages of packets straight to their places. It has two bits for each page.
+/// the pages of packets straight to their places. It has three bits for each page.
 ///
 /// A thread for each channel, and one for the main stream, share it behind one lock:
 ///

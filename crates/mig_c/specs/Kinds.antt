@@ -1,6 +1,7 @@
 -- The object of a handle, by its kind, and what a call makes of it.
 use Rattle.std.specs.Prelude.{Option, None, Some, ⊤}
 use Rattle.mig_mem.specs.RamTable.{RamTable}
+use Rattle.mig_mem.specs.PlaceSet.{PlaceSet}
 use Rattle.mig_single_load.specs.Loader.{Loader}
 use Rattle.mig_single_load.specs.LoadInPlace.{LoadInPlace}
 use Rattle.mig_session.specs.Session.{LoadSession}
@@ -43,7 +44,7 @@ abbrev pub in_place_in : Option Object → Option LoadInPlace
 in_place_in None = None
 in_place_in (Some (object.Table x)) = None
 in_place_in (Some (object.Loader x)) = None
-in_place_in (Some (object.InPlace x)) = Some x
+in_place_in (Some (object.InPlace x)) = Some x.load
 in_place_in (Some (object.Session x)) = None
 in_place_in (Some (object.Sender x)) = None
 in_place_in (Some (object.InPlaceSession x)) = None
@@ -85,7 +86,7 @@ in_place_session_in (Some (object.Loader x)) = None
 in_place_session_in (Some (object.InPlace x)) = None
 in_place_session_in (Some (object.Session x)) = None
 in_place_session_in (Some (object.Sender x)) = None
-in_place_session_in (Some (object.InPlaceSession x)) = Some x
+in_place_session_in (Some (object.InPlaceSession x)) = Some x.load
 in_place_session_in (Some (object.Multi x)) = None
 in_place_session_in (Some (object.Worker x)) = None
 in_place_session_in (Some (object.Apart x)) = None
@@ -127,8 +128,22 @@ apart_in (Some (object.Sender x)) = None
 apart_in (Some (object.InPlaceSession x)) = None
 apart_in (Some (object.Multi x)) = None
 apart_in (Some (object.Worker x)) = None
-apart_in (Some (object.Apart x)) = Some x
+apart_in (Some (object.Apart x)) = Some x.load
 apart_in (Some object.Empty) = None
+
+-- the pages that may hold something else than zeros, of a load into blocks that were zeros
+abbrev pub filled_in : Option Object → Option PlaceSet
+filled_in None = None
+filled_in (Some (object.Table x)) = None
+filled_in (Some (object.Loader x)) = None
+filled_in (Some (object.InPlace x)) = x.filled
+filled_in (Some (object.Session x)) = None
+filled_in (Some (object.Sender x)) = None
+filled_in (Some (object.InPlaceSession x)) = x.filled
+filled_in (Some (object.Multi x)) = None
+filled_in (Some (object.Worker x)) = None
+filled_in (Some (object.Apart x)) = x.filled
+filled_in (Some object.Empty) = None
 
 -- The call is passed an object of its kind and leaves one, and this holds between the two.
 abbrev pub Turns : {A : Type 0} → (A → A → Type 0) → Option A → Option A → Type 0

@@ -5,12 +5,13 @@
 ghost use Rattle.std.specs.Prelude.{◌≡◌, ◌≢◌, ◌≤◌, length, IsSome, IfOk, IfErr, None, Some};
 ghost use Rattle.mig_mem.specs.Lent.{mut_lent_bytes, lent_bytes};
 ghost use Rattle.mig_c_calls.specs.Status.{done};
-ghost use Rattle.mig_c_loads.specs.Frames.{waiting_of as most_waiting};
-ghost use Rattle.mig_c.specs.Kinds.{table_in, apart_in, Turns, Tells};
+ghost use Rattle.mig_c_loads.specs.Frames.{waiting_of as most_waiting, are_zeros};
+ghost use Rattle.mig_c.specs.Kinds.{table_in, apart_in, filled_in, Turns, Tells};
 ghost use Rattle.mig_c_loads.specs.Found.{seen_of_verdict};
 ghost use Rattle.mig_c_loads.specs.Sessions.{source_of};
-ghost use Rattle.mig_c_loads.specs.InPlaceSessions.{TellsTaken, TellsTakes, TellsClosedAt, TellsValidUpTo, TellsFault, TellsAllRounds};
-ghost use Rattle.mig_c_loads.specs.Apart.{BeginsApart, OpensApart, ClaimsHead, TakesHead, FeedsApart, EndsApart};
+ghost use Rattle.mig_c_loads.specs.InPlaceSessions.{TellsTaken, TellsTakes, TellsClosedAt, TellsValidUpTo, TellsFault, TellsAllRounds, TellsMissing};
+ghost use Rattle.mig_c_loads.specs.ZeroBlocks.{AreZerosBut, IsFilledAtFirst};
+ghost use Rattle.mig_c_loads.specs.Apart.{BeginsApart, OpensApart, ClaimsHead, TakesHead, FillsTaken, FeedsApart, EndsApart};
 
 use crate::handle::{ApartHandle, Handle, TableHandle};
 use crate::object::Object;
@@ -35,11 +36,22 @@ fn made(
     frame: Frame,
     waiting: Option<u64>,
     round_end: RoundEnd,
+    zero_blocks: bool,
 ) -> Result<Box<Object>, NoMemory>
     requires channels { (1 ≤ channels) × (channels ≤ 255) }
-    ensures { IfOk result (λ object. BeginsApart (Some table.now) uuid.now channels (Some frame) waiting (Some round_end) (apart_in (Some object.value))) }
+    ensures begins { IfOk result (λ object. BeginsApart (Some table.now) uuid.now channels (Some frame) waiting (Some round_end) (apart_in (Some object.value))) }
+    ensures filled { IfOk result (λ object. IsFilledAtFirst zero_blocks (Some table.now) (filled_in (Some object.value))) }
 {
-    let load = HeldApart::new(alloc, table, uuid, channels, frame, waiting, round_end)?;
+    let load = HeldApart::new(
+        alloc,
+        table,
+        uuid,
+        channels,
+        frame,
+        waiting,
+        round_end,
+        zero_blocks,
+    )?;
     Ok(Box::new(alloc, Object::Apart(load))?)
 }
 
@@ -51,13 +63,24 @@ fn made_of(
     frame: Frame,
     waiting: Option<u64>,
     round_end: RoundEnd,
+    zero_blocks: bool,
 ) -> Result<Box<Object>, NoMemory>
     requires table { IsSome (table_in (Some table.now)) }
     requires channels { (1 ≤ channels) × (channels ≤ 255) }
-    ensures { IfOk result (λ object. BeginsApart (table_in (Some table.now)) uuid.now channels (Some frame) waiting (Some round_end) (apart_in (Some object.value))) }
+    ensures begins { IfOk result (λ object. BeginsApart (table_in (Some table.now)) uuid.now channels (Some frame) waiting (Some round_end) (apart_in (Some object.value))) }
+    ensures filled { IfOk result (λ object. IsFilledAtFirst zero_blocks (table_in (Some table.now)) (filled_in (Some object.value))) }
 {
     match table {
-        Object::Table(table) => made(alloc, table, uuid, channels, frame, waiting, round_end),
+        Object::Table(table) => made(
+            alloc,
+            table,
+            uuid,
+            channels,
+            frame,
+            waiting,
+            round_end,
+            zero_blocks,
+        ),
         _ => unreachable!(),
     }
 }
@@ -71,6 +94,7 @@ fn opened(
     settings: &AskedSettings,
 ) -> Result<Box<Object>, u32>
     requires { IsSome (table_in table.old.handle.value) }
+    ensures filled { IfOk result (λ object. IsFilledAtFirst (are_zeros settings.now.zero_blocks) (table_in table.old.handle.value) (filled_in (Some object.value))) }
     ensures ok { IfOk result (λ object. OpensApart (table_in table.old.handle.value) uuid.now channels settings.now.frame (most_waiting settings.now.waiting) settings.now.round_end done
         (apart_in (Some object.value))) }
     ensures err { IfErr result (λ status. OpensApart (table_in table.old.handle.value) uuid.now channels settings.now.frame (most_waiting settings.now.waiting) settings.now.round_end status None) }
@@ -91,7 +115,16 @@ fn opened(
     };
     let waiting = waiting_of(settings.waiting);
     let object = table.handle.take().into_box(alloc);
-    let made = made_of(alloc, &object, &uuid, channels, frame, waiting, round_end);
+    let made = made_of(
+        alloc,
+        &object,
+        &uuid,
+        channels,
+        frame,
+        waiting,
+        round_end,
+        settings.zero_blocks != 0,
+    );
     table.handle = Handle::of(object);
     match made {
         Ok(object) => Ok(object),
@@ -114,6 +147,7 @@ pub extern "C" fn zimgasol_apart_new(
     requires table { IsSome (table_in table.old.handle.value) }
     ensures opens { OpensApart (table_in table.old.handle.value) uuid.now channels settings.now.frame (most_waiting settings.now.waiting) settings.now.round_end result
         (apart_in load.new.handle.value) }
+    ensures filled { result ≡ done → IsFilledAtFirst (are_zeros settings.now.zero_blocks) (table_in table.old.handle.value) (filled_in load.new.handle.value) }
     ensures none { result ≢ done → load.new.handle.value ≡ None }
     ensures table { table.new.handle.value ≡ table.old.handle.value }
 {
@@ -129,7 +163,8 @@ pub extern "C" fn zimgasol_apart_new(
 
 fn claim(object: &mut Object, channel: usize, head: &[u8], pages: &mut ClaimedPages) -> u32
     requires { IsSome (apart_in (Some object.old)) }
-    ensures { Turns (ClaimsHead channel head.now result pages.old pages.new) (apart_in (Some object.old)) (apart_in (Some object.new)) }
+    ensures claims { Turns (ClaimsHead channel head.now result pages.old pages.new (filled_in (Some object.old))) (apart_in (Some object.old)) (apart_in (Some object.new)) }
+    ensures filled { filled_in (Some object.new) ≡ filled_in (Some object.old) }
 {
     match object {
         Object::Apart(load) => load.claim(channel, head, pages),
@@ -147,7 +182,8 @@ pub extern "C" fn zimgasol_apart_claim(
     pages: &mut ClaimedPages,
 ) -> u32
     requires load { IsSome (apart_in load.old.handle.value) }
-    ensures claims { Turns (ClaimsHead channel head.now result pages.old pages.new) (apart_in load.old.handle.value) (apart_in load.new.handle.value) }
+    ensures claims { Turns (ClaimsHead channel head.now result pages.old pages.new (filled_in load.old.handle.value)) (apart_in load.old.handle.value) (apart_in load.new.handle.value) }
+    ensures filled { filled_in load.new.handle.value ≡ filled_in load.old.handle.value }
 {
     let mut object = load.handle.take().into_box(alloc);
     let status = claim(&mut object, channel, head, pages);
@@ -157,7 +193,8 @@ pub extern "C" fn zimgasol_apart_claim(
 
 fn take(object: &mut Object, channel: usize, head: &[u8], contents: &[&[u8]]) -> u32
     requires { IsSome (apart_in (Some object.old)) }
-    ensures { Turns (TakesHead channel head.now (lent_bytes contents.now) result) (apart_in (Some object.old)) (apart_in (Some object.new)) }
+    ensures takes { Turns (TakesHead channel head.now (lent_bytes contents.now) result) (apart_in (Some object.old)) (apart_in (Some object.new)) }
+    ensures filled { Tells (λ s. FillsTaken head.now result s (filled_in (Some object.old)) (filled_in (Some object.new))) (apart_in (Some object.old)) }
 {
     match object {
         Object::Apart(load) => load.take(channel, head, contents),
@@ -176,6 +213,7 @@ pub extern "C" fn zimgasol_apart_take(
 ) -> u32
     requires load { IsSome (apart_in load.old.handle.value) }
     ensures takes { Turns (TakesHead channel head.now (lent_bytes contents.now) result) (apart_in load.old.handle.value) (apart_in load.new.handle.value) }
+    ensures filled { Tells (λ s. FillsTaken head.now result s (filled_in load.old.handle.value) (filled_in load.new.handle.value)) (apart_in load.old.handle.value) }
 {
     let mut object = load.handle.take().into_box(alloc);
     let status = take(&mut object, channel, head, contents);
@@ -214,9 +252,11 @@ fn feed(
     piece: &[u8],
     taken: &mut usize,
 ) -> u32
-    requires { IsSome (apart_in (Some object.old)) }
-    ensures { Turns (FeedsApart source piece.now (mut_lent_bytes blocks.old) (mut_lent_bytes blocks.new) taken.new result)
+    requires load { IsSome (apart_in (Some object.old)) }
+    requires zeros { AreZerosBut (filled_in (Some object.old)) (mut_lent_bytes blocks.old) }
+    ensures feeds { Turns (FeedsApart source piece.now (mut_lent_bytes blocks.old) (mut_lent_bytes blocks.new) taken.new result)
         (apart_in (Some object.old)) (apart_in (Some object.new)) }
+    ensures zeros { AreZerosBut (filled_in (Some object.new)) (mut_lent_bytes blocks.new) }
 {
     match object {
         Object::Apart(load) => load.feed(alloc, blocks, source, piece, taken),
@@ -236,8 +276,10 @@ pub extern "C" fn zimgasol_apart_feed(
     taken: &mut usize,
 ) -> u32
     requires load { IsSome (apart_in load.old.handle.value) }
+    requires zeros { AreZerosBut (filled_in load.old.handle.value) (mut_lent_bytes blocks.old) }
     ensures feeds { Turns (FeedsApart (source_of source) piece.now (mut_lent_bytes blocks.old) (mut_lent_bytes blocks.new) taken.new result)
         (apart_in load.old.handle.value) (apart_in load.new.handle.value) }
+    ensures zeros { AreZerosBut (filled_in load.new.handle.value) (mut_lent_bytes blocks.new) }
 {
     let mut object = load.handle.take().into_box(alloc);
     let status = feed(alloc, &mut object, blocks, source_of(source), piece, taken);
@@ -270,7 +312,8 @@ pub extern "C" fn zimgasol_apart_takes(alloc: Global, load: &mut ApartHandle, so
 
 fn end(object: &mut Object, source: Source) -> u32
     requires { IsSome (apart_in (Some object.old)) }
-    ensures { Turns (EndsApart source result) (apart_in (Some object.old)) (apart_in (Some object.new)) }
+    ensures ends { Turns (EndsApart source result) (apart_in (Some object.old)) (apart_in (Some object.new)) }
+    ensures filled { filled_in (Some object.new) ≡ filled_in (Some object.old) }
 {
     match object {
         Object::Apart(load) => load.end(source),
@@ -283,6 +326,7 @@ fn end(object: &mut Object, source: Source) -> u32
 pub extern "C" fn zimgasol_apart_end(alloc: Global, load: &mut ApartHandle, source: usize) -> u32
     requires load { IsSome (apart_in load.old.handle.value) }
     ensures ends { Turns (EndsApart (source_of source) result) (apart_in load.old.handle.value) (apart_in load.new.handle.value) }
+    ensures filled { filled_in load.new.handle.value ≡ filled_in load.old.handle.value }
 {
     let mut object = load.handle.take().into_box(alloc);
     let status = end(&mut object, source_of(source));
@@ -469,6 +513,29 @@ pub extern "C" fn zimgasol_apart_rounds(alloc: Global, load: &mut ApartHandle) -
 {
     let object = load.handle.take().into_box(alloc);
     let number = rounds(&object);
+    load.handle = Handle::of(object);
+    number
+}
+
+fn missing(object: &Object) -> u64
+    requires { IsSome (apart_in (Some object.now)) }
+    ensures { Tells (λ s. TellsMissing result s.load) (apart_in (Some object.now)) }
+{
+    match object {
+        Object::Apart(load) => load.missing(),
+        _ => unreachable!(),
+    }
+}
+
+/// Returns how many pages of the blocks no record and no packet of the rounds counted named.
+#[unsafe(no_mangle)]
+pub extern "C" fn zimgasol_apart_missing(alloc: Global, load: &mut ApartHandle) -> u64
+    requires load { IsSome (apart_in load.old.handle.value) }
+    ensures same { load.new.handle.value ≡ load.old.handle.value }
+    ensures tells { Tells (λ s. TellsMissing result s.load) (apart_in load.old.handle.value) }
+{
+    let object = load.handle.take().into_box(alloc);
+    let number = missing(&object);
     load.handle = Handle::of(object);
     number
 }

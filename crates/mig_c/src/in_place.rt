@@ -5,9 +5,11 @@ ghost use Rattle.std.specs.Prelude.{◌≡◌, ◌≢◌, IsSome, IfOk, IfErr, N
 ghost use Rattle.mig_mem.specs.Lent.{mut_lent_bytes};
 ghost use Rattle.mig_c_calls.specs.Status.{done};
 ghost use Rattle.mig_c_loads.specs.Frames.{waiting_of as most_waiting};
-ghost use Rattle.mig_c.specs.Kinds.{table_in, in_place_in, Turns, Tells};
+ghost use Rattle.mig_c.specs.Kinds.{table_in, in_place_in, filled_in, Turns, Tells};
 ghost use Rattle.mig_c_loads.specs.InPlace.{Opens, OpensInPlace, FeedsInPlace, EndsInPlace, TellsVerdict, TellsClosedAt, TellsValidUpTo};
-ghost use Rattle.mig_c_loads.specs.NextBytes.{TellsNext, TakesPage};
+ghost use Rattle.mig_c_loads.specs.NextBytes.{TellsNext, TakesPage, FillsPage};
+ghost use Rattle.mig_c_loads.specs.ZeroBlocks.{AreZerosBut, IsFilledAtFirst};
+ghost use Rattle.mig_c_loads.specs.Frames.{are_zeros};
 
 use crate::handle::{Handle, InPlaceHandle, TableHandle};
 use crate::object::Object;
@@ -23,10 +25,12 @@ fn made(
     table: &Table<Global>,
     frame: Frame,
     waiting: Option<u64>,
+    zero_blocks: bool,
 ) -> Result<Box<Object>, NoMemory>
-    ensures { IfOk result (λ object. Opens (Some table.now) (Some frame) waiting (in_place_in (Some object.value))) }
+    ensures opens { IfOk result (λ object. Opens (Some table.now) (Some frame) waiting (in_place_in (Some object.value))) }
+    ensures filled { IfOk result (λ object. IsFilledAtFirst zero_blocks (Some table.now) (filled_in (Some object.value))) }
 {
-    let load = HeldLoad::new(alloc, table, frame, waiting)?;
+    let load = HeldLoad::new(alloc, table, frame, waiting, zero_blocks)?;
     Ok(Box::new(alloc, Object::InPlace(load))?)
 }
 
@@ -35,12 +39,14 @@ fn made_of(
     table: &Object,
     frame: Frame,
     waiting: Option<u64>,
+    zero_blocks: bool,
 ) -> Result<Box<Object>, NoMemory>
     requires { IsSome (table_in (Some table.now)) }
-    ensures { IfOk result (λ object. Opens (table_in (Some table.now)) (Some frame) waiting (in_place_in (Some object.value))) }
+    ensures opens { IfOk result (λ object. Opens (table_in (Some table.now)) (Some frame) waiting (in_place_in (Some object.value))) }
+    ensures filled { IfOk result (λ object. IsFilledAtFirst zero_blocks (table_in (Some table.now)) (filled_in (Some object.value))) }
 {
     match table {
-        Object::Table(table) => made(alloc, table, frame, waiting),
+        Object::Table(table) => made(alloc, table, frame, waiting, zero_blocks),
         _ => unreachable!(),
     }
 }
@@ -51,8 +57,10 @@ fn opened(
     table: &mut TableHandle,
     frame: u32,
     waiting: Option<u64>,
+    zero_blocks: bool,
 ) -> Result<Box<Object>, u32>
     requires { IsSome (table_in table.old.handle.value) }
+    ensures filled { IfOk result (λ object. IsFilledAtFirst zero_blocks (table_in table.old.handle.value) (filled_in (Some object.value))) }
     ensures ok { IfOk result (λ object. OpensInPlace (table_in table.old.handle.value) frame waiting done (in_place_in (Some object.value))) }
     ensures err { IfErr result (λ status. OpensInPlace (table_in table.old.handle.value) frame waiting status None) }
     ensures refused { IfErr result (λ status. status ≢ done) }
@@ -62,7 +70,7 @@ fn opened(
         return Err(BAD_FRAME);
     };
     let object = table.handle.take().into_box(alloc);
-    let made = made_of(alloc, &object, frame, waiting);
+    let made = made_of(alloc, &object, frame, waiting, zero_blocks);
     table.handle = Handle::of(object);
     match made {
         Ok(object) => Ok(object),
@@ -82,10 +90,11 @@ pub extern "C" fn zimgasol_in_place_new(
     requires none { in_place.old.handle.value ≡ None }
     requires table { IsSome (table_in table.old.handle.value) }
     ensures opens { OpensInPlace (table_in table.old.handle.value) frame None result (in_place_in in_place.new.handle.value) }
+    ensures filled { filled_in in_place.new.handle.value ≡ None }
     ensures none { result ≢ done → in_place.new.handle.value ≡ None }
     ensures table { table.new.handle.value ≡ table.old.handle.value }
 {
-    match opened(alloc, table, frame, None) {
+    match opened(alloc, table, frame, None, false) {
         Ok(object) => {
             in_place.handle = Handle::of(object);
             in_place.full = 1;
@@ -107,11 +116,13 @@ pub extern "C" fn zimgasol_in_place_new_within(
     requires none { in_place.old.handle.value ≡ None }
     requires table { IsSome (table_in table.old.handle.value) }
     ensures opens { OpensInPlace (table_in table.old.handle.value) settings.now.frame (most_waiting settings.now.waiting) result (in_place_in in_place.new.handle.value) }
+    ensures filled { result ≡ done → IsFilledAtFirst (are_zeros settings.now.zero_blocks) (table_in table.old.handle.value) (filled_in in_place.new.handle.value) }
     ensures none { result ≢ done → in_place.new.handle.value ≡ None }
     ensures table { table.new.handle.value ≡ table.old.handle.value }
 {
     let waiting = waiting_of(settings.waiting);
-    match opened(alloc, table, settings.frame, waiting) {
+    let zero_blocks = settings.zero_blocks != 0;
+    match opened(alloc, table, settings.frame, waiting, zero_blocks) {
         Ok(object) => {
             in_place.handle = Handle::of(object);
             in_place.full = 1;
@@ -122,8 +133,10 @@ pub extern "C" fn zimgasol_in_place_new_within(
 }
 
 fn feed(alloc: Global, object: &mut Object, blocks: &mut [&mut [u8]], piece: &[u8]) -> u32
-    requires { IsSome (in_place_in (Some object.old)) }
-    ensures { Turns (FeedsInPlace piece.now (mut_lent_bytes blocks.old) (mut_lent_bytes blocks.new) result) (in_place_in (Some object.old)) (in_place_in (Some object.new)) }
+    requires load { IsSome (in_place_in (Some object.old)) }
+    requires zeros { AreZerosBut (filled_in (Some object.old)) (mut_lent_bytes blocks.old) }
+    ensures feeds { Turns (FeedsInPlace piece.now (mut_lent_bytes blocks.old) (mut_lent_bytes blocks.new) result) (in_place_in (Some object.old)) (in_place_in (Some object.new)) }
+    ensures zeros { AreZerosBut (filled_in (Some object.new)) (mut_lent_bytes blocks.new) }
 {
     match object {
         Object::InPlace(load) => load.feed(alloc, blocks, piece),
@@ -140,8 +153,10 @@ pub extern "C" fn zimgasol_in_place_feed(
     piece: &[u8],
 ) -> u32
     requires in_place { IsSome (in_place_in in_place.old.handle.value) }
+    requires zeros { AreZerosBut (filled_in in_place.old.handle.value) (mut_lent_bytes blocks.old) }
     ensures feeds { Turns (FeedsInPlace piece.now (mut_lent_bytes blocks.old) (mut_lent_bytes blocks.new) result)
         (in_place_in in_place.old.handle.value) (in_place_in in_place.new.handle.value) }
+    ensures zeros { AreZerosBut (filled_in in_place.new.handle.value) (mut_lent_bytes blocks.new) }
 {
     let mut object = in_place.handle.take().into_box(alloc);
     let status = feed(alloc, &mut object, blocks, piece);
@@ -179,7 +194,8 @@ pub extern "C" fn zimgasol_in_place_wanted(
 
 fn page_read(object: &mut Object, blocks: &[&mut [u8]]) -> u32
     requires { IsSome (in_place_in (Some object.old)) }
-    ensures { Turns (TakesPage (mut_lent_bytes blocks.now) result) (in_place_in (Some object.old)) (in_place_in (Some object.new)) }
+    ensures takes { Turns (TakesPage (mut_lent_bytes blocks.now) result) (in_place_in (Some object.old)) (in_place_in (Some object.new)) }
+    ensures filled { Tells (λ s. FillsPage result s (filled_in (Some object.old)) (filled_in (Some object.new))) (in_place_in (Some object.old)) }
 {
     match object {
         Object::InPlace(load) => load.page_read(blocks),
@@ -196,6 +212,7 @@ pub extern "C" fn zimgasol_in_place_page_read(
 ) -> u32
     requires in_place { IsSome (in_place_in in_place.old.handle.value) }
     ensures takes { Turns (TakesPage (mut_lent_bytes blocks.now) result) (in_place_in in_place.old.handle.value) (in_place_in in_place.new.handle.value) }
+    ensures filled { Tells (λ s. FillsPage result s (filled_in in_place.old.handle.value) (filled_in in_place.new.handle.value)) (in_place_in in_place.old.handle.value) }
 {
     let mut object = in_place.handle.take().into_box(alloc);
     let status = page_read(&mut object, blocks);
@@ -205,7 +222,8 @@ pub extern "C" fn zimgasol_in_place_page_read(
 
 fn end(object: &mut Object)
     requires { IsSome (in_place_in (Some object.old)) }
-    ensures { Turns EndsInPlace (in_place_in (Some object.old)) (in_place_in (Some object.new)) }
+    ensures ends { Turns EndsInPlace (in_place_in (Some object.old)) (in_place_in (Some object.new)) }
+    ensures filled { filled_in (Some object.new) ≡ filled_in (Some object.old) }
 {
     match object {
         Object::InPlace(load) => load.end(),
@@ -218,6 +236,7 @@ fn end(object: &mut Object)
 pub extern "C" fn zimgasol_in_place_end(alloc: Global, in_place: &mut InPlaceHandle)
     requires in_place { IsSome (in_place_in in_place.old.handle.value) }
     ensures ends { Turns EndsInPlace (in_place_in in_place.old.handle.value) (in_place_in in_place.new.handle.value) }
+    ensures filled { filled_in in_place.new.handle.value ≡ filled_in in_place.old.handle.value }
 {
     let mut object = in_place.handle.take().into_box(alloc);
     end(&mut object);

@@ -4,11 +4,12 @@
 ghost use Rattle.std.specs.Prelude.{◌≡◌, ◌≢◌, ◌≤◌, IsSome, IfOk, IfErr, None, Some};
 ghost use Rattle.mig_mem.specs.Lent.{mut_lent_bytes};
 ghost use Rattle.mig_c_calls.specs.Status.{done};
-ghost use Rattle.mig_c_loads.specs.Frames.{waiting_of as most_waiting};
-ghost use Rattle.mig_c.specs.Kinds.{table_in, in_place_session_in, Turns, Tells};
+ghost use Rattle.mig_c_loads.specs.Frames.{waiting_of as most_waiting, are_zeros};
+ghost use Rattle.mig_c.specs.Kinds.{table_in, in_place_session_in, filled_in, Turns, Tells};
 ghost use Rattle.mig_c_loads.specs.Found.{seen_of_verdict};
 ghost use Rattle.mig_c_loads.specs.Sessions.{source_of};
-ghost use Rattle.mig_c_loads.specs.InPlaceSessions.{Opens, OpensInto, FeedsBlocks, EndsSource, TellsTaken, TellsTakes, TellsClosedAt, TellsValidUpTo, TellsFault, TellsAllRounds};
+ghost use Rattle.mig_c_loads.specs.InPlaceSessions.{Opens, OpensInto, FeedsBlocks, EndsSource, TellsTaken, TellsTakes, TellsClosedAt, TellsValidUpTo, TellsFault, TellsAllRounds, TellsMissing};
+ghost use Rattle.mig_c_loads.specs.ZeroBlocks.{AreZerosBut, IsFilledAtFirst};
 
 use crate::handle::{Handle, InPlaceSessionHandle, TableHandle};
 use crate::object::Object;
@@ -32,11 +33,22 @@ fn made(
     frame: Frame,
     waiting: Option<u64>,
     round_end: RoundEnd,
+    zero_blocks: bool,
 ) -> Result<Box<Object>, NoMemory>
     requires channels { (1 ≤ channels) × (channels ≤ 255) }
-    ensures { IfOk result (λ object. Opens (Some table.now) uuid.now channels (Some frame) waiting (Some round_end) (in_place_session_in (Some object.value))) }
+    ensures opens { IfOk result (λ object. Opens (Some table.now) uuid.now channels (Some frame) waiting (Some round_end) (in_place_session_in (Some object.value))) }
+    ensures filled { IfOk result (λ object. IsFilledAtFirst zero_blocks (Some table.now) (filled_in (Some object.value))) }
 {
-    let load = HeldSession::new(alloc, table, uuid, channels, frame, waiting, round_end)?;
+    let load = HeldSession::new(
+        alloc,
+        table,
+        uuid,
+        channels,
+        frame,
+        waiting,
+        round_end,
+        zero_blocks,
+    )?;
     Ok(Box::new(alloc, Object::InPlaceSession(load))?)
 }
 
@@ -48,13 +60,24 @@ fn made_of(
     frame: Frame,
     waiting: Option<u64>,
     round_end: RoundEnd,
+    zero_blocks: bool,
 ) -> Result<Box<Object>, NoMemory>
     requires table { IsSome (table_in (Some table.now)) }
     requires channels { (1 ≤ channels) × (channels ≤ 255) }
-    ensures { IfOk result (λ object. Opens (table_in (Some table.now)) uuid.now channels (Some frame) waiting (Some round_end) (in_place_session_in (Some object.value))) }
+    ensures opens { IfOk result (λ object. Opens (table_in (Some table.now)) uuid.now channels (Some frame) waiting (Some round_end) (in_place_session_in (Some object.value))) }
+    ensures filled { IfOk result (λ object. IsFilledAtFirst zero_blocks (table_in (Some table.now)) (filled_in (Some object.value))) }
 {
     match table {
-        Object::Table(table) => made(alloc, table, uuid, channels, frame, waiting, round_end),
+        Object::Table(table) => made(
+            alloc,
+            table,
+            uuid,
+            channels,
+            frame,
+            waiting,
+            round_end,
+            zero_blocks,
+        ),
         _ => unreachable!(),
     }
 }
@@ -68,8 +91,10 @@ fn opened(
     frame: u32,
     waiting: Option<u64>,
     round_end: u32,
+    zero_blocks: bool,
 ) -> Result<Box<Object>, u32>
     requires { IsSome (table_in table.old.handle.value) }
+    ensures filled { IfOk result (λ object. IsFilledAtFirst zero_blocks (table_in table.old.handle.value) (filled_in (Some object.value))) }
     ensures ok { IfOk result (λ object. OpensInto (table_in table.old.handle.value) uuid.now channels frame waiting round_end done (in_place_session_in (Some object.value))) }
     ensures err { IfErr result (λ status. OpensInto (table_in table.old.handle.value) uuid.now channels frame waiting round_end status None) }
     ensures refused { IfErr result (λ status. status ≢ done) }
@@ -88,7 +113,16 @@ fn opened(
         return Err(BAD_ROUND_END);
     };
     let object = table.handle.take().into_box(alloc);
-    let made = made_of(alloc, &object, &uuid, channels, frame, waiting, round_end);
+    let made = made_of(
+        alloc,
+        &object,
+        &uuid,
+        channels,
+        frame,
+        waiting,
+        round_end,
+        zero_blocks,
+    );
     table.handle = Handle::of(object);
     match made {
         Ok(object) => Ok(object),
@@ -110,10 +144,11 @@ pub extern "C" fn zimgasol_in_place_session_new(
     requires none { session.old.handle.value ≡ None }
     requires table { IsSome (table_in table.old.handle.value) }
     ensures opens { OpensInto (table_in table.old.handle.value) uuid.now channels frame None 0 result (in_place_session_in session.new.handle.value) }
+    ensures filled { filled_in session.new.handle.value ≡ None }
     ensures none { result ≢ done → session.new.handle.value ≡ None }
     ensures table { table.new.handle.value ≡ table.old.handle.value }
 {
-    match opened(alloc, table, uuid, channels, frame, None, 0) {
+    match opened(alloc, table, uuid, channels, frame, None, 0, false) {
         Ok(object) => {
             session.handle = Handle::of(object);
             session.full = 1;
@@ -138,12 +173,14 @@ pub extern "C" fn zimgasol_in_place_session_new_within(
     requires table { IsSome (table_in table.old.handle.value) }
     ensures opens { OpensInto (table_in table.old.handle.value) uuid.now channels settings.now.frame (most_waiting settings.now.waiting) settings.now.round_end result
         (in_place_session_in session.new.handle.value) }
+    ensures filled { result ≡ done → IsFilledAtFirst (are_zeros settings.now.zero_blocks) (table_in table.old.handle.value) (filled_in session.new.handle.value) }
     ensures none { result ≢ done → session.new.handle.value ≡ None }
     ensures table { table.new.handle.value ≡ table.old.handle.value }
 {
     let waiting = waiting_of(settings.waiting);
     let (frame, ends) = (settings.frame, settings.round_end);
-    match opened(alloc, table, uuid, channels, frame, waiting, ends) {
+    let zeros = settings.zero_blocks != 0;
+    match opened(alloc, table, uuid, channels, frame, waiting, ends, zeros) {
         Ok(object) => {
             session.handle = Handle::of(object);
             session.full = 1;
@@ -161,9 +198,11 @@ fn feed(
     piece: &[u8],
     taken: &mut usize,
 ) -> u32
-    requires { IsSome (in_place_session_in (Some object.old)) }
-    ensures { Turns (FeedsBlocks source piece.now (mut_lent_bytes blocks.old) (mut_lent_bytes blocks.new) taken.new result)
+    requires load { IsSome (in_place_session_in (Some object.old)) }
+    requires zeros { AreZerosBut (filled_in (Some object.old)) (mut_lent_bytes blocks.old) }
+    ensures feeds { Turns (FeedsBlocks source piece.now (mut_lent_bytes blocks.old) (mut_lent_bytes blocks.new) taken.new result)
         (in_place_session_in (Some object.old)) (in_place_session_in (Some object.new)) }
+    ensures zeros { AreZerosBut (filled_in (Some object.new)) (mut_lent_bytes blocks.new) }
 {
     match object {
         Object::InPlaceSession(load) => load.feed(alloc, blocks, source, piece, taken),
@@ -183,8 +222,10 @@ pub extern "C" fn zimgasol_in_place_session_feed(
     taken: &mut usize,
 ) -> u32
     requires session { IsSome (in_place_session_in session.old.handle.value) }
+    requires zeros { AreZerosBut (filled_in session.old.handle.value) (mut_lent_bytes blocks.old) }
     ensures feeds { Turns (FeedsBlocks (source_of source) piece.now (mut_lent_bytes blocks.old) (mut_lent_bytes blocks.new) taken.new result)
         (in_place_session_in session.old.handle.value) (in_place_session_in session.new.handle.value) }
+    ensures zeros { AreZerosBut (filled_in session.new.handle.value) (mut_lent_bytes blocks.new) }
 {
     let mut object = session.handle.take().into_box(alloc);
     let status = feed(alloc, &mut object, blocks, source_of(source), piece, taken);
@@ -221,7 +262,8 @@ pub extern "C" fn zimgasol_in_place_session_takes(
 
 fn end(object: &mut Object, source: Source) -> u32
     requires { IsSome (in_place_session_in (Some object.old)) }
-    ensures { Turns (EndsSource source result) (in_place_session_in (Some object.old)) (in_place_session_in (Some object.new)) }
+    ensures ends { Turns (EndsSource source result) (in_place_session_in (Some object.old)) (in_place_session_in (Some object.new)) }
+    ensures filled { filled_in (Some object.new) ≡ filled_in (Some object.old) }
 {
     match object {
         Object::InPlaceSession(load) => load.end(source),
@@ -238,6 +280,7 @@ pub extern "C" fn zimgasol_in_place_session_end(
 ) -> u32
     requires session { IsSome (in_place_session_in session.old.handle.value) }
     ensures ends { Turns (EndsSource (source_of source) result) (in_place_session_in session.old.handle.value) (in_place_session_in session.new.handle.value) }
+    ensures filled { filled_in session.new.handle.value ≡ filled_in session.old.handle.value }
 {
     let mut object = session.handle.take().into_box(alloc);
     let status = end(&mut object, source_of(source));
@@ -434,6 +477,32 @@ pub extern "C" fn zimgasol_in_place_session_rounds(
 {
     let object = session.handle.take().into_box(alloc);
     let number = rounds(&object);
+    session.handle = Handle::of(object);
+    number
+}
+
+fn missing(object: &Object) -> u64
+    requires { IsSome (in_place_session_in (Some object.now)) }
+    ensures { Tells (TellsMissing result) (in_place_session_in (Some object.now)) }
+{
+    match object {
+        Object::InPlaceSession(load) => load.missing(),
+        _ => unreachable!(),
+    }
+}
+
+/// Returns how many pages of the blocks no record and no packet of the rounds counted named.
+#[unsafe(no_mangle)]
+pub extern "C" fn zimgasol_in_place_session_missing(
+    alloc: Global,
+    session: &mut InPlaceSessionHandle,
+) -> u64
+    requires session { IsSome (in_place_session_in session.old.handle.value) }
+    ensures same { session.new.handle.value ≡ session.old.handle.value }
+    ensures tells { Tells (TellsMissing result) (in_place_session_in session.old.handle.value) }
+{
+    let object = session.handle.take().into_box(alloc);
+    let number = missing(&object);
     session.handle = Handle::of(object);
     number
 }

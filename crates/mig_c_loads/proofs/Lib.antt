@@ -3,4 +3,6 @@ pub mod Moved
 pub mod LentBlocks
 pub mod PageReads
 pub mod PageTakes
+mod LeftOut
+mod NotedPages
 pub mod Headline

@@ -1,6 +1,6 @@
 -- Items that are moved out of a list one by one, each for another one.
-use Rattle.std.proofs.Common.{ℕ, ◌≡◌, ◌+◌, ◌<◌, ◌∙◌, List, length, take, drop, set, get_or, sym, ap, arith}
-use Rattle.std.proofs.lemmas.List.{drop-drop, drop-set-lt, get_or-drop, length-set}
+use Rattle.std.proofs.Common.{ℕ, ◌≡◌, ◌+◌, ◌∙◌, List, drop, set, get_or, sym, ap, arith}
+use Rattle.std.proofs.lemmas.List.{drop-drop, drop-set-lt, get_or-drop}
 
 -- the items from one on are still there, that one is taken, and those after it are still there
 pub still_there : {X : Type 0} (xs first : List X) (i : ℕ) (d : X) → drop i xs ≡ drop i first → get_or xs i d ≡ get_or first i d

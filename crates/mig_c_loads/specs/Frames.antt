@@ -1,6 +1,6 @@
 -- What C passes to a load beside its streams: what they are read as, what ends the rounds, and what
 -- may wait.
-use Rattle.std.specs.Prelude.{ℕ, ◌==◌, Option, None, Some, if◌then◌else◌}
+use Rattle.std.specs.Prelude.{ℕ, Bool, not, ◌==◌, Option, None, Some, if◌then◌else◌}
 use Rattle.std.specs.Option.{option_map, option_and_then}
 use Rattle.mig_stream.specs.declared.item.Frame.{Frame}
 use Rattle.mig_stream.specs.declared.item.Frame.TheVariants.{Ram, Machine}
@@ -19,6 +19,10 @@ round_end_of number = if number == 0 then Some Flush else if number == 1 then So
 -- the most page records of a section or a round: 0 sets no limit
 abbrev pub waiting_of : ℕ → Option ℕ
 waiting_of count = if count == 0 then None else Some count
+
+-- whether the blocks are zeros when a load begins: any number but 0 says so
+abbrev pub are_zeros : ℕ → Bool
+are_zeros number = not (number == 0)
 
 abbrev pub load_settings : ℕ → ℕ → Option ℕ → Frame → LoadSettings
 load_settings page_size limit waiting frame = record { page_size = page_size; limit = limit; frame = frame; waiting = waiting; round_end = Flush }

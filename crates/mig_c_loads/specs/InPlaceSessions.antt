@@ -16,6 +16,7 @@ use Rattle.mig_session.specs.declared.source.Source.{Source}
 use Rattle.mig_session.specs.declared.source.Source.TheVariants as source
 use Rattle.mig_session.specs.Session.{HasSource, count_of, feed_step, end_step, with_fed, with_end, IsSourceValidUpTo, HasFault}
 use Rattle.mig_in_place.specs.Sources.{counts_of}
+use Rattle.mig_in_place.specs.Missing.{HasMissing}
 use Rattle.mig_in_place.specs.Session.{InPlaceLoad, StandsFor, LacksMemory, StepsOn, StillLacks, RunsOut, Tells, TakesBytes, HasAllRounds, MoreMayCome}
 use Rattle.mig_c_calls.specs.Status.{IsOneOf, done, running, no_memory, bad_channels, bad_source, is_over, too_long, bad_length, bad_frame, bad_round_end}
 use Rattle.mig_c_loads.specs.Frames.{frame_of, round_end_of, with_round_end}
@@ -167,3 +168,7 @@ pub record TellsAllRounds (told : Bool) (s : InPlaceLoad) : Type 0 where
   pub more : IsFalse told → s.verdict ≡ Running → (memory : Image) → Tells memory s (λ given uuid first texts. MoreMayCome (for_table first.table given) uuid texts s.rounds)
   pub done : s.verdict ≡ Done → IsTrue told
   pub failed : IsTrue told → (s.verdict ≡ Running) ⊎ (s.verdict ≡ Done)
+
+-- how many pages of the blocks no record and no packet of the rounds counted named
+abbrev pub TellsMissing : ℕ → InPlaceLoad → Type 0
+TellsMissing missing s = (memory : Image) → Tells memory s (λ given uuid first texts. HasMissing (for_table first.table given) uuid first texts s.rounds missing)

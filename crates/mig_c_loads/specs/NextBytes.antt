@@ -3,6 +3,7 @@
 use Rattle.std.specs.Prelude.{◌≡◌, ◌≢◌, ◌<◌, ◌≤◌, ◌+◌, ◌*◌, ◌^◌, ◌++◌, ℕ, Bool, List, [], ◌∷◌, Option, None, Some, IfSome, IsTrue, IsFalse, false}
 use Rattle.mig_mem.specs.declared.place.Place.{Place}
 use Rattle.mig_mem.specs.Place.{IsPlace}
+use Rattle.mig_mem.specs.PlaceSet.{PlaceSet}
 use Rattle.mig_mem.specs.Image.{Image, content_at, with_page}
 use Rattle.mig_mem.specs.Lent.{FitTable, lent_image}
 use Rattle.mig_stream.specs.declared.wanted.Wanted.{Wanted}
@@ -10,6 +11,7 @@ use Rattle.mig_stream.specs.declared.wanted.Wanted.TheVariants as wanted
 use Rattle.mig_single_load.specs.declared.settings.LoadSettings.{LoadSettings}
 use Rattle.mig_single_load.specs.LoadInPlace.{LoadInPlace, LoadsInPlace, LacksMemory}
 use Rattle.mig_single_load.specs.ComesNext.{ComesNext, page_wanted, page_asked}
+use Rattle.mig_c_loads.specs.ZeroBlocks.{with_filled}
 use Rattle.mig_c_loads.specs.declared.next_bytes.NextBytes.{NextBytes}
 use Rattle.mig_c_calls.specs.Status.{IsOneOf, done, is_over, too_long, bad_length, out_of_turn}
 
@@ -68,3 +70,7 @@ pub record TakesPage (blocks : List (List ℕ)) (status : ℕ) (old new : LoadIn
   pub same_rounds : new.rounds ≡ old.rounds
   pub same_table : new.table ≡ old.table
   pub same : status ≢ done → new ≡ old
+
+-- Of blocks that were zeros, the page that was taken may hold something else.
+abbrev pub FillsPage : ℕ → LoadInPlace → Option PlaceSet → Option PlaceSet → Type 0
+FillsPage status load old new = (status ≡ done → new ≡ with_filled (page_wanted load) old) × (status ≢ done → new ≡ old)

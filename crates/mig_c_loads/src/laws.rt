@@ -2,6 +2,7 @@
 //! sent. It joins the clauses of the calls of `mig_c_calls` and of this crate.
 
 ghost use Rattle.mig_c_loads.specs.Headline.{DrainedIsLoaded, DrainedMachineStreamIsLoaded, DrainedChannelsAreLoaded, DrainedMachineIsLoaded};
+ghost use Rattle.mig_c_loads.specs.Filling.{PagesReadAreNoted};
 
 /// What was copied out of a sender of one stream is loaded into blocks, in whatever pieces it was
 /// fed.
@@ -24,4 +25,11 @@ pub fn drained_channels_are_loaded()
 /// So it is with a machine's main stream, whatever follows RAM's END.
 pub fn drained_machine_is_loaded()
     ensures { DrainedMachineIsLoaded }
+{}
+
+/// Blocks that are zeros but for the pages that a load notes stay so, as C reads a page of a stream
+/// to its place, and as it reads the pages of a packet to theirs and clears its pages of zeros. So
+/// the blocks are as the next call asks.
+pub fn pages_read_are_noted()
+    ensures { PagesReadAreNoted }
 {}

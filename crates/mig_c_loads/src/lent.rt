@@ -6,9 +6,10 @@
 
 ghost use Rattle.std.specs.Prelude.{◌≡◌, ◌↔◌, [], IsTrue, IfOk, OnErr, length};
 ghost use Rattle.mig_mem.specs.Lent.{mut_lent_bytes, FitTable};
+ghost use Rattle.mig_c_loads.specs.ZeroBlocks.{filled_at_first};
 
 use crate::putting::{clear_page, write_page};
-use mig_mem::{GuestTarget, NoMemory, Place, Table};
+use mig_mem::{Dirty, GuestTarget, NoMemory, Place, Table};
 use std::alloc::Global;
 use std::marker::Model;
 use std::mem;
@@ -91,4 +92,19 @@ pub(crate) fn put_back<'b>(list: &mut [&'b mut [u8]], blocks: &mut [&'b mut [u8]
     for i in 0..list.len() {
         blocks[i] = mem::take(&mut list[i]);
     }
+}
+
+/// Returns the pages that hold something else than zeros at first, which are none, if C's blocks
+/// are zeros.
+pub(crate) fn nothing_filled(
+    alloc: Global,
+    table: &Table<Global>,
+    zero_blocks: bool,
+) -> Result<Option<Dirty<Global>>, NoMemory>
+    ensures { IfOk result (λ filled. filled ≡ filled_at_first zero_blocks table.now) }
+{
+    if !zero_blocks {
+        return Ok(None);
+    }
+    Ok(Some(Dirty::none(alloc, table)?))
 }

@@ -3,7 +3,8 @@
 //! They work on a loader of one stream (`loading`), a session (`sources`), and the loads into
 //! blocks of C (`held_load`, `held_session`). The blocks are lent to a call (`lent`), which writes
 //! pages into their bytes (`putting`). Of a load whose pages C reads to their places
-//! (`held_apart`) C sees which pages it claimed (`claimed_pages`). C passes the numbers of a frame
+//! (`held_apart`) C sees which pages it claimed (`claimed_pages`), and which of them may hold
+//! something else than zeros (`filling`). C passes the numbers of a frame
 //! and of what ends rounds, and settings (`frame`, `round_end`, `settings`). It sees a load's
 //! fault (`fault`) and what the next bytes are (`next_bytes`), and reads the pages of the memory
 //! (`reading`). Statuses are those of `mig_c_calls`. What C's senders sent, these loads load
@@ -12,6 +13,7 @@
 
 mod claimed_pages;
 mod fault;
+mod filling;
 mod frame;
 mod held_apart;
 mod held_load;
@@ -34,7 +36,7 @@ pub use held_load::HeldLoad;
 pub use held_session::HeldSession;
 pub use laws::{
     drained_channels_are_loaded, drained_is_loaded, drained_machine_is_loaded,
-    drained_machine_stream_is_loaded,
+    drained_machine_stream_is_loaded, pages_read_are_noted,
 };
 pub use loading::{fault_of, feed_loader, loader_closed_at, settle_loader};
 pub use next_bytes::NextBytes;

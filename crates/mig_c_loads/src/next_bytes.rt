@@ -74,8 +74,8 @@ pub(crate) fn wanted(state: &InPlaceState<Global>, next: &mut NextBytes) -> bool
     }
 }
 
-// Returns the page whose content comes next, if one does.
-fn next_page(state: &InPlaceState<Global>) -> Option<Place>
+/// Returns the page whose content comes next, if one does.
+pub(crate) fn next_page(state: &InPlaceState<Global>) -> Option<Place>
     ensures page { result ≡ page_wanted state.now }
     ensures place { IfSome result (IsPlace state.now.table) }
 {

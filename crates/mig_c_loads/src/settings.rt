@@ -4,7 +4,7 @@ ghost use Rattle.std.specs.Prelude.{◌≡◌};
 ghost use Rattle.mig_c_loads.specs.Frames.{waiting_of};
 
 /// The settings of a load. All zeros are those of a stream of RAM's sections alone, whose rounds
-/// end with FLUSH, with no limit on the page records that wait.
+/// end with FLUSH, with no limit on the page records that wait, into blocks that hold anything.
 #[repr(C)]
 #[derive(Clone, Copy)]
 pub struct AskedSettings {
@@ -14,8 +14,10 @@ pub struct AskedSettings {
     pub round_end: u32,
     /// The most page records of a section, or of a round of a main stream; 0 sets no limit.
     pub waiting: u64,
+    /// Whether the blocks of C hold zeros when the load begins: not if it is 0.
+    pub zero_blocks: u64,
     /// Zeros, as room for what may come.
-    pub reserved: [u64; 6],
+    pub reserved: [u64; 5],
 }
 
 /// Returns the limit on the page records that wait, if C sets one.

@@ -340,6 +340,7 @@ static int load_guest(zimgasol_table *table, const streams *from) {
     if (load_apart(table, from)) return 1;
     WANT(zimgasol_apart_verdict(&run.load, &fault) == ZIMGASOL_DONE);
     WANT(zimgasol_apart_rounds(&run.load) == ROUNDS && zimgasol_apart_has_all_rounds(&run.load));
+    WANT(zimgasol_apart_missing(&run.load) == 0);
     WANT(zimgasol_apart_claimed(&run.load) == 0 && run.taken == ROUNDS * (PAGES / LIMIT + 1));
     WANT(zimgasol_apart_closed_at(&run.load, &at) == ZIMGASOL_DONE && at == from->len[0]);
     for (size_t s = 0; s <= CHANNELS; s++) {

@@ -203,11 +203,14 @@ static void load(zimgasol_table *table, size_t cut) {
 static size_t take_packet(zimgasol_apart *load, size_t source, const uint8_t *head, size_t left) {
     zimgasol_lent contents[2];
     zimgasol_pages pages;
+    uint64_t claimed;
     uint32_t status;
     if (left < HEAD) return 0;
     status = zimgasol_apart_claim(load, source - 1, head, HEAD, &pages);
     if (status == ZIMGASOL_TO_FEED) return 0;
-    WANT(status == ZIMGASOL_RUNNING && pages.block == 0 && pages.normal + pages.zero <= 2);
+    WANT(status == ZIMGASOL_RUNNING && pages.block == 0);
+    claimed = zimgasol_apart_claimed(load); /* pages of zeros that needn't be cleared, too */
+    WANT(claimed <= 2 && claimed >= pages.normal + pages.zero);
     for (size_t i = 0; i < pages.normal + pages.zero; i++) {
         uint8_t *page = loaded + pages.pages[i] * PAGE;
         if (i < pages.normal) memcpy(page, head + HEAD + i * PAGE, PAGE);
@@ -216,7 +219,7 @@ static size_t take_packet(zimgasol_apart *load, size_t source, const uint8_t *he
     }
     status = zimgasol_apart_take(load, source - 1, head, HEAD, contents, pages.normal);
     if (status == ZIMGASOL_NO_MEMORY) {
-        WANT(refusals == 1 && zimgasol_apart_claimed(load) == pages.normal + pages.zero);
+        WANT(refusals == 1 && zimgasol_apart_claimed(load) == claimed);
         status = zimgasol_apart_take(load, source - 1, head, HEAD, contents, pages.normal);
     }
     WANT(status == ZIMGASOL_RUNNING && zimgasol_apart_claimed(load) == 0);
@@ -258,14 +261,16 @@ static int loads_apart(zimgasol_apart *load) {
     return 1;
 }
 
-static void load_apart(zimgasol_table *table) {
+/* Loads into blocks that are zeros, of which the load is told, or hold something else. */
+static void load_apart(zimgasol_table *table, bool zeros) {
     zimgasol_apart load = {0};
-    zimgasol_settings settings = {0};
+    zimgasol_settings settings = {.zero_blocks = zeros};
     zimgasol_fault fault;
-    memset(loaded, 0xEE, sizeof loaded);
+    memset(loaded, zeros ? 0 : 0xEE, sizeof loaded);
     AGAIN(zimgasol_apart_new(&load, table, uuid, 16, CHANNELS, &settings));
     if (!loads_apart(&load)) {
         zimgasol_apart_free(&load);
+        memset(loaded, zeros ? 0 : 0xEE, sizeof loaded);
         AGAIN(zimgasol_apart_new(&load, table, uuid, 16, CHANNELS, &settings));
         WANT(loads_apart(&load));
     }
@@ -290,7 +295,8 @@ int main(void) {
         send_named(&table);
         load(&table, MOST);
         load(&table, 1000);
-        load_apart(&table);
+        load_apart(&table, false);
+        load_apart(&table, true);
         zimgasol_table_free(&table);
         WANT(held == 0);
         runs++;

@@ -21,4 +21,4 @@ places-preserved g c =
     let table : RamTable = c.args.claimed.now.table in
     let head : List ℕ = c.args.head.now.bytes.now in
     let same : c.place.result ≡ nth table c.args.block head c.places.i = c.place.ensures ∙ ap (λ (n : ℕ). place_at c.args.block (offset_at head c.places.i / n)) c.requires.page_size in
-    claimed_more table c.args.block head c.places.i c.args.claimed.now c.places.claimed c.mark.new.self (c.mark.ensures.set ∙ ap (λ (p : Place). with_place c.places.claimed p) same) c.places.invariant
+    claimed_more table (nth table c.args.block head) c.places.i c.args.claimed.now c.places.claimed c.mark.new.self (c.mark.ensures.set ∙ ap (λ (p : Place). with_place c.places.claimed p) same) c.places.invariant

@@ -21,4 +21,4 @@ places-preserved g c =
     let table : RamTable = c.args.claimed.now.table in
     let head : List ℕ = c.args.head.now.bytes.now in
     let same : c.place.result ≡ nth table c.args.block head c.places.i = c.place.ensures ∙ ap (λ (n : ℕ). place_at c.args.block (offset_at head c.places.i / n)) c.requires.page_size in
-    freed_more table c.args.block head c.places.i c.args.claimed.now c.places.claimed c.unmark.new.self (c.unmark.ensures ∙ ap (λ (p : Place). without_place c.places.claimed p) same) c.places.invariant
+    freed_more table (nth table c.args.block head) c.places.i c.args.claimed.now c.places.claimed c.unmark.new.self (c.unmark.ensures ∙ ap (λ (p : Place). without_place c.places.claimed p) same) c.places.invariant

@@ -14,7 +14,7 @@ err_not_ok : (r : Result ⊤ InPlaceFault) (e : InPlaceFault) → r ≡ Err e �
 err_not_ok r e is ok = absurd (let other = ap (λ (x : Result ⊤ InPlaceFault). is_ok x) is in cc)
 
 pub returns-in-Ok-clause-feeds : goal.returns-in-Ok-clause-feeds
-returns-in-Ok-clause-feeds c =
+returns-in-Ok-clause-feeds g c =
     let own : c.feed.result ≡ Err OtherTable → ⊥ = λ other. absurd (c.feed.ensures.other.0 other c.requires.table) in
     record {
       is_named = refl;
@@ -27,7 +27,7 @@ returns-in-Ok-clause-feeds c =
     }
 
 pub returns-in-Err-clause-feeds : goal.returns-in-Err-clause-feeds
-returns-in-Err-clause-feeds c =
+returns-in-Err-clause-feeds g c =
     let own : c.feed.result ≡ Err OtherTable → ⊥ = λ other. absurd (c.feed.ensures.other.0 other c.requires.table) in
     let none : c.feed.result ≡ Err NoMemory = other_way c.feed.result c.in-Err.field-0 c.in-Err.is own in
     record {

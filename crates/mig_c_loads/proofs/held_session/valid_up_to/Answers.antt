@@ -1,4 +1,4 @@
-use Rattle.std.proofs.Common.{◌≡◌, ℕ, Option, Some, None, refl, subst, arith}
+use Rattle.std.proofs.Common.{◌≡◌, ℕ, Option, None, refl, subst}
 use Rattle.mig_single_load.specs.Settings.{for_table}
 use Rattle.mig_session.specs.Session.{IsSourceValidUpTo}
 use Rattle.mig_c_loads.proofs.held_session.valid_up_to.Goals as goal

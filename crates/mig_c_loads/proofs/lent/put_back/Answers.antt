@@ -1,6 +1,5 @@
-use Rattle.std.proofs.Common.{ℕ, ◌≡◌, ◌∙◌, List, [], ◌∷◌, ◌++◌, length, take, sym, ap, arith}
+use Rattle.std.proofs.Common.{ℕ, ◌∙◌, List, [], ◌∷◌, ◌++◌, take, sym, ap, arith}
 use Rattle.std.specs.Borrow.{MutBor}
-use Rattle.std.proofs.Math.Seq.{take-length}
 use Rattle.std.proofs.lemmas.List.{take_more, take_more_set, length-set}
 use Rattle.mig_c_loads.proofs.Moved.{still_there, next_there}
 use Rattle.mig_c_loads.proofs.lent.put_back.Goals as goal

@@ -1,4 +1,4 @@
-use Rattle.std.proofs.Common.{◌≡◌, ℕ, List, Option, Some, None, refl, subst, arith}
+use Rattle.std.proofs.Common.{◌≡◌, ℕ, List, Option, None, refl, subst, arith}
 use Rattle.std.specs.Prelude.{IfSome}
 use Rattle.mig_stream.specs.Reader.{IsClosedAt, HasClosedAt}
 use Rattle.mig_single_load.specs.declared.settings.LoadSettings.{LoadSettings}

@@ -1,4 +1,4 @@
-use Rattle.std.proofs.Common.{◌≡◌, ℕ, Option, Some, None, refl, subst, arith}
+use Rattle.std.proofs.Common.{◌≡◌, ℕ, Option, None, refl, subst}
 use Rattle.mig_session.specs.Session.{AsRead, IsSourceValidUpTo}
 use Rattle.mig_c_loads.proofs.sources.valid_up_to_of.Goals as goal
 

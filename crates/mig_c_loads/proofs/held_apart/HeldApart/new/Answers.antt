@@ -1,4 +1,4 @@
-use Rattle.std.proofs.Common.{◌≡◌, ◌∙◌, ◌^◌, ℕ, List, length, refl, ap, subst}
+use Rattle.std.proofs.Common.{◌∙◌, ◌^◌, ℕ, length, refl, ap, subst}
 use Rattle.std.proofs.lemmas.List.{length-replicate}
 use Rattle.mig_mem.specs.Image.{Image}
 use Rattle.mig_mem.specs.Lent.{lent_image}

@@ -6,8 +6,8 @@ use Rattle.mig_single_load.specs.LoadInPlace.{LoadsInPlace}
 use Rattle.mig_c_loads.specs.Frames.{load_settings}
 use Rattle.mig_c_loads.proofs.held_load.HeldLoad.new.Goals as goal
 
-pub returns : goal.returns
-returns c =
+pub returns-clause-begins : goal.returns-clause-begins
+returns-clause-begins c =
     let state = c.in_ok-state.state in
     record {
       same_table = c.in_ok-state.ensures.table;

@@ -1,4 +1,6 @@
-use Rattle.std.proofs.Common.{◌≡◌, ◌∙◌, ◌^◌, ℕ, List, length, refl, ap, subst}
+use Rattle.std.proofs.Common.{◌≡◌, ◌∙◌, ◌^◌, ℕ, length, Option, Some, refl, sym, ap, subst}
+use Rattle.mig_mem.specs.RamTable.{RamTable}
+use Rattle.mig_c_loads.proofs.NotedPages.{noted_at_first}
 use Rattle.std.proofs.lemmas.List.{length-replicate}
 use Rattle.mig_mem.specs.Image.{Image}
 use Rattle.mig_mem.specs.Lent.{lent_image}
@@ -10,8 +12,15 @@ use Rattle.mig_in_place.specs.Session.{StandsFor}
 use Rattle.mig_c_loads.specs.Frames.{load_settings, with_round_end}
 use Rattle.mig_c_loads.proofs.held_session.HeldSession.new.Goals as goal
 
-pub returns : goal.returns
-returns c =
+pub invariant_of-result : goal.invariant_of-result
+invariant_of-result c =
+    let same : c.args.table.now ≡ c.in_ok-session.session.table = sym c.in_ok-session.ensures.table in (
+      ap (λ (t : RamTable). let some : Option RamTable = Some t in some) (c.in_ok-copy_in.ensures ∙ same),
+      noted_at_first c.args.zero_blocks c.args.table.now c.in_ok-session.session.table c.in_ok-filled.filled c.in_ok-filled.ensures same,
+    )
+
+pub returns-clause-begins : goal.returns-clause-begins
+returns-clause-begins c =
     let session = c.in_ok-session.session in
     record {
       same_table = c.in_ok-session.ensures.table;

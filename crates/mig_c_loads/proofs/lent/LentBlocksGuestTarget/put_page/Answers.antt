@@ -1,9 +1,6 @@
-use Rattle.std.proofs.Common.{ℕ, ◌≡◌, ◌∙◌, List, sym, ap, get_or, subst, length}
-use Rattle.std.proofs.lemmas.List.{length-replicate}
-use Rattle.std.specs.Borrow.{MutBor}
-use Rattle.mig_mem.specs.RamTable.{RamTable}
+use Rattle.std.proofs.Common.{◌∙◌, sym, ap}
 use Rattle.mig_mem.specs.Place.{IsPlace}
-use Rattle.mig_mem.specs.Image.{Image, with_page, zero_page}
+use Rattle.mig_mem.specs.Image.{Image, with_page}
 use borrow.Rule.Slice.Mut.{set_vals}
 use Rattle.mig_c_loads.proofs.LentBlocks.{block_written}
 use Rattle.mig_c_loads.proofs.lent.LentBlocksGuestTarget.put_page.Goals as goal

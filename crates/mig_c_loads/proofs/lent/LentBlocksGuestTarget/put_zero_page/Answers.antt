@@ -1,7 +1,5 @@
-use Rattle.std.proofs.Common.{ℕ, ◌≡◌, ◌∙◌, List, sym, ap, get_or, subst, length}
+use Rattle.std.proofs.Common.{ℕ, ◌∙◌, sym, ap}
 use Rattle.std.proofs.lemmas.List.{length-replicate}
-use Rattle.std.specs.Borrow.{MutBor}
-use Rattle.mig_mem.specs.RamTable.{RamTable}
 use Rattle.mig_mem.specs.Place.{IsPlace}
 use Rattle.mig_mem.specs.Image.{Image, with_page, zero_page}
 use borrow.Rule.Slice.Mut.{set_vals}
