@@ -13,16 +13,23 @@
 /* How many bytes are read at once. */
 enum { READ = 1 << 18 };
 
-uint64_t processor_now(void) {
+static uint64_t clock_now(clockid_t clock) {
     struct timespec at;
-    if (clock_gettime(CLOCK_THREAD_CPUTIME_ID, &at) != 0) give_up("the clock can't be read");
+    if (clock_gettime(clock, &at) != 0) give_up("the clock can't be read");
     return (uint64_t)at.tv_sec * 1000000000 + (uint64_t)at.tv_nsec;
+}
+
+uint64_t processor_now(void) {
+    return clock_now(CLOCK_THREAD_CPUTIME_ID);
+}
+
+uint64_t program_now(void) {
+    return clock_now(CLOCK_PROCESS_CPUTIME_ID);
 }
 
 /* ---- the writer */
 
-/* Writes all of some buffers, of which it changes the list. */
-static void write_parts(int to, struct iovec *parts, int count) {
+void write_parts(int to, struct iovec *parts, int count) {
     while (count > 0) {
         ssize_t len = writev(to, parts, count);
         if (len < 0 && errno == EINTR) continue;
@@ -73,10 +80,41 @@ static void write_plain(channel *c) {
     }
 }
 
-static void drain(channel *c, uint8_t *out, size_t room) {
+int list_tested(const guest *of, uint64_t first, uint64_t end, plain_head *head,
+    struct iovec *parts) {
+    uint64_t zeros[PACKET];
+    int count = 1;
+    parts[0] = (struct iovec){head, sizeof *head};
+    head->normal = head->zero = 0;
+    for (uint64_t page = first; page < end; page++) {
+        uint8_t *bytes = of->bytes + page * PAGE;
+        if (is_zero(bytes)) {
+            zeros[head->zero++] = page;
+            continue;
+        }
+        head->pages[head->normal++] = page;
+        count = with_page(parts, count, bytes);
+    }
+    memcpy(head->pages + head->normal, zeros, head->zero * sizeof *zeros);
+    return count;
+}
+
+/* Writes packets of as many bytes, of pages that are tested. */
+static void write_tested(channel *c) {
+    const guest *g = c->of->guest;
+    struct iovec parts[1 + PACKET];
+    plain_head head = {0};
+    uint64_t first;
+    while ((first = atomic_fetch_add(&c->of->next, PACKET)) < g->pages) {
+        uint64_t end = g->pages - first < PACKET ? g->pages : first + PACKET;
+        write_parts(c->ends[0], parts, list_tested(g, first, end, &head, parts));
+    }
+}
+
+static void drain(channel *c, uint8_t *room) {
     size_t len;
-    while ((len = zimgasol_worker_drain(&c->worker, out, room)) > 0)
-        write_bytes(c->ends[0], out, len);
+    while ((len = zimgasol_worker_drain(&c->worker, room, ROOM)) > 0)
+        write_bytes(c->ends[0], room, len);
 }
 
 /* Writes the next packet by its head and its pages from where they lie. */
@@ -102,21 +140,25 @@ static zimgasol_status write_copy(channel *c, const zimgasol_batch *batch, uint8
     for (size_t i = 0; i < batch->count; i++)
         memcpy(copy + i * PAGE, c->of->guest->bytes + batch->pages[i] * PAGE, PAGE);
     zimgasol_status status = zimgasol_worker_pack(&c->worker, copy, batch->count * PAGE);
-    if (status == ZIMGASOL_RUNNING) drain(c, copy, PACKET * PAGE + HEAD);
+    if (status == ZIMGASOL_RUNNING) drain(c, copy);
     return status;
 }
 
-static void write_packets(channel *c) {
-    uint8_t *room = taken(malloc(PACKET * PAGE + HEAD), "a packet");
+bool write_packet(channel *c, uint8_t *room) {
     zimgasol_batch batch;
-    zimgasol_status status;
-    drain(c, room, PACKET * PAGE);
-    while ((status = zimgasol_worker_next(&c->worker, &batch)) == ZIMGASOL_RUNNING) {
+    drain(c, room); /* the hello, at first */
+    zimgasol_status status = zimgasol_worker_next(&c->worker, &batch);
+    if (status == ZIMGASOL_RUNNING)
         status = c->of->by == HEADS ? write_head(c, &batch) : write_copy(c, &batch, room);
-        if (status != ZIMGASOL_RUNNING) break;
-    }
+    if (status == ZIMGASOL_RUNNING) return true;
     check(status, "worker");
-    drain(c, room, PACKET * PAGE);
+    drain(c, room);
+    return false;
+}
+
+static void write_packets(channel *c) {
+    uint8_t *room = taken(malloc(ROOM), "a packet");
+    while (write_packet(c, room)) continue;
     free(room);
 }
 
@@ -124,6 +166,7 @@ static void *write_channel(void *of) {
     channel *c = of;
     uint64_t began = processor_now();
     if (c->of->by == PLAIN) write_plain(c);
+    else if (c->of->by == TESTED) write_tested(c);
     else write_packets(c);
     close(c->ends[0]);
     c->writing = processor_now() - began;
@@ -153,7 +196,7 @@ void start_channel(channel *c, writing *of, size_t number, void *(*read)(void *)
     c->of = of;
     c->number = number;
     c->into = into;
-    if (of->by != PLAIN) check(zimgasol_multi_worker(&of->multi, &c->worker), "multi_worker");
+    if (of->by >= HEADS) check(zimgasol_multi_worker(&of->multi, &c->worker), "multi_worker");
     if (socketpair(AF_UNIX, SOCK_STREAM, 0, c->ends) != 0) give_up("no sockets");
     if (pthread_create(&c->reader, NULL, read, c) != 0 ||
         pthread_create(&c->writer, NULL, write_channel, c) != 0)
@@ -163,7 +206,7 @@ void start_channel(channel *c, writing *of, size_t number, void *(*read)(void *)
 void end_channel(channel *c, cost *all) {
     if (pthread_join(c->writer, NULL) != 0 || pthread_join(c->reader, NULL) != 0)
         give_up("a thread can't be joined");
-    if (c->of->by != PLAIN)
+    if (c->of->by >= HEADS)
         check(zimgasol_multi_give_back(&c->of->multi, &c->worker), "multi_give_back");
     all->writing += c->writing;
     all->reading += c->reading;

@@ -2,7 +2,8 @@
  * guest that is sent and loaded, and streams that are kept in memory.
  *
  * A figure is the least time of five runs, as a ratio to a copy of the same bytes in the same run
- * of the program, since times alone don't compare from one machine to another.
+ * of the program, since times alone don't compare from one machine to another. Transfers have
+ * medians, since their threads share the processors.
  */
 #ifndef YARDSTICK_H
 #define YARDSTICK_H
@@ -150,7 +151,7 @@ void streams_free(streams *of);
 void run_load(uint64_t pages);
 void run_multi(uint64_t pages);
 void run_sockets(uint64_t pages);
-void run_transfer(uint64_t pages);
+void run_transfer(uint64_t pages, uint64_t runs);
 void run_load_multi(uint64_t pages);
 void run_hostile(void);
 
