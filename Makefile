@@ -38,7 +38,7 @@ lib: header ## half an hour and more | proves and builds the library for C: out/
 install: ## at once, after lib or program | puts what was built, and its page, below PREFIX=DIR
 	@tools/install.sh "$(PREFIX)"
 
-example: lib ## five minutes, after lib | builds and runs the C programs of examples/c
+example: lib ## three minutes, after lib | builds and runs the C programs of examples/c
 	@tools/example.py
 
 bench: ## at once, after lib | builds the benchmarks of the library for C: out/bench
