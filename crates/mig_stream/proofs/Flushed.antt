@@ -26,6 +26,7 @@ use Rattle.mig_stream.specs.Reading.{IsItem, AreFaultless, after_all, Front, End
 use Rattle.mig_stream.specs.Flushed.{is_eos_kind, is_eos, flush_before, flushed, one_if, eos_count, from, SectionsAreFlushed}
 use Rattle.mig_stream.proofs.Fronts.{Front-none, Front-append}
 use Rattle.mig_stream.proofs.Feeding.{front_item}
+use Rattle.mig_stream.proofs.Later.{choice}
 use Rattle.mig_stream.proofs.SpelledItems.{bare_front}
 use Rattle.mig_stream.proofs.Steps.{IsLater-front, passed, not_size}
 use Rattle.mig_stream.proofs.NoPageSize.{unsized_record}
@@ -73,11 +74,6 @@ faults_same c (Passed passed) item e = refl
 faults_same c Nothing item e = refl
 
 -- ---- an item that is no EOS leads to the same point
-
--- a test chooses between two, and what is said of it holds of both
-choice : {A B : Type 0} (f : A → B) (b : Bool) (x y : A) → f (cond b x y) ≡ cond b (f x) (f y)
-choice f true x y = refl
-choice f false x y = refl
 
 after_type_same : (c : StreamProgress) (b : ℕ) → after_type (to_flush c) b ≡ to_flush (after_type c b)
 after_type_same c b = sym (simp (choice to_flush))

@@ -146,7 +146,7 @@ entries_at Behind c d bytes r = record {
 }
 
 -- an entry, its tail, the other entries, and all that is left
-regroup_entry : (e t r m : List ℕ) → (e ++ (t ++ r)) ++ m ≡ e ++ (t ++ (r ++ m))
+pub regroup_entry : (e t r m : List ℕ) → (e ++ (t ++ r)) ++ m ≡ e ++ (t ++ (r ++ m))
 regroup_entry e t r m = append_assoc e (t ++ r) m ∙ ap (λ (x : List ℕ). e ++ x) (append_assoc t r m)
 
 -- how far the stream has been read after an entry

@@ -35,7 +35,7 @@ use Rattle.mig_stream.proofs.Between.{closed_is_empty}
 use Rattle.mig_stream.proofs.Exists.{read_on}
 use Rattle.mig_stream.proofs.Fronts.{Front-none, Front-append, work}
 use Rattle.mig_stream.proofs.Feeding.{front_item, unfinished, reads_short}
-use Rattle.mig_stream.proofs.Later.{Front-taken, Ends-taken}
+use Rattle.mig_stream.proofs.Later.{choice, Front-taken, Ends-taken}
 use Rattle.mig_stream.proofs.Limits.{few_front, none_first}
 use Rattle.mig_stream.proofs.Placing.{placed_so_far}
 use Rattle.mig_stream.proofs.Steps.{IsLater-front}
@@ -150,11 +150,6 @@ after_head-open : (b : List PageRecord) (c : StreamProgress) (k : Option RecordK
 after_head-open b c None page single = refl
 after_head-open b c (Some k) page single = after_kind-open b c k page single
 
--- a test chooses between two, and what is said of it holds of both
-choice : {A B : Type 0} (f : A → B) (b : Bool) (x y : A) → f (cond b x y) ≡ cond b (f x) (f y)
-choice f true x y = refl
-choice f false x y = refl
-
 after_type-open : (b : List PageRecord) (c : StreamProgress) (byte : ℕ) → after_type (with_open b c) byte ≡ with_open b (after_type c byte)
 after_type-open b c byte = sym (simp (choice (with_open b)))
 
@@ -186,7 +181,7 @@ end_section-open b c =
     ap (λ (x : List PageRecord). record (end_section c) { records = x; rounds = whole_rounds c.mode (rounds_behind b c.rounds) (records_behind b c.rounds c.records) }) (footer_records b c.mode c.rounds c.records)
     ∙ ap (λ (x : List (List PageRecord)). record (end_section c) { records = records_behind b (whole_rounds c.mode c.rounds c.records) (open_records c.mode c.records); rounds = x }) (footer_rounds b c.mode c.rounds c.records)
 
-after_item-open : (b : List PageRecord) (c : StreamProgress) (d : Due) (item : List ℕ) → c.mode ≡ Single → after_item (with_open b c) d item ≡ with_open b (after_item c d item)
+pub after_item-open : (b : List PageRecord) (c : StreamProgress) (d : Due) (item : List ℕ) → c.mode ≡ Single → after_item (with_open b c) d item ≡ with_open b (after_item c d item)
 after_item-open b c FileHeader item single = refl
 after_item-open b c (TypeByte before) item single = after_type_byte-open b c before (slice_index item 0)
 after_item-open b c ConfigLength item single = refl
@@ -207,10 +202,10 @@ after_item-open b c (Passed passed) item single = refl
 after_item-open b c Nothing item single = refl
 
 -- an item leaves a single stream one
-single_after : (c : StreamProgress) (item : List ℕ) (items : List (List ℕ)) → c.mode ≡ Single → AreFaultless c (item ∷ items) → (after c item).mode ≡ Single
+pub single_after : (c : StreamProgress) (item : List ℕ) (items : List (List ℕ)) → c.mode ≡ Single → AreFaultless c (item ∷ items) → (after c item).mode ≡ Single
 single_after c item items single free = (IsLater-front c (after c item) item (front_item c item free.0 free.1)).same_mode (ap is_open single) ∙ single
 
-AreFaultless-open : (b : List PageRecord) (c : StreamProgress) (items : List (List ℕ)) → c.mode ≡ Single → AreFaultless c items → AreFaultless (with_open b c) items
+pub AreFaultless-open : (b : List PageRecord) (c : StreamProgress) (items : List (List ℕ)) → c.mode ≡ Single → AreFaultless c items → AreFaultless (with_open b c) items
 AreFaultless-open b c [] single free = tt
 AreFaultless-open b c (item ∷ items) single free = (
   record { is_due = free.0.is_due; is_whole = free.0.is_whole },
@@ -218,7 +213,7 @@ AreFaultless-open b c (item ∷ items) single free = (
   subst (λ (x : StreamProgress). AreFaultless x items) (sym (after_item-open b c c.due item single)) (AreFaultless-open b (after c item) items (single_after c item items single free) free.2),
 )
 
-after_all-open : (b : List PageRecord) (c : StreamProgress) (items : List (List ℕ)) → c.mode ≡ Single → AreFaultless c items → after_all (with_open b c) items ≡ with_open b (after_all c items)
+pub after_all-open : (b : List PageRecord) (c : StreamProgress) (items : List (List ℕ)) → c.mode ≡ Single → AreFaultless c items → after_all (with_open b c) items ≡ with_open b (after_all c items)
 after_all-open b c [] single free = refl
 after_all-open b c (item ∷ items) single free =
     ap (λ (x : StreamProgress). after_all x items) (after_item-open b c c.due item single) ∙ after_all-open b (after c item) items (single_after c item items single free) free.2
@@ -239,7 +234,7 @@ Ends-open b c rest (Bad f) single e = (e.0, e.1, e.2, record { is_due = e.3.is_d
 -- ---- reading on
 
 -- it is a single stream that is read
-reads_single : (given : Settings) (text : List ℕ) (so_far : GivenSoFar) (r : Giver) → Gives given text so_far r → r.progress.mode ≡ Single
+pub reads_single : (given : Settings) (text : List ℕ) (so_far : GivenSoFar) (r : Giver) → Gives given text so_far r → r.progress.mode ≡ Single
 reads_single given text so_far r g =
     (IsLater-front (start given.frame given.mode given.page_size given.limit given.waiting) (all_read so_far r.progress) g.front g.leads).same_mode (ap is_open g.is_single) ∙ g.is_single
 
@@ -295,7 +290,7 @@ none_open c = ap (λ (x : List PageRecord). record c { records = x; rounds = rou
     same_rounds (r ∷ rounds) = refl
 
 -- the first whole round that waits is the end of the open section
-all_last : (so_far : GivenSoFar) (old new : StreamProgress) (records : List PageRecord) → old ≡ with_taken (records ∷ []) new → all_read so_far old ≡ all_read (with_last records so_far) new
+pub all_last : (so_far : GivenSoFar) (old new : StreamProgress) (records : List PageRecord) → old ≡ with_taken (records ∷ []) new → all_read so_far old ≡ all_read (with_last records so_far) new
 all_last so_far old new records is =
     let q : List (List PageRecord) = so_far.sections in
     let whole : List PageRecord = so_far.open_section ++ records in
@@ -304,7 +299,7 @@ all_last so_far old new records is =
     ∙ ap (with_taken (q ++ whole ∷ [])) (sym (none_open new))
 
 -- if none is whole, the records that wait are of the open section
-all_more : (so_far : GivenSoFar) (old new : StreamProgress) → old.rounds ≡ [] → new ≡ record old { records = [] } → all_read so_far old ≡ all_read (with_more old.records so_far) new
+pub all_more : (so_far : GivenSoFar) (old new : StreamProgress) → old.rounds ≡ [] → new ≡ record old { records = [] } → all_read so_far old ≡ all_read (with_more old.records so_far) new
 all_more so_far old new none is =
     let q : List (List PageRecord) = so_far.sections in
     let b : List PageRecord = so_far.open_section in

@@ -77,7 +77,7 @@ after_head-taken g c None page = refl
 after_head-taken g c (Some k) page = after_kind-taken g c k page
 
 -- a test chooses between two, and what is said of it holds of both
-choice : {A B : Type 0} (f : A → B) (b : Bool) (x y : A) → f (cond b x y) ≡ cond b (f x) (f y)
+pub choice : {A B : Type 0} (f : A → B) (b : Bool) (x y : A) → f (cond b x y) ≡ cond b (f x) (f y)
 choice f true x y = refl
 choice f false x y = refl
 
@@ -95,7 +95,7 @@ whole_rounds-taken g Main rounds records = refl
 whole_rounds-taken g MainBySection rounds records = refl
 whole_rounds-taken g MainAsShown rounds records = refl
 
-after_item-taken : (g : List (List PageRecord)) (c : StreamProgress) (d : Due) (item : List ℕ) → after_item (with_taken g c) d item ≡ with_taken g (after_item c d item)
+pub after_item-taken : (g : List (List PageRecord)) (c : StreamProgress) (d : Due) (item : List ℕ) → after_item (with_taken g c) d item ≡ with_taken g (after_item c d item)
 after_item-taken g c FileHeader item = refl
 after_item-taken g c (TypeByte b) item = after_type_byte-taken g c b (slice_index item 0)
 after_item-taken g c ConfigLength item = refl
@@ -115,7 +115,7 @@ after_item-taken g c Footer item = ap (λ (x : List (List PageRecord)). record (
 after_item-taken g c (Passed passed) item = refl
 after_item-taken g c Nothing item = refl
 
-AreFaultless-taken : (g : List (List PageRecord)) (c : StreamProgress) (items : List (List ℕ)) → AreFaultless c items → AreFaultless (with_taken g c) items
+pub AreFaultless-taken : (g : List (List PageRecord)) (c : StreamProgress) (items : List (List ℕ)) → AreFaultless c items → AreFaultless (with_taken g c) items
 AreFaultless-taken g c [] free = tt
 AreFaultless-taken g c (item ∷ items) free = (
   record { is_due = free.0.is_due; is_whole = free.0.is_whole },
@@ -123,7 +123,7 @@ AreFaultless-taken g c (item ∷ items) free = (
   subst (λ (x : StreamProgress). AreFaultless x items) (sym (after_item-taken g c c.due item)) (AreFaultless-taken g (after c item) items free.2),
 )
 
-after_all-taken : (g : List (List PageRecord)) (c : StreamProgress) (items : List (List ℕ)) → after_all (with_taken g c) items ≡ with_taken g (after_all c items)
+pub after_all-taken : (g : List (List PageRecord)) (c : StreamProgress) (items : List (List ℕ)) → after_all (with_taken g c) items ≡ with_taken g (after_all c items)
 after_all-taken g c [] = refl
 after_all-taken g c (item ∷ items) = ap (λ (x : StreamProgress). after_all x items) (after_item-taken g c c.due item) ∙ after_all-taken g (after c item) items
 

@@ -42,12 +42,14 @@ pub mod Standing
 pub mod Keeping
 pub mod Limits
 pub mod Longer
+pub mod PageFronts
 pub mod ZeroRecords
 pub mod Between
 pub mod Giver
 pub mod Taken
 pub mod Waiting
 pub mod Closing
+pub mod Reported
 pub mod Valid
 pub mod Flushed
 pub mod NoTail

@@ -34,7 +34,7 @@ item_front c item open_ whole free = Front-push c c [] item (Front-none c) (reco
 -- ---- numbers are read as they are spelled
 
 -- four bytes that spell a number, alone
-be32_back : (n : ℕ) → n < 2 ^ 32 → be32_at 0 (be32 n) ≡ n
+pub be32_back : (n : ℕ) → n < 2 ^ 32 → be32_at 0 (be32 n) ≡ n
 unfolding be32_at
 be32_back n small = from_be_bytes-to_be_bytes_4 n small
 

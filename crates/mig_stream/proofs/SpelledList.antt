@@ -24,6 +24,7 @@ use Rattle.mig_stream.specs.Items.{id_in, length_in, is_page_size, record_faults
 use Rattle.mig_stream.specs.Reading.{Front}
 use Rattle.mig_stream.specs.Text.{entry, total_bytes, size_list}
 use Rattle.mig_stream.specs.Machine.{IsBlockPageSize, IsTail, entries, tailed_list}
+use Rattle.mig_stream.proofs.FoundList.{regroup_entry}
 use Rattle.mig_stream.proofs.Fronts.{sized, Front-append}
 use Rattle.mig_stream.proofs.SpelledItems.{item_front, be64_back, be64_behind, page_size_large, flags_small, head_front}
 use Rattle.mig_stream.proofs.Tables.{AreBlocks, blocks_from_table, sum_of, total_is_sum}
@@ -108,10 +109,6 @@ entry_to c before b left more last more_is last_is front =
     let from : StreamProgress = record c { due = ListEntry; left = Some left; blocks = before } in
     subst (λ (x : Bool). Front from (entry c.page_size b) (record c { due = entry_due c.form x; left = Some more; blocks = before ++ b ∷ [] })) last_is
     (subst (λ (n : ℕ). Front from (entry c.page_size b) (record c { due = entry_due c.form (eqb n 0); left = Some n; blocks = before ++ b ∷ [] })) more_is front)
-
--- an entry, its tail, the other entries, and all that is left
-regroup_entry : (e t r m : List ℕ) → (e ++ (t ++ r)) ++ m ≡ e ++ (t ++ (r ++ m))
-regroup_entry e t r m = append_assoc e (t ++ r) m ∙ ap (λ (x : List ℕ). e ++ x) (append_assoc t r m)
 
 -- the entries of the blocks that are still to come, and all that is left after them
 entries_front : (c d : StreamProgress) (before : List Block) (b : Block) (blocks : List Block) (tail : List ℕ) (tails : List (List ℕ)) (more : List ℕ) → IsPageSize c.page_size

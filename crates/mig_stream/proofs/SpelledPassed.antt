@@ -25,7 +25,7 @@ use Rattle.mig_stream.specs.Items.{is_allowed, has_tail, id_in, subsection_of, i
 use Rattle.mig_stream.specs.Reading.{Front}
 use Rattle.mig_stream.specs.Machine.{Command, command_bytes, command, IsCommand, is_advise, SubsectionBody, PageBits, Uuid, Capabilities, kind_of, body_bytes, IsCapability, IsSubsectionBody, subsection_head, subsection, ignore_shared_in, names_shared}
 use Rattle.mig_stream.proofs.Fronts.{Front-none, Front-append}
-use Rattle.mig_stream.proofs.SpelledItems.{item_front}
+use Rattle.mig_stream.proofs.SpelledItems.{item_front, be32_back}
 use Rattle.mig_stream.proofs.Tails.{twice, first_fits, others_fit}
 
 two_free : (a b : Bool) (f g : StreamFault) → a ≡ false → b ≡ false → first_of ((a, f) ∷ (b, g) ∷ []) ≡ None
@@ -114,10 +114,6 @@ commands_front c b (x ∷ xs) machine may opening is one =
     (Front-append _ _ _ _ _ first rest)
 
 -- ---- subsections
-
-be32_back : (n : ℕ) → n < 2 ^ 32 → be32_at 0 (be32 n) ≡ n
-unfolding be32_at
-be32_back n small = from_be_bytes-to_be_bytes_4 n small
 
 -- the name and version of a subsection say what it is
 name_told : (kind : Subsection) → subsection_of (id_in (subsection_head kind)) ≡ Some kind

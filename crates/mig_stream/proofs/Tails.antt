@@ -49,7 +49,8 @@ twice true true said form = refl
 twice true false said form = refl
 twice false b said form = refl
 
--- Postcopy isn't allowed beside "x-ignore-shared": neither by the first COMMAND nor by one after it.
+-- Postcopy isn't allowed beside "x-ignore-shared": neither by the first COMMAND nor by one after
+-- it.
 pub first_fits : (addressed advise others opening : Bool) → (addressed ≡ true → (advise || others) ≡ false) → (addressed && (opening && advise)) ≡ false
 first_fits false advise others opening one = refl
 first_fits true true others opening one = absurd (let clash : true ≡ false = one refl in cc)

@@ -40,7 +40,7 @@ one_end c x (Bad f) (Bad g) a b =
     let faults : first_fault c b.0 ≡ Some f = ap (first_fault c) (sym same.0) ∙ a.4 in
     let joined : Some f ≡ Some g = sym faults ∙ b.4 in cc
 
-one_front : (c : StreamProgress) (xs ys : List (List ℕ)) (x y : List ℕ) (s t : StreamState) → AreFaultless c xs → AreFaultless c ys → Ends (after_all c xs) x s → Ends (after_all c ys) y t
+pub one_front : (c : StreamProgress) (xs ys : List (List ℕ)) (x y : List ℕ) (s t : StreamState) → AreFaultless c xs → AreFaultless c ys → Ends (after_all c xs) x s → Ends (after_all c ys) y t
     → concat xs ++ x ≡ concat ys ++ y → (xs ≡ ys) × (x ≡ y) × (s ≡ t)
 one_front c [] [] x y s t f g a b e = (refl, e, one_end c y s t (subst (λ (z : List ℕ). Ends c z s) e a) b)
 one_front c [] (j ∷ ys) x y s t f g a b e = absurd (no_end c j (concat ys ++ y) x s g.0 g.1 (e ∙ append_assoc j (concat ys) y) a)

@@ -19,16 +19,17 @@ use Rattle.mig_stream.specs.PageRecord.{PageRecord}
 use Rattle.mig_stream.specs.Progress.{StreamProgress}
 use Rattle.mig_stream.specs.Items.{id_in, record_kind, is_full, less_room, kind_faults, head_faults, first_fault, after_kind, after_head, with_record, after}
 use Rattle.mig_stream.specs.Reading.{Front}
-use Rattle.mig_stream.specs.Taking.{HasTaken, HasTakenTo, HasTakenRecords}
+use Rattle.mig_stream.specs.Report.{kind_of_head}
+use Rattle.mig_stream.specs.Taking.{HasTaken, HasTakenTo, PageFront, HasTakenPages, HasTakenRecords}
+use Rattle.mig_mem.specs.declared.place.Place.{Place}
 use Rattle.mig_stream.proofs.Fronts.{Front-none, Front-append}
-use Rattle.mig_stream.proofs.SpelledItems.{item_front}
-use Rattle.mig_stream.proofs.SpelledRecords.{content_front}
+use Rattle.mig_stream.proofs.PageFronts.{PageFront-none, PageFront-one, PageFront-append}
 
 -- a head of a kind's flags
 kind_front : (c : StreamProgress) (head : List ℕ) (kind : RecordKind) (flags page : ℕ) → length head ≡ 8 → be64_at 0 head % c.page_size ≡ flags → record_kind flags ≡ Some kind
     → be64_at 0 head / c.page_size ≡ page → first_of (kind_faults (record c { due = RecordHead }) kind page) ≡ None
-    → Front (record c { due = RecordHead }) head (after_kind (record c { due = RecordHead }) kind page)
-kind_front c head kind flags page len flags_are kind_is number none =
+    → kind_of_head (Some kind) ≡ None → PageFront (record c { due = RecordHead }) head (after_kind (record c { due = RecordHead }) kind page)
+kind_front c head kind flags page len flags_are kind_is number none part =
     let d : StreamProgress = record c { due = RecordHead } in
     let is : record_kind (be64_at 0 head % c.page_size) ≡ Some kind = ap record_kind flags_are ∙ kind_is in
     let free : first_fault d head ≡ None =
@@ -36,32 +37,36 @@ kind_front c head kind flags page len flags_are kind_is number none =
     ∙ ap (λ (x : ℕ). first_of (kind_faults d kind x)) number ∙ none in
     let new : after d head ≡ after_kind d kind page =
     ap (λ (x : Option RecordKind). after_head d x (be64_at 0 head / c.page_size)) is ∙ ap (λ (x : ℕ). after_kind d kind x) number in
-    subst (λ (x : StreamProgress). Front d head x) new (item_front d head (λ e. absurd cc) len free)
+    subst (λ (x : StreamProgress). PageFront d head x) new (PageFront-one d head (λ e. absurd cc) len free (ap kind_of_head is ∙ part))
+
+-- the fill byte of a page of zeros
+zero_front : (c : StreamProgress) (at : Place) → PageFront (record c { due = Content Zero at }) (0 ∷ []) (with_record c at None)
+zero_front c at = PageFront-one (record c { due = Content Zero at }) (0 ∷ []) (λ e. absurd cc) refl refl refl
 
 -- a record that leaves its block's id out
 continued_front : (c : StreamProgress) (head : List ℕ) (b page : ℕ) → is_none c.left ≡ false → is_full c.room ≡ false → c.named ≡ Some b → length head ≡ 8 → be64_at 0 head % c.page_size ≡ 0x22
-    → be64_at 0 head / c.page_size ≡ page → page < (block c.blocks b).pages → Front (record c { due = RecordHead }) (head ++ 0 ∷ []) (with_record c (place_at b page) None)
+    → be64_at 0 head / c.page_size ≡ page → page < (block c.blocks b).pages → PageFront (record c { due = RecordHead }) (head ++ 0 ∷ []) (with_record c (place_at b page) None)
 continued_front c head b page begun free named len flags number in_range =
     let d : StreamProgress = record c { named = Some b } in
     let inside : ltb page (block c.blocks b).pages ≡ true = lt-ltb page (block c.blocks b).pages in_range in
-    let first = kind_front d head (Continued Zero) 0x22 page len flags refl number (rw (begun, free, inside) refl) in
-    let content = content_front d (place_at b page) None tt in
-    subst (λ (n : Option ℕ). Front (record c { due = RecordHead; named = n }) (head ++ 0 ∷ []) (record (with_record c (place_at b page) None) { named = n })) (sym named)
-    (Front-append _ _ _ _ _ first content)
+    let first = kind_front d head (Continued Zero) 0x22 page len flags refl number (rw (begun, free, inside) refl) refl in
+    let content = zero_front d (place_at b page) in
+    subst (λ (n : Option ℕ). PageFront (record c { due = RecordHead; named = n }) (head ++ 0 ∷ []) (record (with_record c (place_at b page) None) { named = n })) (sym named)
+    (PageFront-append _ _ _ _ _ first content)
 
 -- a record that names its block
 named_front : (c : StreamProgress) (head name : List ℕ) (b page : ℕ) → is_none c.left ≡ false → is_full c.room ≡ false → length head ≡ 8 → be64_at 0 head % c.page_size ≡ 0x02 → be64_at 0 head / c.page_size ≡ page
     → length name ≡ 1 + slice_index name 0 → block_of c.blocks (id_in name) ≡ Some b → page < (block c.blocks b).pages
-    → Front (record c { due = RecordHead }) (head ++ (name ++ 0 ∷ [])) (record (with_record c (place_at b page) None) { named = Some b })
+    → PageFront (record c { due = RecordHead }) (head ++ (name ++ 0 ∷ [])) (record (with_record c (place_at b page) None) { named = Some b })
 named_front c head name b page begun room len flags number whole found in_range =
     let d : StreamProgress = record c { due = BlockName Zero page } in
     let inside : ltb page (block c.blocks b).pages ≡ true = lt-ltb page (block c.blocks b).pages in_range in
-    let first = kind_front c head (Named Zero) 0x02 page len flags refl number (rw (begun, room) refl) in
+    let first = kind_front c head (Named Zero) 0x02 page len flags refl number (rw (begun, room) refl) refl in
     let free : first_fault d name ≡ None = rw (found, inside) refl in
     let new : after d name ≡ record c { due = Content Zero (place_at b page); named = Some b } = rw found refl in
-    let second = subst (λ (x : StreamProgress). Front d name x) new (item_front d name (λ e. absurd cc) whole free) in
-    let content = content_front (record c { named = Some b }) (place_at b page) None tt in
-    Front-append _ _ _ _ _ first (Front-append _ _ _ _ _ second content)
+    let second = subst (λ (x : StreamProgress). PageFront d name x) new (PageFront-one d name (λ e. absurd cc) whole free refl) in
+    let content = zero_front (record c { named = Some b }) (place_at b page) in
+    PageFront-append _ _ _ _ _ first (PageFront-append _ _ _ _ _ second content)
 
 -- ---- their bytes
 
@@ -86,7 +91,7 @@ number_in bytes at =
 -- ---- records that are taken
 
 pub records_none : (c : StreamProgress) (bytes : List ℕ) → c.due ≡ RecordHead → HasTakenRecords c bytes 0 c
-records_none c bytes due = record { fits = omega arith; leads = Front-none c; is_due = due; same_left = refl; same_blocks = refl; same_page_size = refl }
+records_none c bytes due = record { fits = omega arith; leads = PageFront-none c; is_due = due; same_left = refl; same_blocks = refl; same_page_size = refl }
 
 -- and others of the rest after them
 pub records_more : (old mid new : StreamProgress) (bytes rest : List ℕ) (n k : ℕ) → HasTakenRecords old bytes n mid → rest ≡ drop n bytes → HasTakenRecords mid rest k new
@@ -95,7 +100,7 @@ records_more old mid new bytes rest n k a is b =
     let both : take (n + k) bytes ≡ take n bytes ++ take k rest = take-add n k bytes ∙ ap (λ (l : List ℕ). take n bytes ++ take k l) (sym is) in
     record {
       fits = omega (arith, a.fits, b.fits, ap (λ (l : List ℕ). length l) is, length-drop n bytes);
-      leads = subst (λ (x : List ℕ). Front old x new) (sym both) (Front-append old mid new (take n bytes) (take k rest) a.leads b.leads);
+      leads = subst (λ (x : List ℕ). PageFront old x new) (sym both) (PageFront-append old mid new (take n bytes) (take k rest) a.leads b.leads);
       is_due = b.is_due;
       same_left = b.same_left ∙ a.same_left;
       same_blocks = b.same_blocks ∙ a.same_blocks;
@@ -112,7 +117,7 @@ records_same old mid new bytes rest n k a is b none =
 pub records_within : (old new : StreamProgress) (bytes : List ℕ) (n at : ℕ) → HasTakenRecords old (take n bytes) at new → HasTakenRecords old bytes at new
 records_within old new bytes n at h = record {
   fits = omega (arith, h.fits, length-take n bytes);
-  leads = subst (λ (x : List ℕ). Front old x new) (take-take at n bytes (omega (arith, h.fits, length-take n bytes))) h.leads;
+  leads = subst (λ (x : List ℕ). PageFront old x new) (take-take at n bytes (omega (arith, h.fits, length-take n bytes))) h.leads;
   is_due = h.is_due;
   same_left = h.same_left;
   same_blocks = h.same_blocks;
@@ -137,7 +142,7 @@ records_stop old mid new bytes rest n a is b = record {
   front = take n bytes ++ b.front;
   rest = b.rest;
   has_bytes = sym (take-append-drop n bytes) ∙ ap (λ (l : List ℕ). take n bytes ++ l) (sym is ∙ b.has_bytes) ∙ sym (append_assoc (take n bytes) b.front b.rest);
-  leads = Front-append old mid new (take n bytes) b.front a.leads b.leads;
+  leads = Front-append old mid new (take n bytes) b.front a.leads.leads b.leads;
 }
 
 pub nothing_more : (c new : StreamProgress) (bytes : List ℕ) → new ≡ c → HasTaken c bytes new
@@ -153,13 +158,13 @@ continued_taken c new bytes at b page fits due begun free named flags number in_
     let zero_byte : slice_index rest 8 ≡ 0 = get_or-drop at bytes 8 0 ∙ fill in
     let taken = continued_front c (take 8 rest) b page begun free named (head_len rest (omega (arith, long)))
     (ap (λ (n : ℕ). n % c.page_size) (number_in bytes at) ∙ flags) (ap (λ (n : ℕ). n / c.page_size) (number_in bytes at) ∙ number) in_range in
-    let all : Front (record c { due = RecordHead }) (take 9 rest) (record c { due = RecordHead; room = less_room c.room; records = records }) =
-    subst (λ (l : List ℕ). Front (record c { due = RecordHead }) l (record c { due = RecordHead; room = less_room c.room; records = records })) (sym (up_to rest 8 0 (omega (arith, long)) zero_byte)) taken in
-    let here : Front c (take 9 rest) (record c { room = less_room c.room; records = records }) =
-    subst (λ (d : Due). Front (record c { due = d }) (take 9 rest) (record c { due = d; room = less_room c.room; records = records })) (sym due) all in
+    let all : PageFront (record c { due = RecordHead }) (take 9 rest) (record c { due = RecordHead; room = less_room c.room; records = records }) =
+    subst (λ (l : List ℕ). PageFront (record c { due = RecordHead }) l (record c { due = RecordHead; room = less_room c.room; records = records })) (sym (up_to rest 8 0 (omega (arith, long)) zero_byte)) taken in
+    let here : PageFront c (take 9 rest) (record c { room = less_room c.room; records = records }) =
+    subst (λ (d : Due). PageFront (record c { due = d }) (take 9 rest) (record c { due = d; room = less_room c.room; records = records })) (sym due) all in
     record {
       fits = long;
-      leads = subst (λ (x : StreamProgress). Front c (take 9 rest) x) (sym is) here;
+      leads = subst (λ (x : StreamProgress). PageFront c (take 9 rest) x) (sym is) here;
       is_due = ap (λ (x : StreamProgress). x.due) is ∙ due;
       same_left = ap (λ (x : StreamProgress). x.left) is;
       same_blocks = ap (λ (x : StreamProgress). x.blocks) is;
@@ -181,13 +186,13 @@ named_taken c new bytes head rest k b page head_is rest_is lt due begun room fla
     let spelled : take (9 + k) bytes ≡ head ++ (name ++ 0 ∷ []) =
     ap (λ (n : ℕ). take n bytes) count ∙ take-add 8 (k + 1) bytes ∙ ap (λ (l : List ℕ). l ++ take (k + 1) (drop 8 bytes)) (sym head_is)
     ∙ ap (λ (l : List ℕ). head ++ take (k + 1) l) (sym rest_is) ∙ ap (λ (l : List ℕ). head ++ l) (up_to rest k 0 lt fill) in
-    let all : Front (record c { due = RecordHead }) (take (9 + k) bytes) (record c { due = RecordHead; named = Some b; room = less_room c.room; records = records }) =
-    subst (λ (l : List ℕ). Front (record c { due = RecordHead }) l (record c { due = RecordHead; named = Some b; room = less_room c.room; records = records })) (sym spelled) taken in
-    let here : Front c (take (9 + k) bytes) (record c { named = Some b; room = less_room c.room; records = records }) =
-    subst (λ (d : Due). Front (record c { due = d }) (take (9 + k) bytes) (record c { due = d; named = Some b; room = less_room c.room; records = records })) (sym due) all in
+    let all : PageFront (record c { due = RecordHead }) (take (9 + k) bytes) (record c { due = RecordHead; named = Some b; room = less_room c.room; records = records }) =
+    subst (λ (l : List ℕ). PageFront (record c { due = RecordHead }) l (record c { due = RecordHead; named = Some b; room = less_room c.room; records = records })) (sym spelled) taken in
+    let here : PageFront c (take (9 + k) bytes) (record c { named = Some b; room = less_room c.room; records = records }) =
+    subst (λ (d : Due). PageFront (record c { due = d }) (take (9 + k) bytes) (record c { due = d; named = Some b; room = less_room c.room; records = records })) (sym due) all in
     record {
       fits = omega (arith, len, lt);
-      leads = subst (λ (x : StreamProgress). Front c (take (9 + k) bytes) x) (sym is) here;
+      leads = subst (λ (x : StreamProgress). PageFront c (take (9 + k) bytes) x) (sym is) here;
       is_due = ap (λ (x : StreamProgress). x.due) is ∙ due;
       same_left = ap (λ (x : StreamProgress). x.left) is;
       same_blocks = ap (λ (x : StreamProgress). x.blocks) is;
@@ -196,8 +201,12 @@ named_taken c new bytes head rest k b page head_is rest_is lt due begun room fla
 
 -- ---- and in a reading
 
-pub none_taken : (c : StreamProgress) (bytes : List ℕ) → HasTakenTo c bytes bytes c
-none_taken c bytes = ([], refl, Front-none c)
+pub none_taken : (c : StreamProgress) (bytes : List ℕ) → HasTakenPages c bytes bytes c
+none_taken c bytes = ([], refl, PageFront-none c)
+
+-- as taken bytes
+pub pages_taken : (old new : StreamProgress) (bytes rest : List ℕ) → HasTakenPages old bytes rest new → HasTakenTo old bytes rest new
+pages_taken old new bytes rest (front, e, pages) = (front, e, pages.leads)
 
 pub goes_on_to : (from mid new : StreamProgress) (bytes rest more : List ℕ) → HasTakenTo from bytes rest mid → HasTakenTo mid rest more new → HasTakenTo from bytes more new
 goes_on_to from mid new bytes rest more a b = (
@@ -215,5 +224,5 @@ stops_within from mid new bytes rest a b = record {
 }
 
 -- the bytes after the records that were taken
-pub taken_to : (old new : StreamProgress) (bytes rest : List ℕ) (n : ℕ) → HasTakenRecords old bytes n new → rest ≡ drop n bytes → HasTakenTo old bytes rest new
+pub taken_to : (old new : StreamProgress) (bytes rest : List ℕ) (n : ℕ) → HasTakenRecords old bytes n new → rest ≡ drop n bytes → HasTakenPages old bytes rest new
 taken_to old new bytes rest n h is = (take n bytes, sym (take-append-drop n bytes) ∙ ap (λ (l : List ℕ). take n bytes ++ l) (sym is), h.leads)

@@ -74,8 +74,8 @@ id_in item = slice_range item 1 (1 + slice_index item 0)
 abbrev pub length_in : List ℕ → ℕ
 length_in item = be64_at (1 + slice_index item 0) item
 
--- Where the page size of a block may be, these bytes are one. Nothing else begins so: an id's length
--- isn't 0, and no record has flags 0.
+-- Where the page size of a block may be, these bytes are one. Nothing else begins so: an id's
+-- length isn't 0, and no record has flags 0.
 abbrev pub is_page_size : List ℕ → Bool
 is_page_size bytes = slice_index bytes 0 == 0 && (not (be64_at 0 bytes == 0) && be64_at 0 bytes % least_page_size == 0)
 

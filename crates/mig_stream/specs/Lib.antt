@@ -13,6 +13,7 @@ pub mod Writer
 pub mod Round
 pub mod Reader
 pub mod Giving
+pub mod Report
 pub mod Wanted
 pub mod Law
 pub mod Flushed

@@ -1,5 +1,5 @@
 -- How taking an item changes how far a stream has been read.
-use Rattle.std.specs.Prelude.{◌≡◌, ◌≤◌, ℕ, List, ◌++◌, length, take, Some, None, Result, Ok, Err, ⊤}
+use Rattle.std.specs.Prelude.{◌≡◌, ◌≤◌, ℕ, List, [], ◌++◌, length, take, Some, None, Result, Ok, Err, ⊤}
 use Rattle.mig_stream.specs.declared.item.Due.{Due}
 use Rattle.mig_stream.specs.declared.item.Due.TheVariants.{RecordHead}
 use Rattle.mig_stream.specs.declared.item.RecordKind.{RecordKind}
@@ -10,6 +10,7 @@ use Rattle.mig_mem.specs.First.{first_of}
 use Rattle.mig_stream.specs.declared.item.PassedItem.TheVariants.{SubsectionHead}
 use Rattle.mig_stream.specs.Items.{faults, kind_faults, after_kind, after_item, subsection_faults, behind_passed}
 use Rattle.mig_stream.specs.Reading.{Front}
+use Rattle.mig_stream.specs.Report.{items_at}
 
 -- An item of this kind is taken if it has no fault, and otherwise its first fault is reported. If
 -- an allocation was refused no fault is reported. If the item isn't taken nothing changes.
@@ -41,11 +42,24 @@ pub record HasTaken (old : StreamProgress) (bytes : List ℕ) (new : StreamProgr
 abbrev pub HasTakenTo : StreamProgress → List ℕ → List ℕ → StreamProgress → Type 0
 HasTakenTo old bytes rest new = (front : List ℕ) × (bytes ≡ front ++ rest) × Front old front new
 
--- The first n bytes, complete records without a fault, were taken. A record is next, and the table
--- stays.
+-- none of these items is reported: each is a part of a page record
+unfoldable pub AreParts : StreamProgress → List (List ℕ) → Type 0
+AreParts c items = (at : ℕ) → items_at c at items ≡ []
+
+-- these bytes are complete items without a fault, each of them a part of a page record
+pub record PageFront (from : StreamProgress) (bytes : List ℕ) (to : StreamProgress) : Type 0 where
+  pub leads : Front from bytes to
+  pub are_parts : AreParts from leads.items
+
+-- the bytes before this rest, page records, were taken
+abbrev pub HasTakenPages : StreamProgress → List ℕ → List ℕ → StreamProgress → Type 0
+HasTakenPages old bytes rest new = (front : List ℕ) × (bytes ≡ front ++ rest) × PageFront old front new
+
+-- The first n bytes, complete page records without a fault, were taken. A record is next, and the
+-- table stays.
 pub record HasTakenRecords (old : StreamProgress) (bytes : List ℕ) (n : ℕ) (new : StreamProgress) : Type 0 where
   pub fits : n ≤ length bytes
-  pub leads : Front old (take n bytes) new
+  pub leads : PageFront old (take n bytes) new
   pub is_due : new.due ≡ RecordHead
   pub same_left : new.left ≡ old.left
   pub same_blocks : new.blocks ≡ old.blocks

@@ -19,11 +19,14 @@ ghost use Rattle.mig_stream.specs.Reader.{HasTable, HasFront, IsValidUpTo, IsUnf
 ghost use Rattle.mig_stream.specs.Giving.{none_given, with_given, Gives, GivesOn, left, LeavesLess, GiverTells, EndsSo, TellsFound, IsBehind, GivenSoFar, LeavesNone, HasNoneLeft, IsUnread, PausesAt, PauseTells};
 ghost use Rattle.mig_stream.specs.Taking.{HasTaken, HasTakenTo};
 ghost use Rattle.mig_stream.specs.Kept.{bytes_of};
+ghost use Rattle.mig_stream.specs.Report.{ItemAt, Reported, nothing_reported, IsReport, Reports, ReportsTo, ReportsOn, EndsReport};
 
 use crate::item::{Frame, Mode, StreamState};
 use crate::piece::Piece;
 use crate::progress::Progress;
 use crate::reader::complete;
+use crate::report::Report;
+use crate::reporting::read_to_pause_reporting;
 use crate::round::{Records, StreamRound};
 use crate::stop::Stop;
 use mig_mem::{NoMemory, Table};
@@ -209,6 +212,8 @@ impl<A: Allocator + Copy> Pause<A> {
             → PausesAt given text so_far self → Gives given (text ++ piece.now) so_far result }
         ensures left { left result ≡ 2 * length (self.pending ++ piece.now) + 1 }
         ensures given { result.given ≡ record { page_size = self.progress.page_size; records = [] } }
+        ensures reports { (given : Settings) (text : List ℕ) (so_far : GivenSoFar) (cleared : List ItemAt) (report : Reported)
+            → PausesAt given text so_far self → IsReport given text cleared report → Reports given (text ++ piece.now) so_far cleared result report }
     {
         let Pause {
             progress,
@@ -263,6 +268,7 @@ impl<'a, A: Allocator + Copy> RecordReader<'a, A> {
         requires page_size { IsPageSize page_size }
         requires limit { limit ≤ 2 ^ 40 }
         ensures gives { Gives (settings Single page_size limit) text.now none_given result }
+        ensures reports { Reports (settings Single page_size limit) text.now none_given [] result nothing_reported }
         ensures left { left result ≡ 2 * length text.now + 1 }
         ensures given { result.given ≡ record { page_size = page_size; records = [] } }
     {
@@ -281,6 +287,7 @@ impl<'a, A: Allocator + Copy> RecordReader<'a, A> {
         requires page_size { IsPageSize page_size }
         requires limit { limit ≤ 2 ^ 40 }
         ensures gives { Gives (in_frame frame (settings Single page_size limit)) text.now none_given result }
+        ensures reports { Reports (in_frame frame (settings Single page_size limit)) text.now none_given [] result nothing_reported }
         ensures left { left result ≡ 2 * length text.now + 1 }
         ensures given { result.given ≡ record { page_size = page_size; records = [] } }
     {
@@ -300,6 +307,7 @@ impl<'a, A: Allocator + Copy> RecordReader<'a, A> {
         requires page_size { IsPageSize page_size }
         requires limit { limit ≤ 2 ^ 40 }
         ensures gives { Gives (with_waiting waiting (in_frame frame (settings Single page_size limit))) text.now none_given result }
+        ensures reports { Reports (with_waiting waiting (in_frame frame (settings Single page_size limit))) text.now none_given [] result nothing_reported }
         ensures left { left result ≡ 2 * length text.now + 1 }
         ensures given { result.given ≡ record { page_size = page_size; records = [] } }
     {
@@ -360,6 +368,59 @@ impl<'a, A: Allocator + Copy> RecordReader<'a, A> {
         }
     }
 
+    /// Reads on as `read_on` does, and adds to `report` each item that it reads, but the parts of
+    /// page records. `report` is the one that all earlier calls for this stream had.
+    ///
+    /// # Errors
+    ///
+    /// `NoMemory`: an allocation was refused. Nothing changes.
+    pub fn read_on_reporting(&mut self, report: &mut Report<A>) -> Result<Given, NoMemory>
+        ensures reports { IfOk result (λ gave. ReportsOn (with_given gave self.new.given.records) self.old report.old self.new report.new) }
+        ensures report { IfOk result (λ gave. (given : Settings) (text : List ℕ) (so_far : GivenSoFar) (cleared : List ItemAt)
+            → Reports given text so_far cleared self.old report.old → EndsReport gave given text cleared report.new) }
+        ensures ok { IfOk result (λ gave. GivesOn (with_given gave self.new.given.records) self.old self.new) }
+        ensures page_size { OnOk result (GiverTells self.old (λ given text so_far. self.new.given.page_size ≡ given.page_size)) }
+        ensures places { OnOk result (GiverTells self.old (λ given text so_far. (table : RamTable) → HasTable given text (Some table)
+            → All (λ x. IsPlace table x.place) self.new.given.records)) }
+        ensures end { IfOk result (λ gave. GiverTells self.old (EndsSo gave)) }
+        ensures found { IfOk result (λ gave. TellsFound gave self.new) }
+        ensures less { IfOk result (λ gave. LeavesLess gave self.old self.new) }
+        ensures none { IfOk result (λ gave. LeavesNone gave self.new) }
+        ensures err { OnErr result ((self.new ≡ self.old) × (report.new ≡ report.old)) }
+    {
+        if self.found.is_none() {
+            self.read_reporting(report)?;
+        }
+        Ok(self.give())
+    }
+
+    // Reads up to the next pause as `read` does, and adds the items to `report`.
+    fn read_reporting(&mut self, report: &mut Report<A>) -> Result<(), NoMemory>
+        requires { self.old.found ≡ None }
+        ensures ok { OnOk result (GivesOn (λ so_far. so_far) self.old self.new) }
+        ensures reports { OnOk result (ReportsOn (λ so_far. so_far) self.old report.old self.new report.new) }
+        ensures less { OnOk result (left self.new < left self.old) }
+        ensures err { OnErr result (self.new ≡ self.old) }
+        ensures same { OnErr result (report.new ≡ report.old) }
+    {
+        let checkpoint = self.progress.checkpoint();
+        let len = self.pending.len();
+        let mark = report.mark();
+        match read_to_pause_reporting(&mut self.progress, &mut self.pending, self.rest, report) {
+            Ok((rest, found)) => {
+                self.rest = rest;
+                self.found = found;
+                Ok(())
+            }
+            Err(error) => {
+                self.progress.undo(checkpoint);
+                self.pending.truncate(len);
+                report.go_back(mark);
+                Err(error)
+            }
+        }
+    }
+
     /// Returns the pause after this piece, once `read_on` returned `End(Reading)`. It keeps a copy
     /// of the bytes of an item that isn't complete.
     ///
@@ -391,6 +452,7 @@ impl<'a, A: Allocator + Copy> RecordReader<'a, A> {
 impl<'a, A: Allocator> RecordReader<'a, A> {
     // Returns what was read and not given.
     fn give(&mut self) -> Given
+        ensures reports { (report : Reported) → ReportsOn (with_given result self.new.given.records) self.old report self.new report }
         ensures less { self.old.found ≢ None → LeavesLess result self.old self.new }
         ensures no_more { left self.new ≤ left self.old }
         ensures gives { GivesOn (with_given result self.new.given.records) self.old self.new }
@@ -413,6 +475,7 @@ impl<'a, A: Allocator> RecordReader<'a, A> {
     // Returns what was read and not given, if no section is complete.
     fn give_open(&mut self) -> Given
         requires { self.old.progress.rounds ≡ [] }
+        ensures reports { (report : Reported) → ReportsOn (with_given result self.new.given.records) self.old report self.new report }
         ensures less { self.old.found ≢ None → LeavesLess result self.old self.new }
         ensures no_more { left self.new ≤ left self.old }
         ensures gives { GivesOn (with_given result self.new.given.records) self.old self.new }

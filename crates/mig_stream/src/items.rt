@@ -639,7 +639,7 @@ fn is_allowed(before: Before, byte: u8) -> bool
 }
 
 // Returns whether bytes after an entry of the size list are the page size of its block.
-fn is_page_size(bytes: &[u8]) -> bool
+pub(crate) fn is_page_size(bytes: &[u8]) -> bool
     requires { 8 ≤ length bytes.now }
     ensures { result ≡ is_page_size bytes.now }
 {
@@ -758,7 +758,7 @@ pub(crate) fn less_room(room: Option<u64>) -> Option<u64>
 }
 
 // Returns the kind of a record by its flags.
-fn record_kind(flags: u16) -> Option<RecordKind>
+pub(crate) fn record_kind(flags: u16) -> Option<RecordKind>
     ensures { result ≡ record_kind flags }
 {
     match flags {

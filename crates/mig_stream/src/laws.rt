@@ -10,6 +10,7 @@ ghost use Rattle.mig_stream.specs.Flushed.{SectionsAreFlushed, SectionsHaveNoTai
 ghost use Rattle.mig_stream.specs.Limited.{WaitingIsBounded, FullRoundIsRefused, LimitOnlyRefuses, LimitLetsThrough};
 ghost use Rattle.mig_stream.specs.Shown.{ShownIsOneOfBoth, MachineShownIsOneOfBoth, FlushIsShown, MachineFlushIsShown, EosIsShown, MachineEosIsShown};
 ghost use Rattle.mig_stream.specs.Law.{IsValidUpToOnePlace, LongerTextsStayValid, ClosedIsValid, BadIsValidBefore};
+ghost use Rattle.mig_stream.specs.Report.{HasReport, HasOneReport, ReportsUpToValid, LongerTextsReportMore};
 
 /// Bytes have exactly one reading. So every reader of them, in any pieces, finds the same table,
 /// rounds and first fault.
@@ -125,4 +126,13 @@ pub fn waiting_is_bounded()
     ensures full { FullRoundIsRefused }
     ensures only { LimitOnlyRefuses }
     ensures through { LimitLetsThrough }
+{}
+
+/// A stream has exactly one report, however its bytes are cut into pieces. The report ends at the
+/// byte up to which the stream is valid. A longer stream has the same items, and more after them.
+pub fn text_has_one_report()
+    ensures exists { HasReport }
+    ensures one { HasOneReport }
+    ensures valid { ReportsUpToValid }
+    ensures longer { LongerTextsReportMore }
 {}

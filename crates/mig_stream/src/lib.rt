@@ -28,6 +28,8 @@ mod piece;
 mod progress;
 mod reader;
 mod record;
+mod report;
+mod reporting;
 mod round;
 mod stop;
 mod wanted;
@@ -41,9 +43,10 @@ pub use laws::{
     bytes_have_one_text, closed_is_text, configured_is_written, longer_texts_stay,
     machine_closed_is_text, machine_written_is_text, read_is_spelled, readings_keep_limits,
     sections_are_flushed, shown_is_one_of_both, spelled_is_read, text_has_one_reading,
-    text_is_valid_up_to_one_place, waiting_is_bounded, written_is_text,
+    text_has_one_report, text_is_valid_up_to_one_place, waiting_is_bounded, written_is_text,
 };
 pub use reader::StreamReader;
+pub use report::{ItemKind, Report, ReportedItem};
 pub use round::StreamRound;
 pub use wanted::Wanted;
 pub use writer::{OpenPart, StreamWriter};

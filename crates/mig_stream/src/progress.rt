@@ -298,7 +298,7 @@ impl<'a, A: Allocator> Progress<'a, A> {
     // Returns whether the records so far are given, after the next item. They are at the end of a
     // section, and if they are many. They also are after a page: its bytes were just read, and are
     // followed by the next head.
-    fn ends_piece(&self) -> bool {
+    pub(crate) fn ends_piece(&self) -> bool {
         match self.due {
             Due::Content(Filling::Normal, _) | Due::Footer => true,
             _ => self.records.len() >= MANY,
@@ -306,7 +306,7 @@ impl<'a, A: Allocator> Progress<'a, A> {
     }
 
     // Returns whether the stream is closed: no item follows.
-    fn is_closed(&self) -> bool
+    pub(crate) fn is_closed(&self) -> bool
         ensures closed { IsTrue result → self.now.due ≡ due.Nothing }
         ensures open { IsFalse result → self.now.due ≢ due.Nothing }
     {

@@ -14,12 +14,15 @@ ghost use Rattle.mig_stream.specs.Items.{size};
 ghost use Rattle.mig_stream.specs.Taking.{HasTaken};
 ghost use Rattle.mig_stream.specs.Reading.{settings, in_frame, with_waiting, state_at};
 ghost use Rattle.mig_stream.specs.Kept.{bytes_of};
+ghost use Rattle.mig_stream.specs.Report.{ItemAt, IsReport, ReadsReporting};
 ghost use Rattle.mig_stream.specs.Reader.{IsUnfinished, ReadsOn, nothing_yet, with_piece, over, one_taken, Stands, StepsOn, Tells, waiting, HasState, IsSettled, IsValidUpTo, HasClosedAt, HasTable, HasRound};
 
 use crate::StreamFault;
 use crate::item::{Frame, Mode, StreamState};
 use crate::piece::Piece;
 use crate::progress::Progress;
+use crate::report::Report;
+use crate::reporting::read_reporting;
 use crate::round::StreamRound;
 use crate::stop::Stop;
 use mig_mem::{NoMemory, Table};
@@ -114,8 +117,8 @@ pub(crate) fn complete<'b, A: Allocator>(
     Ok(Some(rest))
 }
 
-// Replaces the bytes of `kept` by `bytes`. An `Err` changes nothing.
-fn keep<A: Allocator>(kept: &mut Vec<u8, A>, bytes: &[u8]) -> Result<(), NoMemory>
+/// Replaces the bytes of `kept` by `bytes`. An `Err` changes nothing.
+pub(crate) fn keep<A: Allocator>(kept: &mut Vec<u8, A>, bytes: &[u8]) -> Result<(), NoMemory>
     ensures ok { OnOk result (kept.new.items ≡ bytes.now) }
     ensures err { OnErr result (kept.new.items ≡ kept.old.items) }
 {
@@ -337,6 +340,34 @@ impl<'a, A: Allocator + Copy> StreamReader<'a, A> {
         Ok(())
     }
 
+    /// Takes the next piece of the stream as `feed` does, and adds to `report` each item that is
+    /// complete with it, but the parts of page records. `report` is the one that the earlier pieces
+    /// had.
+    ///
+    /// # Errors
+    ///
+    /// `NoMemory`: an allocation was refused. Nothing changes.
+    pub fn feed_reporting(&mut self, piece: &[u8], report: &mut Report<A>) -> Result<(), NoMemory>
+        requires open { IsFalse self.old.ended }
+        requires room { self.old.fed + length piece.now < 2 ^ 64 }
+        ensures report { OnOk result (Tells self.old (λ given so_far. (cleared : List ItemAt)
+            → IsReport given so_far.text cleared report.old → IsReport given (so_far.text ++ piece.now) cleared report.new)) }
+        ensures stands { OnOk result (StepsOn (with_piece piece.now) self.old self.new) }
+        ensures settled { Tells self.old (λ given so_far. IsSettled given so_far.text → IsOk result) }
+        ensures fed { OnOk result (self.new.fed ≡ self.old.fed + length piece.now) }
+        ensures open { IsFalse self.new.ended }
+        ensures err { OnErr result ((self.new ≡ self.old) × (report.new ≡ report.old)) }
+    {
+        if !self.is_reading() {
+            self.fed += piece.len() as u64;
+            return Ok(());
+        }
+        let left = self.read_on_reporting(piece, report)?;
+        self.fed += piece.len() as u64;
+        self.valid_up_to = self.fed.saturating_sub(left as u64);
+        Ok(())
+    }
+
     // Reads on, and returns how many bytes are left. An `Err` changes nothing.
     fn read_on(&mut self, piece: &[u8]) -> Result<usize, NoMemory>
         requires { self.old.found ≡ state.Reading }
@@ -354,6 +385,31 @@ impl<'a, A: Allocator + Copy> StreamReader<'a, A> {
             Err(error) => {
                 self.progress.undo(checkpoint);
                 self.pending.truncate(len);
+                Err(error)
+            }
+        }
+    }
+
+    // Reads on as `read_on` does, and adds the items to `report`. An `Err` changes nothing.
+    fn read_on_reporting(&mut self, piece: &[u8], report: &mut Report<A>) -> Result<usize, NoMemory>
+        requires { self.old.found ≡ state.Reading }
+        ensures ok { IfOk result (λ left. ReadsReporting self.old.progress (self.old.pending ++ piece.now) self.new.progress self.new.pending left self.new.found report.old report.new) }
+        ensures same { OnOk result ((self.new.fed ≡ self.old.fed) × (self.new.ended ≡ self.old.ended)) }
+        ensures err { OnErr result (self.new ≡ self.old) }
+        ensures kept { OnErr result (report.new ≡ report.old) }
+    {
+        let before = self.progress.checkpoint();
+        let len = self.pending.len();
+        let mark = report.mark();
+        match read_reporting(&mut self.progress, &mut self.pending, piece, report) {
+            Ok((found, left)) => {
+                self.found = found;
+                Ok(left)
+            }
+            Err(error) => {
+                self.progress.undo(before);
+                self.pending.truncate(len);
+                report.go_back(mark);
                 Err(error)
             }
         }

@@ -9,7 +9,7 @@ ghost use Rattle.mig_mem.specs.RamTable.{block, block_of};
 ghost use Rattle.mig_stream.specs.declared.item.Due.TheVariants as due;
 ghost use Rattle.mig_stream.specs.Items.{id_in, is_full, less_room};
 ghost use Rattle.mig_stream.specs.Kept.{bytes_of, IsShort};
-ghost use Rattle.mig_stream.specs.Taking.{HasTaken, HasTakenTo, HasTakenRecords};
+ghost use Rattle.mig_stream.specs.Taking.{HasTaken, HasTakenPages, HasTakenRecords};
 
 use crate::fields::be64;
 use crate::format::{CONTINUED_ZERO, RAM_SAVE_FLAG_ZERO};
@@ -37,7 +37,7 @@ impl<'a, A: Allocator> Progress<'a, A> {
     #[tactic(auto, using(crate::proofs::ZeroRecords::none_taken))]
     #[inline(always)]
     pub(crate) fn pass_zeros<'b>(&mut self, text: Piece<'a, 'b>) -> Result<Piece<'a, 'b>, NoMemory>
-        ensures ok { IfOk result (λ rest. HasTakenTo self.old (bytes_of text.entry) (bytes_of rest) self.new) }
+        ensures ok { IfOk result (λ rest. HasTakenPages self.old (bytes_of text.entry) (bytes_of rest) self.new) }
         ensures due { OnOk result (self.new.due ≡ self.old.due) }
         ensures len { IfOk result (λ rest. length (bytes_of rest) ≤ length (bytes_of text.entry)) }
         ensures err { OnErr result (HasTaken self.old (bytes_of text.entry) self.new) }
@@ -49,10 +49,9 @@ impl<'a, A: Allocator> Progress<'a, A> {
     }
 
     // Takes the records of zero pages as `pass_zeros` does, if a record is next.
-    #[tactic(auto, using(crate::proofs::ZeroRecords::records_none))]
     fn pass_zero_records<'b>(&mut self, text: Piece<'a, 'b>) -> Result<Piece<'a, 'b>, NoMemory>
         requires { self.old.due ≡ due.RecordHead }
-        ensures ok { IfOk result (λ rest. HasTakenTo self.old (bytes_of text.entry) (bytes_of rest) self.new) }
+        ensures ok { IfOk result (λ rest. HasTakenPages self.old (bytes_of text.entry) (bytes_of rest) self.new) }
         ensures due { OnOk result (self.new.due ≡ self.old.due) }
         ensures len { IfOk result (λ rest. length (bytes_of rest) ≤ length (bytes_of text.entry)) }
         ensures err { OnErr result (HasTaken self.old (bytes_of text.entry) self.new) }
@@ -72,7 +71,6 @@ impl<'a, A: Allocator> Progress<'a, A> {
     }
 
     // Takes the records of one kind. Returns how many bytes they have.
-    #[tactic(auto, using(crate::proofs::ZeroRecords::records_none))]
     fn zero_run(&mut self, bytes: &[u8]) -> Result<usize, NoMemory>
         requires { self.old.due ≡ due.RecordHead }
         ensures ok { IfOk result (λ n. HasTakenRecords self.old bytes.now n self.new) }
@@ -90,7 +88,6 @@ impl<'a, A: Allocator> Progress<'a, A> {
     }
 
     // Takes the records without a block's id.
-    #[tactic(auto, using(crate::proofs::ZeroRecords::records_none))]
     fn continued_zeros(&mut self, bytes: &[u8]) -> Result<usize, NoMemory>
         requires due { self.old.due ≡ due.RecordHead }
         requires begun { is_none self.old.left ≡ false }
@@ -119,7 +116,6 @@ impl<'a, A: Allocator> Progress<'a, A> {
     }
 
     // Takes the records that name their block.
-    #[tactic(auto, using(crate::proofs::ZeroRecords::records_none))]
     fn named_zeros(&mut self, bytes: &[u8]) -> Result<usize, NoMemory>
         requires due { self.old.due ≡ due.RecordHead }
         requires begun { is_none self.old.left ≡ false }
@@ -138,7 +134,6 @@ impl<'a, A: Allocator> Progress<'a, A> {
     }
 
     // Takes the first record. Returns how many bytes it has, or 0 if there is none.
-    #[tactic(auto, using(crate::proofs::ZeroRecords::records_none))]
     #[inline(always)]
     fn named_zero(&mut self, bytes: &[u8]) -> Result<usize, NoMemory>
         requires due { self.old.due ≡ due.RecordHead }

@@ -20,6 +20,8 @@ mod pieces;
 #[cfg(test)]
 mod records;
 #[cfg(test)]
+mod reports;
+#[cfg(test)]
 mod texts;
 #[cfg(test)]
 mod valid;

@@ -6,7 +6,7 @@ use Rattle.mig_stream.specs.Fields.{be64_at}
 use Rattle.mig_stream.specs.Progress.{StreamProgress}
 use Rattle.mig_stream.specs.Items.{is_full}
 use Rattle.mig_stream.specs.Taking.{HasTakenRecords}
-use Rattle.mig_stream.proofs.ZeroRecords.{records_more, records_stop, nothing_more, continued_taken}
+use Rattle.mig_stream.proofs.ZeroRecords.{records_none, records_more, records_stop, nothing_more, continued_taken}
 use Rattle.mig_stream.proofs.progress.Progress.continued_zeros.Goals as goal
 
 pub returns-in_err-add_zeros-clause-err : goal.returns-in_err-add_zeros-clause-err
@@ -43,3 +43,9 @@ records-preserved g c =
       records_more old mid new bytes (drop at bytes) at 9 before refl one,
       ap (λ (x : StreamProgress). x.named) c.in_ok-add_zeros.ensures.ok ∙ c.records.invariant.1,
     )
+
+pub returns-in_default-clause-ok : goal.returns-in_default-clause-ok
+returns-in_default-clause-ok g c = records_none c.args.self.now c.args.bytes.now c.requires.due
+
+pub records-init : goal.records-init
+records-init g c = (records_none c.args.self.now c.args.bytes.now c.requires.due, refl)

@@ -3,7 +3,7 @@ use Rattle.mig_mem.specs.RamTable.{block}
 use Rattle.mig_stream.specs.Fields.{be64_at}
 use Rattle.mig_stream.specs.Progress.{StreamProgress}
 use Rattle.mig_stream.specs.Items.{is_full}
-use Rattle.mig_stream.proofs.ZeroRecords.{named_taken}
+use Rattle.mig_stream.proofs.ZeroRecords.{records_none, named_taken}
 use Rattle.mig_stream.proofs.progress.Progress.named_zero.Goals as goal
 
 pub returns-clause-ok : goal.returns-clause-ok
@@ -23,3 +23,12 @@ returns-clause-ok g c =
     named_taken old _ c.args.bytes.now head c.split_at.result.1.now _ place.block place.page c.split_at.ensures.front c.split_at.ensures.back c.if-rest-name_len.false c.requires.due c.requires.begun
     room flags number in_range refl c.in-Some.ensures.block c.if-rest-name_len-ne0.false
     (ap (λ (x : StreamProgress). record x { named = Some place.block }) (c.self-2.view_is ∙ c.in_ok-add_zeros.ensures.ok))
+
+pub returns-then-bytes-le-HEAD_LEN-clause-ok : goal.returns-then-bytes-le-HEAD_LEN-clause-ok
+returns-then-bytes-le-HEAD_LEN-clause-ok g c = records_none c.args.self.now c.args.bytes.now c.requires.due
+
+pub returns-then-flags-ne-RAM_SAVE_FLAG_ZERO-clause-ok : goal.returns-then-flags-ne-RAM_SAVE_FLAG_ZERO-clause-ok
+returns-then-flags-ne-RAM_SAVE_FLAG_ZERO-clause-ok g c = records_none c.args.self.now c.args.bytes.now c.requires.due
+
+pub returns-in_default-clause-ok : goal.returns-in_default-clause-ok
+returns-in_default-clause-ok g c = records_none c.args.self.now c.args.bytes.now c.requires.due

@@ -3,7 +3,7 @@ use Rattle.mig_stream.specs.Kept.{bytes_of}
 use Rattle.mig_stream.specs.Progress.{StreamProgress}
 use Rattle.mig_stream.specs.Taking.{HasTaken, HasTakenRecords}
 use Rattle.mig_stream.proofs.Writing.{on_err}
-use Rattle.mig_stream.proofs.ZeroRecords.{records_more, records_same, records_stop, records_within, taken_within, tail_from, taken_to}
+use Rattle.mig_stream.proofs.ZeroRecords.{records_none, records_more, records_same, records_stop, records_within, taken_within, tail_from, taken_to}
 use Rattle.mig_stream.proofs.progress.Progress.pass_zero_records.Goals as goal
 use Rattle.mig_stream.proofs.progress.Progress.pass_zero_records.Goals.{else-runs-test, then-runs-test+in_ok-len+then-len-eq0}
 
@@ -36,3 +36,6 @@ returns-clause-ok g c =
           rw w.self-is (records_same old c.runs.self w.zero_run.new.self bytes (take (length bytes - at) (drop at bytes)) at w.in_ok-len.len c.runs.invariant (tail_from bytes at) w.in_ok-len.ensures.ok w.if-len-eq0.true)
     ] in
     taken_to old new (bytes_of c.args.text) (bytes_of c.split_at.result.1) at (subst (λ (x : List ℕ). HasTakenRecords old x at new) c.bytes-bytes.ensures (records_within old new whole c.min.result at taken)) c.split_at.ensures.back
+
+pub runs-init : goal.runs-init
+runs-init g c = records_none c.args.self.now (take c.min.result c.bytes-bytes.result.now) c.requires

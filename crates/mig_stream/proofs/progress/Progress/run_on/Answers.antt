@@ -12,7 +12,7 @@ use Rattle.mig_mem.proofs.PageSizes.{page_size_some}
 use Rattle.mig_stream.proofs.Fronts.{work, split_item, goes_on}
 use Rattle.mig_stream.proofs.Exists.{work_falls}
 use Rattle.mig_stream.proofs.Writing.{on_err}
-use Rattle.mig_stream.proofs.ZeroRecords.{goes_on_to, stops_within}
+use Rattle.mig_stream.proofs.ZeroRecords.{pages_taken, goes_on_to, stops_within}
 use Rattle.mig_stream.proofs.progress.Progress.run_on.Goals as goal
 
 pub items-preserved : goal.items-preserved
@@ -24,7 +24,8 @@ items-preserved g c =
     let taken : HasTakenTo c.args.self.now (bytes_of c.args.text) (bytes_of c.split_at.result.1) c.take.new.self =
     goes_on c.args.self.now d c.take.new.self (bytes_of c.args.text) (bytes_of c.items.rest) (bytes_of c.split_at.result.0) (bytes_of c.split_at.result.1)
     parts.0 parts.1 c.in-Ok.ensures.0 c.in-Ok.ensures.1 c.items.invariant in
-    goes_on_to c.args.self.now c.take.new.self c.pass_zeros.new.self (bytes_of c.args.text) (bytes_of c.split_at.result.1) _ taken c.in_ok-rest-in-Ok.ensures.ok
+    goes_on_to c.args.self.now c.take.new.self c.pass_zeros.new.self (bytes_of c.args.text) (bytes_of c.split_at.result.1) (bytes_of c.in_ok-rest-in-Ok.rest) taken
+    (pages_taken c.take.new.self c.pass_zeros.new.self (bytes_of c.split_at.result.1) (bytes_of c.in_ok-rest-in-Ok.rest) c.in_ok-rest-in-Ok.ensures.ok)
 
 pub items-smaller : goal.items-smaller
 items-smaller g c =
