@@ -94,12 +94,6 @@ pub(crate) fn put_blocks<W: Write>(
     Ok(())
 }
 
-// Returns whether an item was read, or has the fault. An item after the fault may have been noted,
-// too.
-fn is_read(survey: &Survey, note: &Note) -> bool {
-    note.at <= survey.valid
-}
-
 /// Writes the line on a file, with its length if that is known.
 pub(crate) fn put_file_line<W: Write>(
     output: &mut W,
@@ -155,13 +149,11 @@ fn put_head<W: Write>(
         };
         writeln!(output, "libvirt header {len} bytes, the guest was {was}").map_err(output_failed)?;
     }
-    for note in &survey.between.notes {
-        if is_read(survey, note) {
-            put_note(alloc, output, note)?;
-        }
+    for note in &survey.notes.notes {
+        put_note(alloc, output, note)?;
     }
-    if survey.between.unnoted != 0 {
-        let more = survey.between.unnoted;
+    if survey.notes.unnoted != 0 {
+        let more = survey.notes.unnoted;
         writeln!(output, "and {more} more of these").map_err(output_failed)?;
     }
     Ok(())
@@ -169,7 +161,7 @@ fn put_head<W: Write>(
 
 // Writes the byte at which the stream ends, or up to which it was read.
 fn put_end<W: Write>(output: &mut W, survey: &Survey) -> io::Result<()> {
-    let sections = survey.sections;
+    let sections = survey.notes.sections;
     let end = survey.before().saturating_add(survey.valid);
     let after = survey.len.saturating_sub(end);
     writeln!(output, "sections {sections}")?;
@@ -327,10 +319,8 @@ pub(crate) fn note_value(alloc: Global, note: &Note) -> Result<Value, AllocError
 
 fn notes_value(alloc: Global, survey: &Survey) -> Result<Value, AllocError> {
     let mut notes = array(alloc);
-    for note in &survey.between.notes {
-        if is_read(survey, note) {
-            notes.push(note_value(alloc, note)?)?;
-        }
+    for note in &survey.notes.notes {
+        notes.push(note_value(alloc, note)?)?;
     }
     Ok(Value::Array(notes))
 }
@@ -426,7 +416,12 @@ fn table_value(alloc: Global, blocks: &Option<Blocks>) -> Result<Value, AllocErr
 fn put_numbers(alloc: Global, object: &mut Object, survey: &Survey) -> Result<(), AllocError> {
     let end = survey.before().saturating_add(survey.valid);
     put(object, alloc, "page_size", Value::from(survey.page_size))?;
-    put(object, alloc, "sections", Value::from(survey.sections))?;
+    put(
+        object,
+        alloc,
+        "sections",
+        Value::from(survey.notes.sections),
+    )?;
     put(object, alloc, "end", Value::from(end))?;
     put_tail(
         alloc,

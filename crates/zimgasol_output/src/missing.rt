@@ -76,7 +76,7 @@ fn cause_in(frame: Frame, blocks: &Blocks) -> &'static str {
 // Returns what may be the cause that a single stream has pages without a record.
 fn cause_of(survey: &Survey, blocks: &Blocks) -> &'static str {
     let all = blocks.counts_of_all();
-    if survey.between.leaves_shared_out() && has_absent(blocks) {
+    if survey.notes.leaves_shared_out() && has_absent(blocks) {
         return SHARED;
     }
     if all.pages != 0 || matches!(survey.frame, Frame::Ram) {
@@ -85,7 +85,7 @@ fn cause_of(survey: &Survey, blocks: &Blocks) -> &'static str {
     if all.zeros != 0 {
         return NO_CONTENTS;
     }
-    if survey.sections <= FEWEST_SECTIONS {
+    if survey.notes.sections <= FEWEST_SECTIONS {
         NOT_SENT
     } else {
         NOT_RECORDED

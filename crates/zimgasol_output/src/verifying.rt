@@ -70,14 +70,14 @@ fn met_of(survey: &Survey, fault: StreamFault) -> Met<'_> {
         fault,
         frame: survey.frame,
         item: survey.head.bytes(),
-        notes: survey.between.notes.as_slice(),
-        sections: survey.sections,
+        notes: survey.notes.notes.as_slice(),
+        sections: survey.notes.sections,
     }
 }
 
 // Writes the line on a stream without a fault.
 fn put_complete<W: Write>(output: &mut W, name: &str, survey: &Survey) -> io::Result<()> {
-    let sections = survey.sections;
+    let sections = survey.notes.sections;
     let word = coverage_word(survey.coverage());
     write!(output, "{name}: {word}: sections {sections}, ")?;
     if let Some(blocks) = &survey.blocks {

@@ -9,13 +9,12 @@
 //! |---|---|
 //! | `survey`, `libvirt`, `heads`, `place` | read a single stream, and locate its fault |
 //! | `several`, `main_stream`, `channel`, `lane`, `guest`, `several_place` | the same of channels |
-//! | `between`, `sections` | note what is between RAM's sections |
+//! | `notes` | notes what is between RAM's sections |
 //! | `tail`, `description` | check what follows RAM, and list the devices |
 //! | `blocks` | counts the page records of each block, and the pages without any |
 //! | `sink` | takes the pages |
 #![tactic(auto)]
 
-mod between;
 mod blocks;
 mod channel;
 mod description;
@@ -24,15 +23,14 @@ mod heads;
 mod lane;
 mod libvirt;
 mod main_stream;
+mod notes;
 mod place;
-mod sections;
 mod several;
 mod several_place;
 mod sink;
 mod survey;
 mod tail;
 
-pub use between::{Between, Note, Noted, SectionKind};
 pub use blocks::{Blocks, Coverage, PageCounts};
 pub use channel::{Channel, Inlet};
 pub use description::Device;
@@ -41,8 +39,8 @@ pub use heads::{Head, section_id, section_name};
 pub use lane::{ChannelCounts, Lane};
 pub use libvirt::LibvirtHeader;
 pub use main_stream::MainStream;
+pub use notes::{Note, Noted, Notes, SectionKind};
 pub use place::{FaultPlace, block_at, fault_of, is_complete, kind_name};
-pub use sections::Sections;
 pub use several::{Several, read_several};
 pub use several_place::{Spot, Within};
 pub use sink::{NoSink, PageSink};

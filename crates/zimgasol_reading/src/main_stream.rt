@@ -2,14 +2,13 @@
 
 ghost use Rattle.std.specs.Prelude.{◌≡◌, ◌+◌, ◌<◌, ◌≤◌, ◌^◌, length};
 
-use crate::between::{Note, SectionKind};
 use crate::guest::Guest;
 use crate::heads::Head;
-use crate::sections::Sections;
+use crate::notes::{Note, Notes, SectionKind};
 use crate::sink::PageSink;
 use crate::tail::{Ending, Tail};
 use mig_answer::{Status, stream_end};
-use mig_stream::{Mode, StreamReader, StreamState};
+use mig_stream::{Mode, Report, StreamReader, StreamState};
 use std::alloc::{AllocGlobal, Global};
 use std::fs::{Files, Metadata};
 use std::io::Read;
@@ -20,7 +19,9 @@ use zimgasol_files::{Pieces, StreamWords, Trouble};
 pub struct MainStream {
     reader: StreamReader<'static>,
     pieces: Pieces,
-    sections: Sections,
+    // what it passed over, and what is noted of that
+    report: Report,
+    notes: Notes,
     // the first bytes of the item that isn't complete, or has the fault
     head: Head,
     // whether the current round is complete
@@ -47,7 +48,8 @@ impl MainStream {
                 words.limit(),
             ),
             pieces: Pieces::new(alloc)?,
-            sections: Sections::new(alloc, page_size),
+            report: Report::new(alloc),
+            notes: Notes::new(alloc),
             head: Head::new(alloc),
             is_whole: false,
             ending: Ending::unchecked(),
@@ -104,12 +106,8 @@ impl MainStream {
         if self.reader.ended() || piece.len() as u64 > u64::MAX - fed {
             return Err(Trouble::NoMemory);
         }
-        self.reader.feed(piece)?;
-        let limit = match self.reader.state() {
-            StreamState::Bad(_) => self.reader.valid_up_to(),
-            StreamState::Reading | StreamState::Closed => u64::MAX,
-        };
-        self.sections.look(piece, fed, limit)?;
+        self.reader.feed_reporting(piece, &mut self.report)?;
+        self.notes.take(&mut self.report)?;
         self.head.look(piece, fed, self.reader.valid_up_to())?;
         if let StreamState::Closed = self.reader.state() {
             let from = self.reader.valid_up_to().saturating_sub(fed);
@@ -188,7 +186,7 @@ impl MainStream {
 
     /// Returns the items between the sections that were read.
     pub fn read_notes(&self) -> &[Note] {
-        self.sections.notes(self.valid())
+        &self.notes.notes
     }
 
     /// Returns the first bytes of the item that isn't complete, or has the fault.
@@ -198,12 +196,12 @@ impl MainStream {
 
     /// Returns whether shared memory was left out of the stream (`x-ignore-shared`).
     pub fn leaves_shared_out(&self) -> bool {
-        self.sections.leaves_shared_out()
+        self.notes.leaves_shared_out()
     }
 
     /// Returns how many sections are complete, and the kind of the one that is open.
     pub fn section(&self) -> (u64, Option<SectionKind>) {
-        (self.sections.count, self.sections.kind(self.valid()))
+        (self.notes.sections, self.notes.open)
     }
 
     /// Returns how many bytes of the stream are complete items without a fault.

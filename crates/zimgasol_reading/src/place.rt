@@ -6,7 +6,7 @@ ghost use Rattle.mig_stream.specs.declared.fault.StreamFault.TheVariants as faul
 ghost use Rattle.mig_stream.specs.declared.item.StreamState.TheVariants as state;
 ghost use Rattle.zimgasol_reading.specs.Coverage.{IsComplete};
 
-use crate::between::SectionKind;
+use crate::notes::SectionKind;
 use crate::survey::Survey;
 use mig_stream::{StreamFault, StreamState};
 use std::alloc::{AllocError, Global};
@@ -39,8 +39,8 @@ pub fn fault_of(survey: &Survey) -> Option<FaultPlace>
     Some(FaultPlace {
         fault,
         byte,
-        sections: survey.sections,
-        kind: kind_at(survey),
+        sections: survey.notes.sections,
+        kind: survey.notes.open,
     })
 }
 
@@ -52,15 +52,6 @@ pub fn is_complete(survey: &Survey) -> bool
     match fault_of(survey) {
         Some(_) => false,
         None => survey.has_its_pages(),
-    }
-}
-
-// Returns the kind of the section in which the reading stopped; None between two sections. A
-// section after the fault doesn't count.
-fn kind_at(survey: &Survey) -> Option<SectionKind> {
-    match survey.between.open {
-        Some((kind, at)) if at < survey.valid => Some(kind),
-        _ => None,
     }
 }
 
@@ -82,7 +73,7 @@ fn last_id(alloc: Global, survey: &Survey) -> Result<Option<String>, AllocError>
 /// names, or else the block of the last page record. None outside the sections that have page
 /// records.
 pub fn block_at(alloc: Global, survey: &Survey) -> Result<Option<String>, AllocError> {
-    match kind_at(survey) {
+    match survey.notes.open {
         Some(SectionKind::Part | SectionKind::End) => {}
         _ => return Ok(None),
     }

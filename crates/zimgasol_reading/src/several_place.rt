@@ -2,7 +2,7 @@
 
 ghost use Rattle.std.specs.Prelude.{◌≤◌};
 
-use crate::between::SectionKind;
+use crate::notes::SectionKind;
 use crate::several::Several;
 use mig_assemble::RoundFault;
 use mig_packet::ChannelFault;

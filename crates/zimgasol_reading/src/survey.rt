@@ -5,14 +5,14 @@ ghost use Rattle.std.specs.Prelude.{◌≡◌, ◌↔◌, ◌≤◌, ◌^◌, le
 ghost use Rattle.mig_stream.specs.Giving.{HasNoneLeft};
 ghost use Rattle.zimgasol_reading.specs.Coverage.{IsWhole, HasItsPages};
 
-use crate::between::Between;
 use crate::blocks::{Blocks, Coverage};
 use crate::heads::Head;
 use crate::libvirt::{LibvirtHeader, header_of};
+use crate::notes::Notes;
 use crate::sink::PageSink;
 use crate::tail::{Ending, Tail};
 use mig_mem::Place;
-use mig_stream::{Frame, Given, Pause, RecordReader, StreamState};
+use mig_stream::{Frame, Given, Pause, RecordReader, Report, StreamState};
 use std::alloc::{AllocGlobal, Global};
 use std::fs::{File, Files, Metadata, OpenFile};
 use std::io::{Read, Write};
@@ -29,12 +29,10 @@ pub struct Survey {
     pub libvirt: Option<LibvirtHeader>,
     /// The blocks and their records, once the size list is complete.
     pub blocks: Option<Blocks>,
-    /// The complete sections.
-    pub sections: u64,
     /// The page of the last page record.
     pub last: Option<Place>,
     /// The items between the sections.
-    pub between: Between,
+    pub notes: Notes,
     /// The first bytes of the item that isn't complete, or has the fault.
     pub head: Head,
     /// Whether the stream is closed, has a fault, or has ended too early.
@@ -57,6 +55,8 @@ pub struct Survey {
     is_begun: bool,
     // the reader for the next piece; None after the stream's end or fault
     pause: Option<Pause>,
+    // what it passed over
+    report: Report,
     // the number of the stream's bytes that were read
     fed: u64,
     // the bytes after RAM
@@ -75,9 +75,8 @@ impl Survey {
             page_size,
             libvirt: None,
             blocks: None,
-            sections: 0,
             last: None,
-            between: Between::new(alloc),
+            notes: Notes::new(alloc),
             head: Head::new(alloc),
             state: StreamState::Reading,
             valid: 0,
@@ -88,6 +87,7 @@ impl Survey {
             is_partial: words.partial,
             is_begun: false,
             pause: Some(Pause::new_in(alloc, words.frame, page_size, words.limit())),
+            report: Report::new(alloc),
             fed: 0,
             tail: Tail::new(alloc, words.checks_tail()),
             is_over: false,
@@ -197,7 +197,6 @@ impl Survey {
         };
         let start = self.fed;
         self.fed = start.saturating_add(piece.len() as u64);
-        self.between.look(piece, start)?;
         self.read_by(rt, pause.resume(piece), piece, start, sink)?;
         self.begin_tail(piece, start)
     }
@@ -246,38 +245,31 @@ impl Survey {
     ) -> Result<StreamState, Trouble>
         ensures { IfOk result (λ found. HasNoneLeft found reader.new) }
     {
-        let found = self.take_records(rt, reader, piece, start, sink)?;
+        let found = self.take_records(rt, reader, sink)?;
         self.valid = reader.valid_up_to();
         self.head.look(piece, start, self.valid)?;
         self.state = found;
         Ok(found)
     }
 
-    // Takes all records that `reader` returns from `piece`, which begins at the stream's byte
-    // `start`.
+    // Takes all records that `reader` returns from its piece.
     fn take_records<H: AllocGlobal + Files, S: PageSink<H>>(
         &mut self,
         rt: &H,
         reader: &mut RecordReader<'_>,
-        piece: &[u8],
-        start: u64,
         sink: &mut S,
     ) -> Result<StreamState, Trouble>
         ensures { IfOk result (λ found. HasNoneLeft found reader.new) }
     {
         'records: loop {
-            let gave = reader.read_on()?;
+            let gave = reader.read_on_reporting(&mut self.report)?;
+            self.notes.take(&mut self.report)?;
             self.list_blocks(rt, reader)?;
             if let Given::End(found) = gave {
                 return Ok(found);
             }
             self.begin(rt, reader, sink)?;
             self.take_given(reader, sink)?;
-            if let Given::Section = gave {
-                self.sections = self.sections.saturating_add(1);
-                self.between.end_section(reader.valid_up_to());
-                self.between.look(piece, start)?;
-            }
         }
     }
 
