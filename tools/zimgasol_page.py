@@ -59,7 +59,9 @@ RAM_ONLY = "`--ram-only` verifies RAM alone"
 WHOLE_RAM = "complete: sections 3, blocks 1, memory 131072 bytes, RAM ends at byte 86395"
 NO_MAGIC = "this is no migration stream of QEMU's; if it is compressed, pipe it through its unpacker into `-`"
 NO_STREAM = f"byte 0 (before section 1): fault 11: the stream doesn't begin with QEVM; {NO_MAGIC}"
-NOTHING_READ = ["page size 4096", "sections 0", "read up to byte 0"]
+NO_BLOCK = ["page size 4096", "sections 0"]
+NOTHING_READ = [*NO_BLOCK, "read up to byte 0"]
+POSTCOPY = "fault 49: unsupported COMMAND; a migration that went over to postcopy isn't complete in a file"
 TOTAL = "byte 34 (section 1, START): fault 20: RAM total is 0 or above the limit"
 PAIR = " --channel pair.sav.0 --channel pair.sav.1"
 THREE = "".join(f" --channel three.sav.{i}" for i in (2, 0, 1))
@@ -198,6 +200,30 @@ CASES = [
          'block "ram" 131072 bytes, 0 pages, 0 zero pages', "sections 0", "read up to byte 54",
          f"listed.sav: byte 56 (section 1, START): {CUT}"], 1)),
     ("zimgasol extract listed.sav memory", ([f"listed.sav: byte 56 (section 1, START): {CUT}"], 1)),
+    # ---- COMMANDs and subsections that are whole are listed, and not one that is cut or has the fault. The COMMAND that
+    # is put behind the configuration has its type byte at byte 17, then its number, its length and up to byte 38 its data;
+    # the subsection its type byte at 17, its name up to 45, its version up to 49, a count, and capabilities at 53 and 57
+    (f"(head -c 17 guest.sav; printf '{ADVISE}') > whole.sav", ([], 0)),
+    ("zimgasol inspect whole.sav", (
+        ["file whole.sav, 38 bytes", 'machine "none"', "command 3 POSTCOPY_ADVISE after section 0", *NO_BLOCK,
+         "read up to byte 38", f"whole.sav: byte 38 (before section 1): {CUT}"], 1)),
+    ("head -c 37 whole.sav > cut.sav", ([], 0)),
+    ("zimgasol inspect cut.sav", (
+        ["file cut.sav, 37 bytes", 'machine "none"', *NO_BLOCK,
+         "read up to byte 18", f"cut.sav: byte 37 (before section 1): {CUT}"], 1)),
+    (f"(head -c 17 guest.sav; printf '{CAPABILITIES}') > whole.sav", ([], 0)),
+    ("zimgasol inspect whole.sav", (
+        ["file whole.sav, 73 bytes", 'machine "none"',
+         'subsection "configuration/capabilities" 000000020378797a0f782d69676e6f72652d736861726564', *NO_BLOCK,
+         "read up to byte 73", f"whole.sav: byte 73 (before section 1): {CUT}"], 1)),
+    ("head -c 72 whole.sav > cut.sav", ([], 0)),
+    ("zimgasol inspect cut.sav", (
+        ["file cut.sav, 72 bytes", 'machine "none"', *NO_BLOCK,
+         "read up to byte 57", f"cut.sav: byte 72 (before section 1): {CUT}"], 1)),
+    (r"(head -c 17 guest.sav; printf '\x08\0\5\0\0') > whole.sav", ([], 0)),
+    ("zimgasol inspect whole.sav", (
+        ["file whole.sav, 22 bytes", 'machine "none"', *NO_BLOCK,
+         "read up to byte 18", f"whole.sav: byte 18 (before section 1): {POSTCOPY}"], 1)),
     # ---- what a file is that begins otherwise
     ("gzip -c guest.sav > guest.gz", ([], 0)),
     ("zimgasol verify guest.gz", (
@@ -353,6 +379,15 @@ CASES = [
     ("head -c 95 command.sav > cut.main", None),
     ("zimgasol verify cut.main --channel multi.sav.0 --channel multi.sav.1", (
         [f"cut.main: byte 95 (round 2, after section 2): {CUT}"], 1)),
+    # (START's EOS ends the first round. The COMMAND that is put behind it has its data from byte 72 on, and is cut in the
+    # second round, of which the channels have all 32 pages)
+    (r"(head -c 67 multi.sav; printf '\x08\0\2\0\4ab') > cut.main", ([], 0)),
+    ("zimgasol inspect cut.main --channel multi.sav.0 --channel multi.sav.1", (
+        ["file cut.main, 74 bytes", 'machine "none"', "page size 4096", "UUID 00000000-0000-0000-0000-000000000000",
+         "channel multi.sav.0, 94208 bytes, id 0, packets 3, numbers 0-3, 22 pages, 10 zero pages",
+         "channel multi.sav.1, 2752 bytes, id 1, packets 2, numbers 1-4, 0 pages, 0 zero pages",
+         'block "ram" 131072 bytes, 22 pages, 10 zero pages', "rounds 1", "read up to byte 68",
+         f"cut.main: byte 74 (round 2, after section 1): {CUT}"], 1)),
     ("head -c 1408 multi.sav.1 > cut.1", None),
     ("zimgasol verify multi.sav --channel multi.sav.0 --channel cut.1", (
         ["cut.1: byte 1408 (round 2, complete packets 1): fault 53: the channel ends before the main stream; "
