@@ -8,11 +8,13 @@ use Rattle.std.proofs.lemmas.List.Elements.{All-nil, All-cons, All-head, All-tai
 use Rattle.std.proofs.lemmas.List.Sums.{sum_by-cons}
 use Rattle.mig_mem.specs.PageSize.{IsPageSize}
 use Rattle.mig_mem.specs.RamTable.{RamTable}
+use Rattle.mig_mem.specs.PlaceSet.{PlaceSet}
 use Rattle.mig_mem.specs.First.{first_some}
 use Rattle.mig_mem.specs.Image.{Page, Image}
 use Rattle.mig_mem.specs.Round.{after}
 use Rattle.mig_assemble.specs.declared.fault.RoundFault.{RoundFault}
 use Rattle.mig_assemble.specs.Judging.{refusal, all_round_pages}
+use Rattle.mig_assemble.specs.NamedPlaces.{named_by}
 use Rattle.mig_stream.specs.declared.item.StreamState.{StreamState}
 use Rattle.mig_stream.specs.declared.item.StreamState.TheVariants as stream
 use Rattle.mig_stream.specs.PageRecord.{PageRecord, page_of}
@@ -32,7 +34,7 @@ use Rattle.mig_answer.specs.declared.status.Status.{Status}
 use Rattle.mig_answer.specs.declared.status.Status.TheVariants.{Whole, Clean, Bad, Pending}
 use Rattle.mig_answer.specs.Status.{status_at, main_status, channel_status, stream_end, channel_end, is_whole, is_pending}
 use Rattle.mig_answer.specs.Texts.{Text, Texts, Readings, AreReadings}
-use Rattle.mig_answer.specs.Rounds.{record_pages_at, channel_packets_at, packets_at, packet_count_at, base_at, refusal_of, refusal_at, pages_at, memory_at}
+use Rattle.mig_answer.specs.Rounds.{record_pages_at, channel_packets_at, packets_at, packet_count_at, base_at, refusal_of, refusal_at, pages_at, memory_at, named_at}
 use Rattle.mig_answer.specs.MultiLoad.{Standing, main_standing, main_at, channels_at, sources_at, hello_ids, repeated_hello, passes, failed, verdicts_told, verdict_at}
 use Rattle.mig_answer.specs.Growing.{GoesOn, GoOn, AnswersStay, WithoutMemoryStays, RoundsStay}
 use Rattle.mig_answer.proofs.Statuses.{status_whole, status_end, stream_ends}
@@ -359,6 +361,25 @@ pub memory_still : (before now : Readings) (k : ℕ) (memory : Image) → Readin
 memory_still before now k memory stay passed e =
     let some : before.main.table ≢ None = mapped_some (memory_of k before) before.main.table memory e in
     same_memory before now k stay passed (kept before.main.table now.main.table some stay.main.same_table) ∙ e
+
+-- ---- the places that rounds named
+
+abbrev names_of : ℕ → Readings → RamTable → PlaceSet
+names_of k readings table = named_by table (map (λ i. pages_at table i readings) (range_with_len 0 k))
+
+same_named : (before now : Readings) (k : ℕ) → ReadingsStay before now → HavePassed k before → now.main.table ≡ before.main.table
+    → named_at k now ≡ named_at k before
+same_named before now k stay passed table =
+    ap (option_map (names_of k now)) table
+    ∙ same_mapped (names_of k now) (names_of k before) before.main.table
+    (λ t. ap (named_by t) (same_map (λ i. pages_at t i now) (λ i. pages_at t i before) 0 k
+    (λ i below. same_pages t i before now (same_passed before now k stay passed i (omega (arith, below))))))
+
+pub named_still : (before now : Readings) (k : ℕ) (named : PlaceSet) → ReadingsStay before now → ((j : ℕ) → j < k → IsTrue (passes j before))
+    → named_at k before ≡ Some named → named_at k now ≡ Some named
+named_still before now k named stay passed e =
+    let some : before.main.table ≢ None = mapped_some (names_of k before) before.main.table named e in
+    same_named before now k stay passed (kept before.main.table now.main.table some stay.main.same_table) ∙ e
 
 -- ---- answers
 

@@ -17,6 +17,7 @@ pub mod Headline
 pub mod SentWithin
 mod TwicePages
 pub mod ToldSources
+pub mod NamedRounds
 pub mod Putting
 pub mod Hellos
 pub mod GrowingChannels

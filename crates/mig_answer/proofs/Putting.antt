@@ -8,6 +8,7 @@ use Rattle.std.proofs.lemmas.List.Sums.{sum_by-append}
 use Rattle.std.proofs.lemmas.List.FromFn.{map-range_with_len_more}
 use Rattle.mig_mem.specs.PageSize.{IsPageSize}
 use Rattle.mig_mem.specs.RamTable.{RamTable}
+use Rattle.mig_mem.specs.PlaceSet.{PlaceSet}
 use Rattle.mig_mem.specs.Image.{Page, Image, zero_image}
 use Rattle.mig_mem.specs.Round.{after, with_round}
 use Rattle.mig_mem.proofs.Rounds.{onto-push, onto-zeros, after-nil}
@@ -16,10 +17,12 @@ use Rattle.mig_stream.specs.Round.{RoundOfRecords}
 use Rattle.mig_stream.proofs.Limits.{limits_law}
 use Rattle.mig_packet.specs.Packet.{Fields, fields_of}
 use Rattle.mig_packet.specs.Reading.{ChannelReading}
-use Rattle.mig_assemble.specs.Judging.{refusal, all_round_pages}
+use Rattle.mig_assemble.specs.Judging.{refusal, all_round_pages, places_of}
+use Rattle.mig_assemble.specs.NamedPlaces.{named_by, with_places}
 use Rattle.mig_assemble.specs.Target.{LoadTarget, FitsTable, pages_of_round, after_round}
 use Rattle.mig_single_load.specs.Settings.{main_of}
 use Rattle.mig_single_load.specs.declared.settings.LoadSettings.{LoadSettings}
+use Rattle.mig_assemble.proofs.Naming.{named_by-push}
 use Rattle.mig_answer.specs.Texts.{Text, Readings, IsMainReading}
 use Rattle.mig_answer.specs.Rounds.{record_pages_at, channel_packets_at, packets_at, packet_count_at, base_at, refusal_of, refusal_at, pages_at, memory_at}
 use Rattle.mig_answer.specs.Putting.{HasLoaded}
@@ -105,8 +108,15 @@ round_is_put p readings target new round packets size has fits next are is =
     let memory : after table (map (λ i. pages_at table i readings) (range_with_len 0 (k + 1))) ≡ new.memory =
     ap (after table) (map-range_with_len_more (λ i. pages_at table i readings) 0 k k (omega arith)) ∙ one_round_more table pages (pages_at table k readings)
     ∙ ap (λ (m : Image). with_round m (pages_at table k readings)) before ∙ ap (with_round target.memory) here ∙ ap (λ (t : LoadTarget). t.memory) (sym is) in
+    let named : target.named ≡ named_by table pages =
+    let e : Some (named_by table pages) ≡ Some target.named =
+    sym (ap (option_map (λ t. named_by t (map (λ i. pages_at t i readings) (range_with_len 0 k)))) is_table) ∙ has.has_named in cc in
+    let names : named_by table (map (λ i. pages_at table i readings) (range_with_len 0 (k + 1))) ≡ new.named =
+    ap (named_by table) (map-range_with_len_more (λ i. pages_at table i readings) 0 k k (omega arith)) ∙ sym (named_by-push table pages (pages_at table k readings) target.named named)
+    ∙ ap (λ (ps : List Page). with_places target.named (places_of ps)) here ∙ ap (λ (t : LoadTarget). t.named) (sym is) in
     record {
       has_memory = ap (option_map (λ t. after t (map (λ i. pages_at t i readings) (range_with_len 0 (k + 1))))) is_table ∙ ap (λ (m : Image). Some m) memory;
+      has_named = ap (option_map (λ t. named_by t (map (λ i. pages_at t i readings) (range_with_len 0 (k + 1))))) is_table ∙ ap (λ (s : PlaceSet). Some s) names;
       has_rounds = ap (λ (t : LoadTarget). t.rounds) is;
       has_base = ap (λ (t : LoadTarget). t.base) is
           ∙ ap (λ (n : ℕ). n + length packets) has.has_base

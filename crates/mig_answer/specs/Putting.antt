@@ -6,12 +6,13 @@ use Rattle.mig_single_load.specs.declared.fault.Origin.TheVariants as origin
 use Rattle.mig_single_load.specs.declared.fault.LoadFault.{LoadFault}
 use Rattle.mig_single_load.specs.SingleLoad.{no_memory_at}
 use Rattle.mig_answer.specs.Texts.{Readings}
-use Rattle.mig_answer.specs.Rounds.{memory_at, base_at}
+use Rattle.mig_answer.specs.Rounds.{memory_at, named_at, base_at}
 use Rattle.mig_single_load.specs.declared.fault.Fault.TheVariants as fault
 
--- the first k rounds are in the memory
+-- the first k rounds are in the memory, and the places that they named are known
 pub record HasLoaded (k : ℕ) (readings : Readings) (target : LoadTarget) : Type 0 where
   pub has_memory : memory_at k readings ≡ Some target.memory
+  pub has_named : named_at k readings ≡ Some target.named
   pub has_rounds : target.rounds ≡ k
   pub has_base : target.base ≡ base_at k readings
 

@@ -2,7 +2,9 @@
 use Rattle.std.specs.Prelude.{ℕ, List, [], length, map, flat_map, get_or, sum_by, Option}
 use Rattle.std.specs.List.{range_with_len}
 use Rattle.std.specs.Option.{option_map, option_and_then}
+use Rattle.mig_mem.specs.declared.place.Place.{Place}
 use Rattle.mig_mem.specs.RamTable.{RamTable}
+use Rattle.mig_mem.specs.PlaceSet.{PlaceSet}
 use Rattle.mig_mem.specs.Image.{Page, Image}
 use Rattle.mig_mem.specs.Round.{after}
 use Rattle.mig_stream.specs.PageRecord.{page_of}
@@ -10,6 +12,7 @@ use Rattle.mig_packet.specs.Packet.{Fields, fields_of}
 use Rattle.mig_packet.specs.Reading.{ChannelReading}
 use Rattle.mig_assemble.specs.declared.fault.RoundFault.{RoundFault}
 use Rattle.mig_assemble.specs.Judging.{refusal, all_round_pages}
+use Rattle.mig_assemble.specs.NamedPlaces.{places_in, named_by, missing_of}
 use Rattle.mig_answer.specs.Texts.{Readings}
 
 -- the pages of the main stream's records of round k; none, if it doesn't have that round (a round
@@ -48,3 +51,17 @@ pages_at table k readings = all_round_pages table (record_pages_at table.page_si
 -- the memory after the first k rounds, None if the size list isn't complete
 abbrev pub memory_at : ℕ → Readings → Option Image
 memory_at k readings = option_map (λ table. after table (map (λ i. pages_at table i readings) (range_with_len 0 k))) readings.main.table
+
+-- ---- the pages that rounds name
+
+-- the places of all pages of the first k rounds
+abbrev pub places_in_rounds : RamTable → ℕ → Readings → List Place
+places_in_rounds table k readings = places_in (map (λ i. pages_at table i readings) (range_with_len 0 k))
+
+-- the set of these places, None if the size list isn't complete
+abbrev pub named_at : ℕ → Readings → Option PlaceSet
+named_at k readings = option_map (λ table. named_by table (map (λ i. pages_at table i readings) (range_with_len 0 k))) readings.main.table
+
+-- how many pages of the table the first k rounds don't name
+abbrev pub missing_after : RamTable → ℕ → Readings → ℕ
+missing_after table k readings = missing_of table (map (λ i. pages_at table i readings) (range_with_len 0 k))

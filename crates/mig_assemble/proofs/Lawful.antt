@@ -13,6 +13,7 @@ use Rattle.mig_mem.specs.RamTable.{RamTable, block_of}
 use Rattle.mig_mem.specs.Place.{IsPlace, place_at, place_lt, place_eq}
 use Rattle.mig_mem.specs.Image.{Page, Image, zero_page}
 use Rattle.mig_mem.specs.Round.{with_round}
+use Rattle.mig_mem.specs.PlaceSet.{PlaceSet}
 use Rattle.mig_mem.proofs.Members.{All-flat_map, map-map}
 use Rattle.mig_stream.specs.Round.{RoundOfRecords}
 use Rattle.mig_packet.specs.declared.packet.Packet.{Packet}
@@ -23,7 +24,9 @@ use Rattle.mig_assemble.specs.declared.fault.RoundFault.TheVariants.{Foreign, Do
 use Rattle.mig_assemble.specs.Judging.{least, lesser, twice, absent, numbers, offsets, place_fault, page_in, pages_in}
 use Rattle.mig_assemble.specs.Judging.{packet_pages, least_place_fault, all_round_pages, places_of, refusal}
 use Rattle.mig_assemble.specs.Target.{LoadTarget, pages_of_round, after_round}
+use Rattle.mig_assemble.specs.NamedPlaces.{with_places}
 use Rattle.mig_assemble.proofs.Putting.{put_after}
+use Rattle.mig_assemble.proofs.Naming.{round_named}
 use Rattle.mig_assemble.proofs.PacketParts.{right_offsets, unknown_has_none}
 
 -- ---- what a lawful round says of each packet
@@ -138,15 +141,22 @@ lawful_in_table table base records packets first lawful =
 
 -- ---- what it leaves
 
-pub applied : (t s : LoadTarget) (m : Image) (round : RoundOfRecords) (packets gathered : List Packet) → packets ≡ gathered
-    → s.memory ≡ with_round t.memory (pages_of_round round) → s.rounds ≡ t.rounds + 1 → s.base ≡ t.base
+pub applied : (t s : LoadTarget) (m : Image) (n : PlaceSet) (round : RoundOfRecords) (packets gathered : List Packet) → packets ≡ gathered
+    → s.memory ≡ with_round t.memory (pages_of_round round) → s.named ≡ with_places t.named (places_of (pages_of_round round)) → s.named.table ≡ s.memory.table
+    → s.rounds ≡ t.rounds + 1 → s.base ≡ t.base
     → m ≡ with_round s.memory (flat_map (packet_pages s.memory.table) (map fields packets))
-    → record { memory = m; rounds = s.rounds; base = s.base + length packets } ≡ after_round t round (map fields gathered)
-applied t s m round packets gathered same memory rounds base put =
+    → n ≡ with_places s.named (places_of (all_round_pages s.named.table [] (map fields packets)))
+    → record { memory = m; named = n; rounds = s.rounds; base = s.base + length packets } ≡ after_round t round (map fields gathered)
+applied t s m n round packets gathered same memory names table rounds base put name =
     let all : m ≡ with_round t.memory (all_round_pages t.memory.table (pages_of_round round) (map fields gathered)) =
     put
     ∙ ap (λ (x : Image). with_round x (flat_map (packet_pages x.table) (map fields packets))) memory
     ∙ put_after t.memory (pages_of_round round) (flat_map (packet_pages t.memory.table) (map fields packets))
     ∙ ap (λ (ps : List Packet). with_round t.memory (all_round_pages t.memory.table (pages_of_round round) (map fields ps))) same in
+    let here : n ≡ with_places t.named (places_of (all_round_pages t.memory.table (pages_of_round round) (map fields gathered))) =
+    round_named t.named s.named n t.memory.table (pages_of_round round) (map fields gathered) names
+    (name
+    ∙ ap (λ (x : RamTable). with_places s.named (places_of (all_round_pages x [] (map fields packets)))) (table ∙ ap (λ (x : Image). x.table) memory)
+    ∙ ap (λ (ps : List Packet). with_places s.named (places_of (all_round_pages t.memory.table [] (map fields ps)))) same) in
     let count : length packets ≡ length (map fields gathered) = ap (λ (ps : List Packet). length ps) same ∙ sym (length-map gathered fields) in
-    rw (all, rounds, base, count) refl
+    rw (all, here, rounds, base, count) refl

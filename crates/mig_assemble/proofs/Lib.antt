@@ -17,5 +17,6 @@ pub mod Once
 pub mod LawfulRounds
 pub mod Arriving
 mod AddingPlaces
+pub mod Naming
 pub mod Heads
 pub mod HeadPlaces

@@ -144,7 +144,7 @@ lawful_at table now same packets i q lt is lawful =
     (subst (λ (p : Fields). place_fault table p ≡ None) at (lawful i (fields q) (omega arith)))
 
 -- the places of one packet more
-places_step : (table : RamTable) (records : List Page) (packets : List Packet) (i : ℕ) (q : Packet) → i < length packets → q ≡ get_or packets i q
+pub places_step : (table : RamTable) (records : List Page) (packets : List Packet) (i : ℕ) (q : Packet) → i < length packets → q ≡ get_or packets i q
     → places_of (all_round_pages table records (map fields (take i packets))) ++ places_of (packet_pages table (fields q))
     ≡ places_of (all_round_pages table records (map fields (take (i + 1) packets)))
 places_step table records packets i q h e =

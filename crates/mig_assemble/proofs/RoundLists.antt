@@ -1,19 +1,23 @@
 -- Pages that are added to the list of a round, one after another.
 use Rattle.std.proofs.Common.{ℕ, ◌≡◌, ◌+◌, ◌<◌, List, [], ◌∷◌, ◌++◌, length, map, take, refl, sym, ap, subst, ◌∙◌, get_or}
-use Rattle.std.specs.List.{All, flat_map, range_with_len}
+use Rattle.std.specs.List.{flat_map, range_with_len}
 use Rattle.std.proofs.lemmas.List.{map-append, append-nil, append_assoc, length-map, take_more, flat_map_more}
 use Rattle.std.proofs.lemmas.List.FromFn.{map-range_with_len_more}
 use Rattle.std.proofs.lemmas.List.Elements.{All-nil, All-cons, All-append}
 use Rattle.mig_mem.specs.declared.putting.RoundPage.{RoundPage}
+use Rattle.mig_mem.specs.RamTable.{RamTable}
+use Rattle.mig_mem.specs.PlaceSet.{PlaceSet}
 use Rattle.mig_mem.specs.Image.{Page, Image}
 use Rattle.mig_mem.specs.Round.{with_round}
 use Rattle.mig_mem.specs.Puts.{round_page, HasPageSize}
 use Rattle.mig_stream.specs.Round.{RoundOfRecords}
 use Rattle.mig_packet.specs.declared.packet.Packet.{Packet}
 use Rattle.mig_packet.specs.Lent.{fields}
-use Rattle.mig_assemble.specs.Judging.{all_round_pages}
+use Rattle.mig_assemble.specs.Judging.{all_round_pages, places_of}
+use Rattle.mig_assemble.specs.NamedPlaces.{with_places}
 use Rattle.mig_assemble.specs.Target.{LoadTarget, pages_of_round, after_round}
 use Rattle.mig_assemble.specs.RoundList.{Adds}
+use Rattle.mig_assemble.proofs.Naming.{round_named}
 
 -- no page
 pub adds_none : (size : ℕ) (list : List RoundPage) → Adds size list list []
@@ -59,11 +63,18 @@ adds_part {X} size old mid new before f xs i d so_far lt more =
     (adds_after size old mid new (before ++ flat_map f (take i xs)) (f last) so_far more)
 
 -- what a target is once its memory has the pages of a lawful round
-pub listed : (t : LoadTarget) (m : Image) (round : RoundOfRecords) (packets gathered : List Packet) → packets ≡ gathered
+pub listed : (t : LoadTarget) (m : Image) (mid n : PlaceSet) (round : RoundOfRecords) (packets gathered : List Packet) → packets ≡ gathered
     → m ≡ with_round t.memory (all_round_pages t.memory.table (pages_of_round round) (map fields packets))
-    → record { memory = m; rounds = t.rounds + 1; base = t.base + length packets } ≡ after_round t round (map fields gathered)
-listed t m round packets gathered same put =
+    → t.named.table ≡ t.memory.table → mid ≡ with_places t.named (places_of (pages_of_round round)) → mid.table ≡ t.named.table
+    → n ≡ with_places mid (places_of (all_round_pages mid.table [] (map fields packets)))
+    → record { memory = m; named = n; rounds = t.rounds + 1; base = t.base + length packets } ≡ after_round t round (map fields gathered)
+listed t m mid n round packets gathered same put table records still name =
     let all : m ≡ with_round t.memory (all_round_pages t.memory.table (pages_of_round round) (map fields gathered)) =
     put ∙ ap (λ (ps : List Packet). with_round t.memory (all_round_pages t.memory.table (pages_of_round round) (map fields ps))) same in
+    let here : n ≡ with_places t.named (places_of (all_round_pages t.memory.table (pages_of_round round) (map fields gathered))) =
+    round_named t.named mid n t.memory.table (pages_of_round round) (map fields gathered) records
+    (name
+    ∙ ap (λ (x : RamTable). with_places mid (places_of (all_round_pages x [] (map fields packets)))) (still ∙ table)
+    ∙ ap (λ (ps : List Packet). with_places mid (places_of (all_round_pages t.memory.table [] (map fields ps)))) same) in
     let count : length packets ≡ length (map fields gathered) = ap (λ (ps : List Packet). length ps) same ∙ sym (length-map gathered fields) in
-    rw (all, count) refl
+    rw (all, here, count) refl

@@ -2,6 +2,7 @@
 -- load builds, and the laws.
 pub mod Judging
 pub mod Lawful
+pub mod NamedPlaces
 pub mod Target
 pub mod Law
 pub mod RoundFaultNumber
@@ -12,4 +13,3 @@ pub mod Seen
 pub mod PacketPages
 pub mod RoundList
 pub mod Arrivals
-pub mod NamedPlaces

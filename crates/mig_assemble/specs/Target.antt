@@ -8,17 +8,24 @@ use Rattle.mig_mem.specs.Round.{with_round}
 use Rattle.mig_stream.specs.PageRecord.{page_of}
 use Rattle.mig_stream.specs.Round.{RoundOfRecords}
 use Rattle.mig_packet.specs.Packet.{Fields}
-use Rattle.mig_assemble.specs.Judging.{all_round_pages}
+use Rattle.mig_assemble.specs.Judging.{all_round_pages, places_of}
+use Rattle.mig_assemble.specs.NamedPlaces.{with_places}
 
--- the memory so far, how many rounds it has, and the number that the next round's first packet has
+-- the memory so far, the places that its rounds named, how many rounds it has, and the number that
+-- the next round's first packet has
 pub record LoadTarget : Type 0 where
   pub memory : Image
+  pub named : PlaceSet
   pub rounds : ℕ
   pub base : ℕ
 
+-- the set without a place
+abbrev pub none_named : RamTable → PlaceSet
+none_named table = record { table = table; marked = [] }
+
 -- a memory with its contents, without a round
 abbrev pub target_over : Image → LoadTarget
-target_over memory = record { memory = memory; rounds = 0; base = 0 }
+target_over memory = record { memory = memory; named = none_named memory.table; rounds = 0; base = 0 }
 
 -- zeros, without a round
 abbrev pub new_target : RamTable → LoadTarget
@@ -37,10 +44,16 @@ pub record FitsTable (table : RamTable) (round : RoundOfRecords) : Type 0 where
 abbrev pub after_round : LoadTarget → RoundOfRecords → List Fields → LoadTarget
 after_round target round packets = record {
   memory = with_round target.memory (all_round_pages target.memory.table (pages_of_round round) packets);
+  named = with_places target.named (places_of (all_round_pages target.memory.table (pages_of_round round) packets));
   rounds = target.rounds + 1;
   base = target.base + length packets;
 }
 
 -- the set in which a target marks the places of a round: it has no place of its table
 abbrev pub IsUnmarked : Image → PlaceSet → Type 0
-IsUnmarked memory seen = seen ≡ record { table = memory.table; marked = [] }
+IsUnmarked memory seen = seen ≡ none_named memory.table
+
+-- Both sets of a target are of the memory's table, and the one by which it judges has no place.
+pub record HasSets (memory : Image) (named seen : PlaceSet) : Type 0 where
+  pub is_unmarked : IsUnmarked memory seen
+  pub same_table : named.table ≡ memory.table

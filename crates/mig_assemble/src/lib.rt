@@ -9,8 +9,8 @@
 //! `Arrivals` is for a load that keeps no round: its caller writes each page as it arrives, and
 //! `Arrivals` judges the round as `Target::round` would.
 //!
-//! Definitions to read first, in this order: `Judging`, `Lawful`, `Target`, `Law`, `Arrivals`
-//! (`specs/`). Only contracts of private functions name `Sorted`, `Seen` and `PacketPages`.
+//! Definitions to read first, in this order: `Judging`, `Lawful`, `NamedPlaces`, `Target`, `Law`,
+//! `Arrivals` (`specs/`). Only contracts of private functions name `Sorted`, `Seen` and `PacketPages`.
 #![tactic(auto)]
 
 mod arrivals;
@@ -30,6 +30,7 @@ pub use arrivals::{Arrivals, arrivals_make_the_round, heads_are_judged, other_pl
 pub use fault::RoundFault;
 pub use gathered::Gathered;
 pub use laws::{lawful_rounds_lie_in_the_table, packets_come_in_any_order, round_is_lawful};
+pub use named::name_records;
 pub use places::{Pages, pages_of};
 pub use put::put_records;
 pub use target::Target;

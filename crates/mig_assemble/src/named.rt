@@ -1,9 +1,18 @@
-//! Adds the places of a round to those that earlier rounds named, for `Arrivals`.
+//! Adds the places of a round to those that earlier rounds named, for `Arrivals`, `Target`, and
+//! loads that keep this set themselves.
 
-ghost use Rattle.std.specs.Prelude.{◌≡◌};
-ghost use Rattle.mig_assemble.specs.NamedPlaces.{AddsPlaces};
+ghost use Rattle.std.specs.Prelude.{◌≡◌, ◌<◌, [], map, length, All, None, false};
+ghost use Rattle.mig_mem.specs.RamTable.{block as block_at};
+ghost use Rattle.mig_packet.specs.Lent.{fields};
+ghost use Rattle.mig_packet.specs.PacketHead.{offsets_in, as_zeros};
+ghost use Rattle.mig_assemble.specs.Judging.{is_outside, place_fault, pages_in, packet_pages, all_round_pages, places_of};
+ghost use Rattle.mig_assemble.specs.NamedPlaces.{AddsPlaces, with_places};
+ghost use Rattle.mig_assemble.specs.Target.{FitsTable, pages_of_round};
 
+use crate::places::{offset, page_count};
 use mig_mem::{Dirty, Place};
+use mig_packet::{Packet, PacketHead};
+use mig_stream::StreamRound;
 use std::alloc::Allocator;
 
 /// Adds the places of `more` to `named`, a set of the same table. It takes a step for each of them.
@@ -23,6 +32,61 @@ pub(crate) fn add_places<A: Allocator, B: Allocator>(named: &mut Dirty<A>, more:
         from = Place {
             block: place.block,
             page: place.page + 1,
+        };
+    }
+}
+
+/// Adds the places of a round's records to `named`, a set of the same table. It is for a load that
+/// keeps this set itself; `Target` does it.
+pub fn name_records<A: Allocator, B: Allocator>(named: &mut Dirty<A>, round: &StreamRound<B>)
+    requires fits { FitsTable named.old.table round.now }
+    ensures table { named.new.table ≡ named.old.table }
+    ensures named { named.new ≡ with_places named.old (places_of (pages_of_round round.now)) }
+{
+    for i in 0..round.len() {
+        let Ok(_) = named.mark(round.place(i)) else {
+            unreachable!();
+        };
+    }
+}
+
+/// Adds the places of packets' pages to `named`.
+pub(crate) fn name_packets<A: Allocator>(named: &mut Dirty<A>, packets: &[Packet<'_>])
+    requires page_sizes { All (λ p. p.page_size ≡ named.old.table.page_size) packets.now }
+    requires lawful { All (λ p. place_fault named.old.table p ≡ None) (map fields packets.now) }
+    ensures table { named.new.table ≡ named.old.table }
+    ensures named { named.new ≡ with_places named.old (places_of (all_round_pages named.old.table [] (map fields packets.now))) }
+{
+    for packet in packets {
+        name_packet(named, packet);
+    }
+}
+
+// Adds the places of a packet's pages.
+fn name_packet<A: Allocator>(named: &mut Dirty<A>, packet: &Packet<'_>)
+    requires page_size { packet.now.page_size ≡ named.old.table.page_size }
+    requires lawful { place_fault named.old.table (fields packet.now) ≡ None }
+    ensures table { named.new.table ≡ named.old.table }
+    ensures named { named.new ≡ with_places named.old (places_of (packet_pages named.old.table (fields packet.now))) }
+{
+    // a lawful packet names a block, or has no pages
+    if let Some(block) = named.table().find(packet.id()) {
+        name_pages(named, &packet.head(), block);
+    }
+}
+
+// Adds the places of the pages of a packet, in block `block`.
+fn name_pages<A: Allocator>(named: &mut Dirty<A>, head: &PacketHead<'_>, block: usize)
+    requires page_size { head.now.page_size ≡ named.old.table.page_size }
+    requires block { block < length named.old.table.blocks }
+    requires lawful { All (λ offset. is_outside named.old.table.page_size (block_at named.old.table.blocks block).pages offset ≡ false) (offsets_in head.now.bytes.now) }
+    ensures table { named.new.table ≡ named.old.table }
+    ensures named { named.new ≡ with_places named.old (places_of (pages_in named.old.table (as_zeros head.now.bytes.now) block)) }
+{
+    for i in 0..page_count(head) {
+        let page = offset(head, i) / head.page_size();
+        let Ok(_) = named.mark(Place { block, page }) else {
+            unreachable!();
         };
     }
 }

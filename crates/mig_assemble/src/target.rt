@@ -5,10 +5,12 @@ ghost use Rattle.std.specs.Prelude.{◌≡◌, ◌+◌, ◌<◌, ◌≤◌, ◌^
 ghost use Rattle.mig_mem.specs.Round.{with_round};
 ghost use Rattle.mig_packet.specs.Lent.{fields};
 ghost use Rattle.mig_assemble.specs.declared.fault.RoundFault.TheVariants.{NoMemory as fault_no_memory};
-ghost use Rattle.mig_assemble.specs.Judging.{refusal};
+ghost use Rattle.mig_assemble.specs.Judging.{refusal, places_of};
+ghost use Rattle.mig_assemble.specs.NamedPlaces.{with_places};
 ghost use Rattle.mig_assemble.specs.Target.{new_target, target_over, pages_of_round, FitsTable, after_round};
 
 use crate::judge::judge;
+use crate::named::{name_packets, name_records};
 use crate::put::{put_packets, put_records};
 use crate::round_list::{page_total, round_list};
 use crate::{Gathered, RoundFault};
@@ -28,6 +30,8 @@ const FEWEST: usize = 4096;
 #[derive(Drop)]
 pub struct Target<A: Allocator = Global, M: GuestTarget = Memory<A>> {
     memory: M,
+    // the places that the rounds named
+    named: Dirty<A>,
     // marks the places of a round while it is judged
     seen: Dirty<A>,
     alloc: A,
@@ -40,11 +44,11 @@ impl<A: Allocator, M: GuestTarget> Model for Target<A, M> {
 
     ghost Value = { LoadTarget };
 
-    ghost view = { λ t. record { memory = M.image t.memory; rounds = t.rounds; base = t.base } };
+    ghost view = { λ t. record { memory = M.image t.memory; named = t.named; rounds = t.rounds; base = t.base } };
 
-    ghost use Rattle.mig_assemble.specs.Target.{IsUnmarked};
+    ghost use Rattle.mig_assemble.specs.Target.{HasSets};
 
-    ghost invariant = { λ t. IsUnmarked (M.image t.memory) t.seen };
+    ghost invariant = { λ t. HasSets (M.image t.memory) t.named t.seen };
 }
 
 impl<A: Allocator, M: GuestTarget> fmt::Debug for Target<A, M> {
@@ -55,7 +59,7 @@ impl<A: Allocator, M: GuestTarget> fmt::Debug for Target<A, M> {
 
 impl<A: Allocator + Copy> Target<A> {
     /// Creates a memory of zeros, without a round. It allocates the guest's complete memory at
-    /// once, and a bit for each page.
+    /// once, and two bits for each page.
     ///
     /// # Errors
     ///
@@ -71,7 +75,8 @@ impl<A: Allocator + Copy> Target<A> {
 }
 
 impl<A: Allocator + Copy, M: GuestTarget> Target<A, M> {
-    /// Takes existing memory, with its contents, without a round. It allocates a bit for each page.
+    /// Takes existing memory, with its contents, without a round. It allocates two bits for each
+    /// page.
     ///
     /// # Errors
     ///
@@ -83,8 +88,12 @@ impl<A: Allocator + Copy, M: GuestTarget> Target<A, M> {
         let Ok(seen) = Dirty::none(alloc, memory.table()) else {
             return Err(memory);
         };
+        let Ok(named) = Dirty::none(alloc, memory.table()) else {
+            return Err(memory);
+        };
         Ok(Target {
             memory,
+            named,
             seen,
             alloc,
             rounds: 0,
@@ -118,6 +127,7 @@ impl<A: Allocator + Copy, M: GuestTarget> Target<A, M> {
         judge(self.alloc, &mut self.seen, self.base, round, packets)?;
         self.section(round);
         put_packets(&mut self.memory, packets);
+        name_packets(&mut self.named, packets);
         self.base += packets.len() as u64;
         Ok(())
     }
@@ -158,6 +168,8 @@ impl<A: Allocator + Copy + Send> Target<A> {
         judge(self.alloc, &mut self.seen, base, round, packets)?;
         let pages = round_list(self.alloc, self.memory.table(), round, packets)?;
         self.memory.put_pages(rt, threads, pages.as_slice());
+        name_records(&mut self.named, round);
+        name_packets(&mut self.named, packets);
         self.rounds = rounds + 1;
         self.base = base + packets.len() as u64;
         Ok(())
@@ -170,6 +182,14 @@ impl<A: Allocator, M: GuestTarget> Target<A, M> {
         ensures { M.image result.now ≡ self.now.memory }
     {
         &self.memory
+    }
+
+    /// Returns the places that the rounds named: those of their records and of their packets'
+    /// pages.
+    pub fn named(&self) -> &Dirty<A>
+        ensures { result.now ≡ self.now.named }
+    {
+        &self.named
     }
 
     /// Returns how many rounds were applied.
@@ -208,10 +228,12 @@ impl<A: Allocator, M: GuestTarget> Target<A, M> {
         requires fits { FitsTable self.old.memory.table round.now }
         requires room { self.old.rounds < 2 ^ 63 }
         ensures memory { self.new.memory ≡ with_round self.old.memory (pages_of_round round.now) }
+        ensures named { self.new.named ≡ with_places self.old.named (places_of (pages_of_round round.now)) }
         ensures rounds { self.new.rounds ≡ self.old.rounds + 1 }
         ensures base { self.new.base ≡ self.old.base }
     {
         put_records(&mut self.memory, round);
+        name_records(&mut self.named, round);
         self.rounds += 1;
     }
 }

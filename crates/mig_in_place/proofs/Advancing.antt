@@ -38,7 +38,7 @@ use Rattle.mig_assemble.proofs.Putting.{put_after}
 use Rattle.mig_single_load.specs.Settings.{main_of, for_table, channel_of}
 use Rattle.mig_single_load.specs.declared.settings.LoadSettings.{LoadSettings}
 use Rattle.mig_answer.specs.Texts.{Text, Readings, IsMainReading}
-use Rattle.mig_answer.specs.Rounds.{record_pages_at, channel_packets_at, packets_at, base_at, refusal_at, pages_at}
+use Rattle.mig_answer.specs.Rounds.{record_pages_at, channel_packets_at, packets_at, base_at, refusal_at, pages_at, places_in_rounds}
 use Rattle.mig_answer.specs.Status.{is_whole}
 use Rattle.mig_answer.specs.MultiLoad.{Standing, passes, sources_at, hello_ids, repeated_hello}
 use Rattle.mig_answer.proofs.Putting.{packets_counted, base_more}
@@ -51,8 +51,8 @@ use Rattle.mig_in_place.specs.Sources.{at_next_round, channel_count, IsChannelOf
 use Rattle.mig_in_place.specs.Session.{InPlaceLoad, IsRunning, Loading, Loads, IsDue, PassesAt, IsMainOf, records_come}
 use Rattle.mig_in_place.proofs.Channels.{rounds_are}
 use Rattle.mig_in_place.proofs.Keeping.{packets_push, same_table}
-use Rattle.mig_in_place.specs.Missing.{places_in_rounds}
-use Rattle.mig_in_place.proofs.MissingPages.{rounds_more, has_same, bag_places, heads_places}
+use Rattle.mig_answer.proofs.NamedRounds.{rounds_more}
+use Rattle.mig_in_place.proofs.MissingPages.{has_same, bag_places, heads_places}
 use Rattle.mig_in_place.proofs.Lawful.{packets_of, heads_whole, fields_mapped, main_whole, channels_have, has_table, judged_as, all_packets, all_records}
 use Rattle.mig_in_place.proofs.Mains.{same_found}
 use Rattle.mig_in_place.proofs.NamedSoFar.{in_second, or_left, or_right}

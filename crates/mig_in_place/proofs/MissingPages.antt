@@ -19,10 +19,9 @@ use Rattle.mig_assemble.specs.NamedPlaces.{HasPlaces}
 use Rattle.mig_assemble.proofs.Bags.{SameBag, bag_map, bag_any}
 use Rattle.mig_assemble.proofs.Heads.{same_places}
 use Rattle.mig_answer.specs.Texts.{Readings}
-use Rattle.mig_answer.specs.Rounds.{pages_at}
+use Rattle.mig_answer.specs.Rounds.{pages_at, places_in_rounds}
 use Rattle.mig_answer.specs.MultiLoad.{passes}
 use Rattle.mig_answer.proofs.Growing.{ReadingsStay}
-use Rattle.mig_in_place.specs.Missing.{places_in_rounds, missing_after}
 use Rattle.mig_in_place.proofs.Heading.{same_head}
 use Rattle.mig_in_place.proofs.Waiting.{same_rounds_onto}
 
@@ -37,16 +36,6 @@ pub none_named : (table : RamTable) (k : ℕ) (readings : Readings) (s : PlaceSe
 none_named table k readings s none is =
     subst (λ (n : ℕ). HasPlaces table (places_in_rounds table n readings) s) (sym none)
     (is ∙ ap (λ (ps : List Place). record { table = table; marked = ps }) (sym (where_none table (has_place []) (λ p here. refl))))
-
--- ---- one round more
-
-pub rounds_more : (table : RamTable) (k : ℕ) (readings : Readings) → places_in_rounds table (k + 1) readings ≡ places_in_rounds table k readings ++ places_of (pages_at table k readings)
-rounds_more table k readings =
-    let rounds : List (List Page) = map (λ i. pages_at table i readings) (range_with_len 0 k) in
-    let last : List Page = pages_at table k readings in
-    ap (λ (l : List (List Page)). flat_map places_of l) (map-range_with_len_more (λ i. pages_at table i readings) 0 k k (omega arith))
-    ∙ flat_map-append places_of rounds (last ∷ [])
-    ∙ ap (λ (l : List Place). flat_map places_of rounds ++ l) (append-nil (places_of last))
 
 -- the same places, in another order
 pub has_same : (table : RamTable) (xs ys zs : List Place) (s : PlaceSet) → ((p : Place) → has_place ys p ≡ has_place zs p) → HasPlaces table (xs ++ ys) s → HasPlaces table (xs ++ zs) s
@@ -72,13 +61,3 @@ heads_places table (packet ∷ packets) =
     ∙ ap (λ (l : List Place). l ++ places_of (flat_map (packet_pages table) (map as_zeros packets))) (same_places table zeros whole (same_head table.page_size packet))
     ∙ ap (λ (l : List Place). places_of (packet_pages table whole) ++ l) (heads_places table packets)
     ∙ sym (map-append (λ (x : Page). x.place) (packet_pages table whole) (flat_map (packet_pages table) (map (fields_of table.page_size) packets)))
-
--- ---- those that none named
-
-pub missing_is : (table : RamTable) (k : ℕ) (readings : Readings) (s : PlaceSet) → HasPlaces table (places_in_rounds table k readings) s
-    → length (places_where s.table (λ p. not (has_place s.marked p))) ≡ missing_after table k readings
-missing_is table k readings s has =
-    ap (λ (x : PlaceSet). length (places_where x.table (λ p. not (has_place x.marked p)))) has
-    ∙ ap (λ (ps : List Place). length ps)
-    (where_agree table (λ p. not (has_place (places_where table (has_place (places_in_rounds table k readings))) p)) (λ p. not (has_place (places_in_rounds table k readings) p))
-    (λ p here. ap (λ (b : Bool). not b) (has_place-where table (has_place (places_in_rounds table k readings)) p here)))

@@ -21,14 +21,14 @@ use Rattle.mig_answer.specs.declared.status.Status.{Status}
 use Rattle.mig_answer.specs.declared.status.Status.TheVariants.{Pending}
 use Rattle.mig_answer.specs.Status.{main_status, channel_status}
 use Rattle.mig_answer.specs.Texts.{Text, Texts, Readings, AreReadings, no_text}
-use Rattle.mig_answer.specs.Rounds.{record_pages_at, base_at}
+use Rattle.mig_answer.specs.Rounds.{record_pages_at, base_at, places_in_rounds}
 use Rattle.mig_answer.specs.MultiLoad.{main_at, channels_at, hello_ids, repeated_hello, verdicts_told, passes, failed}
 use Rattle.mig_mem.specs.First.{first_some}
 use Rattle.mig_session.specs.declared.source.Source.{Source}
 use Rattle.mig_session.specs.declared.source.Source.TheVariants as source
 use Rattle.mig_session.specs.Session.{with_fed, feed_step, end_step}
 use Rattle.mig_assemble.specs.NamedPlaces.{HasPlaces}
-use Rattle.mig_in_place.specs.Missing.{places_in_rounds, HasNamed}
+use Rattle.mig_in_place.specs.Missing.{HasNamed}
 use Rattle.mig_in_place.specs.Answer.{rounds_onto, IsInPlaceAnswer, IsInPlaceWithoutMemory}
 use Rattle.mig_in_place.specs.declared.main_stream.SizeList.{SizeList}
 use Rattle.mig_in_place.specs.Named.{SomeHasPacket}

@@ -60,6 +60,15 @@ fn sections_after(len: u64) -> u64 {
     }
 }
 
+// Returns how many of the two pages have no record in `len` bytes of it.
+fn missing_after(len: u64) -> u64 {
+    match len {
+        0..4167 => 2,
+        4167..4176 => 1,
+        _ => 0,
+    }
+}
+
 // Returns the verdict on `len` bytes of it.
 fn verdict_after(len: u64) -> Result<(), LoadFault> {
     if len >= LEN {
@@ -122,4 +131,23 @@ fn pieces_of_any_length(rt: HostRuntime) {
     for len in [1usize, 7, 4096, 10_000] {
         load_pieces(&rt, &text, len);
     }
+}
+
+// Loads the stream in place, in pieces of 7 bytes. Returns whether the number of missing pages is
+// right after each.
+fn counts_missing(rt: &(impl AllocGlobal + Abort), text: &[u8]) -> bool {
+    let mut memory = fives(rt);
+    let mut state = InPlaceState::new(rt.alloc(), memory.table(), LIMIT).expect(rt, "a load");
+    for piece in text.chunks(7) {
+        let fed = feed(rt, &mut state, &mut memory, piece);
+        if fed.is_err() || state.missing() != missing_after(state.fed()) {
+            return false;
+        }
+    }
+    true
+}
+
+#[test]
+fn pages_that_no_record_named(rt: HostRuntime) {
+    assert!(rt; counts_missing(&rt, &stream(&rt)));
 }

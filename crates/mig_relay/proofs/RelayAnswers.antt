@@ -29,6 +29,7 @@ use Rattle.mig_answer.specs.MultiLoad.{passes, IsFirstStop, verdict_at, as_verdi
 use Rattle.mig_answer.specs.Received.{round_count}
 use Rattle.mig_relay.specs.RelayItems.{with_settings, QueueEnd, IsThrough}
 use Rattle.mig_relay.specs.Relayed.{IsRelayOf, IsRelay, Continues, HasReceived, AreAtRound, Load, IsLoadOf, HaveRounds, HasEnded, EndsAt, Goes, Begins, IsAnswerOf}
+use Rattle.mig_answer.proofs.NamedRounds.{named_at_first}
 use Rattle.mig_answer.proofs.OneAnswer.{some_readings}
 use Rattle.mig_relay.proofs.Relays.{sizes_are, limits_are}
 use Rattle.mig_relay.proofs.GoingThrough.{goes_on}
@@ -121,6 +122,9 @@ goes_from_zeros l reader table target places ends begins has is = rw is (record 
         let same = same_main l 0 places ends has.0 begins.loading has.1 in
         let some : l.readings.main.table ≡ Some table = ap (λ (r : StreamReading). r.table) same ∙ sym has.2 in
         ap (option_map (λ t. after t (map (λ i. pages_at t i l.readings) (range_with_len 0 0)))) some ∙ ap (λ (m : Image). Some m) (after-nil table);
+    has_named =
+        let same = same_main l 0 places ends has.0 begins.loading has.1 in
+        named_at_first table l.readings (ap (λ (r : StreamReading). r.table) same ∙ sym has.2);
     has_rounds = refl;
     has_base = refl;
   };

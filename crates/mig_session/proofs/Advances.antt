@@ -15,6 +15,7 @@ use Rattle.mig_stream.proofs.Limits.{limits_law}
 use Rattle.mig_packet.specs.Packet.{Fields}
 use Rattle.mig_packet.specs.declared.packet.Packet.{Packet}
 use Rattle.mig_assemble.specs.Judging.{refusal}
+use Rattle.mig_assemble.specs.NamedPlaces.{named_by}
 use Rattle.mig_assemble.specs.Target.{LoadTarget, FitsTable, new_target, pages_of_round, after_round}
 use Rattle.mig_single_load.specs.Settings.{main_of}
 use Rattle.mig_single_load.specs.declared.fault.Origin.TheVariants as origin
@@ -32,6 +33,7 @@ use Rattle.mig_session.specs.Sources.{FedSources, IsMainRound, Holds, HaveRound,
 use Rattle.mig_session.specs.Advancing.{Feeding, HasPutRounds, HasRounds, Advances, TellsVerdict, HasAdvanced, IsDue, RoundIsDue, PutsOrRefuses}
 use Rattle.mig_answer.proofs.Statuses.{status_end, stream_ends}
 use Rattle.mig_answer.proofs.Judged.{IsWhole}
+use Rattle.mig_answer.proofs.NamedRounds.{named_at_first}
 use Rattle.mig_answer.proofs.Putting.{table_is, size_of_table, refusal_of_round, round_is_put, IsNext, after_nothing}
 use Rattle.mig_session.proofs.KeptMain.{same_found, waits_here}
 use Rattle.mig_session.proofs.KeptSources.{have_round, packets_here, sizes_here}
@@ -56,6 +58,7 @@ told_of f s t v advances told =
     record {
       is_first_stop = record { before = advances.has_rounds.have_passed; here = here.0 };
       has_memory = memory_of f.readings t advances.has_rounds.has_put;
+      has_named = sym advances.has_rounds.has_put.has_loaded.has_named;
       has_verdict = here.1;
     }
 
@@ -144,6 +147,7 @@ stays_out f s t new round packets found comes is are refused same = elim refused
           record {
             is_first_stop = record { before = comes.advances.has_rounds.have_passed; here = stops.0 };
             has_memory = memory_of f.readings t comes.advances.has_rounds.has_put;
+            has_named = sym comes.advances.has_rounds.has_put.has_loaded.has_named;
             has_verdict = ap (λ (x : LoadFault). Failed x) w.2 ∙ stops.1;
           },
         ),
@@ -173,6 +177,7 @@ told_without f s v advances none told =
     record {
       is_first_stop = record { before = advances.has_rounds.have_passed; here = here.0 };
       has_memory = sym (ap (option_map (λ t. after t (map (λ i. pages_at t i f.readings) (range_with_len 0 0)))) none);
+      has_named = sym (ap (option_map (λ t. named_by t (map (λ i. pages_at t i f.readings) (range_with_len 0 0)))) none);
       has_verdict = here.1;
     }
 
@@ -203,7 +208,7 @@ zeros_advance f s table t advances is_table is = rw is (record {
   has_rounds = record {
     have_passed = λ j below. absurd (omega (arith, below));
     has_put = record {
-      has_loaded = record { has_memory = after_nothing table f.readings is_table; has_rounds = refl; has_base = refl };
+      has_loaded = record { has_memory = after_nothing table f.readings is_table; has_named = named_at_first table f.readings is_table; has_rounds = refl; has_base = refl };
       is_few = omega arith;
     };
   };

@@ -8,6 +8,7 @@ use Rattle.std.proofs.lemmas.List.{length-append, append-nil, length-map, length
 use Rattle.std.proofs.lemmas.List.Elements.{All-nil, All-cons, All-head, All-tail}
 use Rattle.mig_mem.specs.PageSize.{IsPageSize}
 use Rattle.mig_mem.specs.RamTable.{RamTable}
+use Rattle.mig_mem.specs.PlaceSet.{PlaceSet}
 use Rattle.mig_mem.specs.Round.{after}
 use Rattle.mig_stream.specs.declared.item.StreamState.TheVariants.{Reading, Closed}
 use Rattle.mig_stream.specs.Progress.{StreamProgress, start}
@@ -22,6 +23,8 @@ use Rattle.mig_packet.specs.Progress.{ChannelProgress, start as channel_start}
 use Rattle.mig_packet.proofs.Feeding.{reads_short as channel_short}
 use Rattle.mig_packet.specs.Reading.{Settings, ChannelReading, IsReading, Reads as ChannelReads}
 use Rattle.mig_assemble.specs.Target.{LoadTarget}
+use Rattle.mig_assemble.specs.NamedPlaces.{named_by, left_out}
+use Rattle.mig_assemble.proofs.Naming.{missing_is}
 use Rattle.mig_session.specs.declared.counts.Count.{Count}
 use Rattle.mig_session.specs.declared.places.Noted.{Noted}
 use Rattle.mig_session.specs.declared.source.Source.{Source}
@@ -36,11 +39,11 @@ use Rattle.mig_answer.specs.declared.verdict.Verdict.{Verdict}
 use Rattle.mig_answer.specs.declared.verdict.Verdict.TheVariants.{Running, Done, Failed}
 use Rattle.mig_answer.specs.Status.{status_at, stream_end, channel_end, channel_status, is_whole, is_pending, is_clean, fault_of}
 use Rattle.mig_answer.specs.Texts.{Text, Texts, Readings, IsMainReading, AreReadings, no_text, no_texts, with_piece, over}
-use Rattle.mig_answer.specs.Rounds.{memory_at, base_at, pages_at}
+use Rattle.mig_answer.specs.Rounds.{memory_at, named_at, places_in_rounds, missing_after, base_at, pages_at}
 use Rattle.mig_answer.specs.MultiLoad.{IsAnswer, Standing, main_at, channels_at, passes, IsFirstStop, verdict_at}
 use Rattle.mig_answer.specs.Growing.{GoesOn, GoOn}
 use Rattle.mig_session.specs.Sources.{Counts, Places, FedChannel, FedSources, main_count, channel_count, counts_of, HoldsChannel, Holds, TellsAll}
-use Rattle.mig_session.specs.Session.{LoadSession, rounds_loaded, answer_in, HasSource, count_of, no_count, with_count, with_fed, with_end, count_in, counts_in, at_source, feed_step, end_step, HasBase, IsRunning, HasFault, HasMainFault, HasChannelFault, place_of, noted_fault, nothing_noted, IsNotedOfChannel, HasPlaces, HavePlaces, IsSourceValidUpTo, HasOnly, HasAllRounds, AsRead, StandsFor, LacksMemory, StandsForSome, IsSession}
+use Rattle.mig_session.specs.Session.{LoadSession, rounds_loaded, missing_in, answer_in, HasSource, count_of, no_count, with_count, with_fed, with_end, count_in, counts_in, at_source, feed_step, end_step, HasBase, IsRunning, HasFault, HasMainFault, HasChannelFault, place_of, noted_fault, nothing_noted, IsNotedOfChannel, HasPlaces, HavePlaces, IsSourceValidUpTo, HasOnly, HasAllRounds, HasNamed, HasMissing, AsRead, StandsFor, LacksMemory, StandsForSome, IsSession}
 use Rattle.mig_session.specs.Advancing.{Feeding, HasPutRounds, HasRounds, Advances, TellsVerdict, HasAdvanced, HasTaken, failed_without_memory, IsDue, TellAllIn}
 use Rattle.mig_answer.proofs.Statuses.{status_whole, status_end, stream_ends, channel_ends, clean_at, stream_closed, passes_all}
 use Rattle.mig_answer.proofs.Never.{done_is_clean}
@@ -51,7 +54,7 @@ use Rattle.mig_session.proofs.KeptChannel.{fault_is as channel_fault}
 use Rattle.mig_session.proofs.Telling.{due_sources}
 use Rattle.mig_session.proofs.Advances.{told_of, told_without}
 use Rattle.mig_answer.proofs.GrowingChannels.{same_rounds}
-use Rattle.mig_answer.proofs.Growing.{ReadingsStay, readings_stay, pass_still, memory_still, base_still, answers_law, wants_law}
+use Rattle.mig_answer.proofs.Growing.{ReadingsStay, readings_stay, pass_still, memory_still, named_still, base_still, answers_law, wants_law}
 
 -- ---- how much has come
 
@@ -144,6 +147,7 @@ put_still before now (Some t) stays has =
       has_put = record {
         has_loaded = record {
           has_memory = memory_still before now t.rounds t.memory stays has.have_passed loaded.has_memory;
+          has_named = named_still before now t.rounds t.named stays has.have_passed loaded.has_named;
           has_rounds = refl;
           has_base = loaded.has_base ∙ sym (base_still before now t.rounds stays has.have_passed);
         };
@@ -188,7 +192,12 @@ feeding_of given uuid texts s sources some stands =
         → IfSome target (HasPutRounds stands.is_answer.readings)
     put None memory base = tt
     put (Some t) memory base = record {
-      has_loaded = record { has_memory = sym memory; has_rounds = refl; has_base = base.has_base stands.is_answer.readings stands.is_answer.are_readings };
+      has_loaded = record {
+        has_memory = sym memory;
+        has_named = base.has_named stands.is_answer.readings stands.is_answer.are_readings;
+        has_rounds = refl;
+        has_base = base.has_base stands.is_answer.readings stands.is_answer.are_readings;
+      };
       is_few = base.is_few;
     }
 
@@ -198,6 +207,8 @@ bases given uuid texts readings None size are has = tt
 bases given uuid texts readings (Some t) size are has = record {
   has_base = λ other are_other.
       subst (λ (r : Readings). t.base ≡ base_at t.rounds r) (same_readings given uuid texts readings other size are are_other) has.has_put.has_loaded.has_base;
+  has_named = λ other are_other.
+      subst (λ (r : Readings). named_at t.rounds r ≡ Some t.named) (same_readings given uuid texts readings other size are are_other) has.has_put.has_loaded.has_named;
   is_few = has.has_put.is_few;
 }
 
@@ -219,6 +230,7 @@ stands_told given uuid texts readings counts places kept sources target verdict 
   has_read_all = λ some. refl;
   is_answer_there = record { readings = readings; are_readings = are; has_rounds = told.is_first_stop; has_memory = told.has_memory; has_verdict = told.has_verdict };
   have_places = have;
+  has_named = record { readings = readings; are_readings = are; are_named = told.has_named };
 }
 
 -- an allocation was refused
@@ -327,6 +339,7 @@ stands_at_first given uuid n sources counts places size counted holds have =
       has_read_all = λ some. refl;
       is_answer_there = answer;
       have_places = have;
+      has_named = record { readings = readings; are_readings = some.1; are_named = sym (ap (λ (m : StreamReading). named_at 0 (record { main = m; channels = channels })) is) };
     }
 
 -- ---- a session that is settled
@@ -361,6 +374,7 @@ settled_steps given uuid texts now s counts stands none settled goes counted = r
   has_read_all = λ some. absurd (some none);
   is_answer_there = stands.is_answer_there;
   have_places = stands.have_places;
+  has_named = stands.has_named;
 }
 
 pub lacking_steps : (given : LoadSettings) (uuid : List ℕ) (texts now : Texts) (s : LoadSession) (counts : Counts) → LacksMemory given uuid texts s → GoOn texts now → counts ≡ counts_in now
@@ -804,3 +818,34 @@ all_in_done given uuid texts s stands done =
       have_passed = is.has_rounds.before;
       has_memory = is.has_memory;
     }
+
+-- ---- how many pages its rounds don't name
+
+counted_missing : (readings : Readings) (k : ℕ) (named : PlaceSet) → Some named ≡ named_at k readings
+    → Some (left_out named.table named.marked) ≡ option_map (λ table. missing_after table k readings) readings.main.table
+counted_missing readings k named is = go readings.main.table is
+  where
+    go : (o : Option RamTable) → Some named ≡ option_map (λ t. named_by t (map (λ i. pages_at t i readings) (range_with_len 0 k))) o
+        → Some (left_out named.table named.marked) ≡ option_map (λ t. missing_after t k readings) o
+    go None e = absurd cc
+    go (Some t) e =
+        let names : named ≡ named_by t (map (λ i. pages_at t i readings) (range_with_len 0 k)) = cc in
+        ap (λ (m : ℕ). Some m) (missing_is t (places_in_rounds t k readings) named names)
+
+no_missing : (readings : Readings) (k : ℕ) → None ≡ named_at k readings → None ≡ option_map (λ table. missing_after table k readings) readings.main.table
+no_missing readings k is = go readings.main.table is
+  where
+    go : (o : Option RamTable) → None ≡ option_map (λ t. named_by t (map (λ i. pages_at t i readings) (range_with_len 0 k))) o → None ≡ option_map (λ t. missing_after t k readings) o
+    go None e = refl
+    go (Some t) e = absurd cc
+
+missing_told : (readings : Readings) (k : ℕ) (target : Option LoadTarget) → option_map (λ t. t.named) target ≡ named_at k readings
+    → missing_in target ≡ option_map (λ table. missing_after table k readings) readings.main.table
+missing_told readings k None is = no_missing readings k is
+missing_told readings k (Some t) is = counted_missing readings k t.named is
+
+pub missing_read : (given : LoadSettings) (uuid : List ℕ) (texts : Texts) (s : LoadSession) (n : Option ℕ) → (stands : StandsFor given uuid texts s) → n ≡ missing_in s.target
+    → HasMissing given uuid stands.read (rounds_loaded s.target) n
+missing_read given uuid texts s n stands is =
+    let named = stands.has_named in
+    record { readings = named.readings; are_readings = named.are_readings; is_count = is ∙ missing_told named.readings (rounds_loaded s.target) s.target named.are_named }

@@ -13,7 +13,7 @@ use Rattle.mig_session.specs.declared.source.Source.{Source}
 use Rattle.mig_answer.specs.declared.verdict.Verdict.{Verdict}
 use Rattle.mig_answer.specs.declared.verdict.Verdict.TheVariants.{Failed}
 use Rattle.mig_answer.specs.Texts.{Text, Texts, Readings, AreReadings}
-use Rattle.mig_answer.specs.Rounds.{memory_at}
+use Rattle.mig_answer.specs.Rounds.{memory_at, named_at}
 use Rattle.mig_answer.specs.MultiLoad.{main_at, channels_at, hello_ids, repeated_hello, verdicts_told, passes, IsFirstStop, failed, verdict_at}
 use Rattle.mig_answer.specs.Putting.{HasLoaded}
 use Rattle.mig_session.specs.Sources.{FedChannel, FedSources, HoldsChannel, Holds}
@@ -47,6 +47,7 @@ pub record Advances (f : Feeding) (s : FedSources) (target : Option LoadTarget) 
 pub record TellsVerdict (readings : Readings) (target : Option LoadTarget) (verdict : Verdict) : Type 0 where
   pub is_first_stop : IsFirstStop readings (rounds_loaded target)
   pub has_memory : option_map (λ t. t.memory) target ≡ memory_at (rounds_loaded target) readings
+  pub has_named : option_map (λ t. t.named) target ≡ named_at (rounds_loaded target) readings
   pub has_verdict : verdict ≡ verdict_at (rounds_loaded target) readings
 
 -- the verdict if an allocation was refused after this many rounds

@@ -3,6 +3,7 @@ use Rattle.std.specs.Prelude.{ℕ, ◌≡◌, ◌≢◌, ◌≤◌, ◌<◌, ◌
 use Rattle.std.specs.List.{AllZip}
 use Rattle.std.specs.Option.{option_map, option_map_or, option_and_then}
 use Rattle.mig_mem.specs.PageSize.{IsPageSize}
+use Rattle.mig_assemble.specs.NamedPlaces.{left_out}
 use Rattle.mig_assemble.specs.Target.{LoadTarget}
 use Rattle.mig_stream.specs.declared.item.StreamState.{StreamState}
 use Rattle.mig_stream.specs.declared.item.StreamState.TheVariants as stream_state
@@ -23,7 +24,7 @@ use Rattle.mig_answer.specs.declared.verdict.Verdict.TheVariants.{Running}
 use Rattle.mig_answer.specs.Growing.{GoOn}
 use Rattle.mig_answer.specs.Status.{stream_end, channel_end, fault_of}
 use Rattle.mig_answer.specs.Texts.{Text, Texts, Readings, AreReadings, no_text, with_piece, over}
-use Rattle.mig_answer.specs.Rounds.{base_at, memory_at}
+use Rattle.mig_answer.specs.Rounds.{base_at, memory_at, named_at, missing_after}
 use Rattle.mig_answer.specs.MultiLoad.{Answer, IsAnswer, IsWithoutMemory, passes}
 use Rattle.mig_session.specs.Sources.{Counts, Places, FedSources, counts_of, Holds}
 
@@ -95,9 +96,10 @@ feed_step from piece texts = at_source from (with_piece piece) texts
 abbrev pub end_step : Source → Texts → Texts
 end_step from texts = at_source from over texts
 
--- the number that the next round's first packet must have
+-- the number that the next round's first packet must have, and the places that the rounds named
 pub record HasBase (given : LoadSettings) (uuid : List ℕ) (texts : Texts) (t : LoadTarget) : Type 0 where
   pub has_base : (readings : Readings) → AreReadings given uuid texts readings → t.base ≡ base_at t.rounds readings
+  pub has_named : (readings : Readings) → AreReadings given uuid texts readings → named_at t.rounds readings ≡ Some t.named
   pub is_few : t.base ≤ 2 ^ 63
 
 -- While a load runs, all of the streams was read, and the rounds that it counts were judged.
@@ -166,6 +168,25 @@ IsSourceValidUpTo given uuid texts source.Main (Some n) = stream.IsValidUpTo (ma
 IsSourceValidUpTo given uuid texts (source.Channel j) (Some n) =
     channel.IsValidUpTo (channel_of given uuid (length texts.channels)) (get_or texts.channels j no_text).bytes n
 
+-- ---- the pages that no round named
+
+-- the target knows the places that its rounds of the streams named
+pub record HasNamed (given : LoadSettings) (uuid : List ℕ) (texts : Texts) (target : Option LoadTarget) : Type 0 where
+  pub readings : Readings
+  pub are_readings : AreReadings given uuid texts readings
+  pub are_named : option_map (λ t. t.named) target ≡ named_at (rounds_loaded target) readings
+
+-- how many pages a target's rounds don't name, if there is a target
+abbrev pub missing_in : Option LoadTarget → Option ℕ
+missing_in target = option_map (λ t. left_out t.named.table t.named.marked) target
+
+-- how many pages of the table the first k rounds of the streams don't name; None, if the size list
+-- isn't complete
+pub record HasMissing (given : LoadSettings) (uuid : List ℕ) (texts : Texts) (k : ℕ) (missing : Option ℕ) : Type 0 where
+  pub readings : Readings
+  pub are_readings : AreReadings given uuid texts readings
+  pub is_count : missing ≡ option_map (λ table. missing_after table k readings) readings.main.table
+
 -- ---- the streams, and the session's answer on them
 
 -- The session was made with these settings and UUID, and these bytes of the streams were fed. It
@@ -181,6 +202,7 @@ pub record StandsFor (given : LoadSettings) (uuid : List ℕ) (texts : Texts) (s
   pub has_read_all : s.sources ≢ None → read ≡ texts
   pub is_answer_there : IsAnswer given uuid read (answer_in s)
   pub have_places : HavePlaces given uuid read s.places
+  pub has_named : HasNamed given uuid read s.target
 
 -- The session read these bytes of the streams: all of them while it runs, and later as much as its
 -- answer rests on.

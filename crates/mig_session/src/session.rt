@@ -12,7 +12,7 @@ ghost use Rattle.mig_answer.specs.declared.verdict.Verdict.{Verdict};
 ghost use Rattle.mig_stream.specs.Reader.{HasClosedAt, IsClosedAt};
 ghost use Rattle.mig_answer.specs.Texts.{Text, Texts, no_texts};
 ghost use Rattle.mig_session.specs.Sources.{counts_of, Holds, TellsAll};
-ghost use Rattle.mig_session.specs.Session.{HasSource, count_of, no_count, with_fed, with_end, at_source, feed_step, end_step, answer_in, rounds_loaded, HavePlaces, IsSourceValidUpTo, HasFault, HasAllRounds, AsRead, StandsFor, LacksMemory, StepsOn, RunsOut, StillLacks, KeepsRounds};
+ghost use Rattle.mig_session.specs.Session.{HasSource, count_of, no_count, with_fed, with_end, at_source, feed_step, end_step, answer_in, rounds_loaded, missing_in, HavePlaces, IsSourceValidUpTo, HasFault, HasAllRounds, HasMissing, AsRead, StandsFor, LacksMemory, StepsOn, RunsOut, StillLacks, KeepsRounds};
 ghost use Rattle.mig_session.specs.Advancing.{Feeding, Advances, HasAdvanced, HasTaken, TellsVerdict, failed_without_memory};
 
 use crate::Source;
@@ -21,6 +21,7 @@ use crate::places::SourcePlaces;
 use crate::sources::Sources;
 use mig_answer::Verdict;
 use mig_assemble::Target;
+use mig_marking::lacking;
 use mig_mem::{Memory, NoMemory};
 use mig_single_load::{Fault, LoadFault, LoadSettings, Origin};
 use std::alloc::{Allocator, Global};
@@ -97,6 +98,16 @@ fn rounds_of<A: Allocator>(target: &Option<Target<A>>) -> u64
     match target {
         Some(target) => target.rounds(),
         None => 0,
+    }
+}
+
+// Returns how many pages the rounds in a memory don't name, if there is a memory.
+fn lacking_in<A: Allocator>(target: &Option<Target<A>>) -> Option<u64>
+    ensures { result ≡ missing_in target.now }
+{
+    match target {
+        Some(target) => Some(lacking(target.named())),
+        None => None,
     }
 }
 
@@ -542,6 +553,23 @@ impl<A: Allocator> Session<A> {
         ensures { option_copied result ≡ (answer_in self.now).memory }
     {
         self.target.as_ref().map(|target| target.memory())
+    }
+
+    /// Returns how many pages of the guest no record and no packet of the rounds in the memory named:
+    /// these are zeros, as the memory was at first. None before the size list is complete, and after
+    /// a refused allocation.
+    ///
+    /// At `Verdict::Done` the streams don't have these pages. A load of a whole guest lacks none; a
+    /// load of changes alone lacks many.
+    pub fn missing(&self) -> Option<u64>
+        ensures stands { (given : LoadSettings) (uuid : List ℕ) (texts : Texts) → StandsFor given uuid texts self.now
+            → AsRead given uuid texts self.now (λ read. HasMissing given uuid read (answer_in self.now).rounds result) }
+        ensures lacking { (given : LoadSettings) (uuid : List ℕ) (texts : Texts) → LacksMemory given uuid texts self.now → result ≡ None }
+    {
+        match &self.places {
+            Some(_) => lacking_in(&self.target),
+            None => None,
+        }
     }
 
     /// Returns how many rounds are in the memory.

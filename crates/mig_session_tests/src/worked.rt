@@ -37,10 +37,26 @@ fn is_right_after(session: &Session, main: usize) -> bool {
     }
 }
 
+// Returns how many of the two pages are missing then. The round names page 1.
+fn missing_after(main: usize) -> Option<u64> {
+    match main {
+        0..43 => None,
+        43..69 => Some(2),
+        _ => Some(1),
+    }
+}
+
+// Feeds a byte of the main stream, its number `main`. Returns whether the results are right.
+fn is_right_with(session: &mut Session, piece: &[u8], main: usize) -> bool {
+    is_fed(session, Source::Main, piece)
+        && is_right_after(session, main)
+        && session.missing() == missing_after(main)
+}
+
 // Feeds the main stream byte by byte. Returns whether the results are right after each byte.
 fn is_right_after_each(session: &mut Session, main: &[u8]) -> bool {
     for (at, piece) in main.chunks(1).enumerate() {
-        if !is_fed(session, Source::Main, piece) || !is_right_after(session, at.wrapping_add(1)) {
+        if !is_right_with(session, piece, at.wrapping_add(1)) {
             return false;
         }
     }

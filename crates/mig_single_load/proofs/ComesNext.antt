@@ -3,12 +3,13 @@
 use Rattle.std.proofs.Common.{ℕ, ◌≡◌, ◌+◌, ◌-◌, ◌<◌, ◌^◌, false, arith, List, [], ◌∷◌, ◌++◌, length, map, Option, Some, None, refl, sym, ap, ◌∙◌, subst, inl, inr, append_assoc}
 use Rattle.std.specs.Prelude.{IfSome, IsSome, MatchOption, min}
 use Rattle.std.specs.Option.{option_and_then}
-use Rattle.std.proofs.lemmas.List.{append-nil, length-append, length-replicate}
+use Rattle.std.proofs.lemmas.List.{append-nil, length-append, length-replicate, map-append}
 use Rattle.std.proofs.lemmas.List.Elements.{All-head}
 use Rattle.mig_mem.specs.PageSize.{IsPageSize}
 use Rattle.mig_mem.specs.RamTable.{RamTable, IsTable}
 use Rattle.mig_mem.specs.declared.place.Place.{Place}
-use Rattle.mig_mem.specs.Place.{IsPlace}
+use Rattle.mig_mem.specs.Place.{IsPlace, has_place}
+use Rattle.mig_mem.specs.PlaceSet.{PlaceSet, places_where, with_place}
 use Rattle.mig_mem.specs.Image.{Page, Image, zero_page, with_page}
 use Rattle.mig_mem.specs.Round.{with_round, with_rounds, all_pages}
 use Rattle.mig_stream.specs.declared.item.Due.TheVariants.{RecordHead}
@@ -26,18 +27,21 @@ use Rattle.mig_stream.proofs.Feeding.{reads_short}
 use Rattle.mig_stream.proofs.Unique.{one_reading}
 use Rattle.mig_stream.proofs.Giver.{gives_same, paused_table, none_before_table, more_places, ends_so}
 use Rattle.mig_stream.proofs.Taken.{took_page}
+use Rattle.mig_assemble.specs.Judging.{places_of}
+use Rattle.mig_assemble.specs.NamedPlaces.{HasPlaces}
 use Rattle.mig_assemble.proofs.Putting.{put_page_more}
+use Rattle.mig_assemble.proofs.Marked.{place_added}
 use Rattle.mig_single_load.specs.Settings.{for_table}
 use Rattle.mig_single_load.specs.declared.settings.LoadSettings.{LoadSettings}
 use Rattle.mig_single_load.specs.declared.in_place_state.LoadState.{LoadState}
 use Rattle.mig_single_load.specs.declared.in_place_state.LoadState.TheVariants as load_state
-use Rattle.mig_single_load.specs.InPlace.{settings_of, IsOfOwnTable, pages_on, HasRecordsOnto}
-use Rattle.mig_single_load.specs.LoadInPlace.{given_pages, settings_for, IsOfTable, PausesOnto, PausesSome, StandsOnto, LoadInPlace, load_in_place, LoadsInPlace, IsLoadInPlace}
+use Rattle.mig_single_load.specs.InPlace.{settings_of, IsOfOwnTable, pages_on, pages_of_all, HasRecordsOnto, HasNamedOnto}
+use Rattle.mig_single_load.specs.LoadInPlace.{given_pages, given_places, NamesAt, Names, settings_for, IsOfTable, PausesOnto, PausesSome, StandsOnto, LoadInPlace, load_in_place, LoadsInPlace, IsLoadInPlace}
 use Rattle.mig_single_load.specs.ComesNext.{page_wanted, page_asked, IsReadOn, BringsPage, NeedsBytes, ComesNext}
 use Rattle.mig_single_load.proofs.Sections.{same_reading}
 use Rattle.mig_single_load.proofs.Onto.{apart}
 use Rattle.mig_single_load.proofs.LoadedAtOnce.{given_more, put_behind}
-use Rattle.mig_single_load.proofs.LoadsInPlace.{own_of, records_onto, gave_of, in_place_on}
+use Rattle.mig_single_load.proofs.LoadsInPlace.{own_of, records_onto, named_onto, gave_of, in_place_on}
 
 -- ---- the content of the page that is due, after a pause
 
@@ -263,6 +267,13 @@ asks p w is = go (page_due p) is
     go None none = ap (λ (x : Wanted). page_asked (Some x)) none.1
     go (Some place) some = ap (λ (x : Wanted). page_asked (Some x)) some
 
+-- the page that is asked for is the one that is due
+pub page_of_wanted : (p : Paused) (w : Wanted) (place : Place) → PauseWants p w → w ≡ wanted.Page place → page_due p ≡ Some place
+page_of_wanted p w place is e = sym (asks p w is) ∙ ap (λ (x : Wanted). page_asked (Some x)) e
+
+pub wanted_is : (p : Paused) (w : Wanted) (place : Place) → PauseWants p w → page_due p ≡ Some place → w ≡ wanted.Page place
+wanted_is p w place is due = subst (λ (o : Option Place). MatchOption o ((k : ℕ) × (w ≡ wanted.Bytes k) × AreWanted p k) (λ q. w ≡ wanted.Page q)) due is
+
 pub next_is : (given : LoadSettings) (first : Image) (text : List ℕ) (p : Paused) (m : Image) (n : ℕ) (w : Wanted) → PauseWants p w → PausesOnto given first text p m n → ComesNext given first text (Some w)
 next_is given first text p m n w is at = go (page_due p) refl is
   where
@@ -311,18 +322,64 @@ stands_taken given first text content p q place m n found due len taken st k val
       is_read_to = valid;
     }
 
+-- the place of that page is named, too
+page_named : (first : Image) (so_far : GivenSoFar) (place : Place) (content : List ℕ) (s : PlaceSet) → HasPlaces first.table (given_places first so_far) s
+    → HasPlaces first.table (given_places first (with_more (page_record place content ∷ []) so_far)) (with_place s place)
+page_named first so_far place content s names =
+    place_added first.table (given_places first so_far) s (with_place s place) place names refl
+    ∙ ap (λ (l : List Place). record { table = first.table; marked = places_where first.table (has_place l) })
+    (sym (map-append (λ (x : Page). x.place) (given_pages first so_far) (record { place = place; content = content } ∷ []))
+    ∙ ap (λ (l : List Page). places_of l) (given_more first.table.page_size so_far (page_record place content ∷ [])))
+
+-- the places that are named are those of all that was read
+named_read : (given : LoadSettings) (first : Image) (text : List ℕ) (so_far : GivenSoFar) (p : Paused) (s : PlaceSet) → IsOfTable given first.table text → PausesAt (settings_of first given) text so_far p
+    → HasNamedOnto given first text s → HasPlaces first.table (given_places first (all_given (all_read so_far p.progress))) s
+named_read given first text so_far p s own at has =
+    let single : Settings = settings_of first given in
+    let c : StreamProgress = all_read so_far p.progress in
+    let from : StreamProgress = start single.frame single.mode single.page_size single.limit single.waiting in
+    let same = one_reading from text has.is_reading.to c has.is_reading.rest p.pending has.reading.state Reading has.is_reading.reads (reads_at single text so_far p at) in
+    let rounds : has.reading.rounds ≡ c.rounds = has.is_reading.has_rounds ∙ ap (λ (x : StreamProgress). x.rounds) same.0 in
+    let records : has.is_reading.to.records ≡ c.records = ap (λ (x : StreamProgress). x.records) same.0 in
+    has.own (own_of given first text has.reading at.is_page_size has.is_reading own)
+    ∙ ap (λ (l : List (List PageRecord)). record { table = first.table; marked = places_where first.table (has_place (places_of (pages_of_all first l has.is_reading.to.records))) }) rounds
+    ∙ ap (λ (l : List PageRecord). record { table = first.table; marked = places_where first.table (has_place (places_of (pages_of_all first c.rounds l))) }) records
+
+names_taken : (given : LoadSettings) (first : Image) (text content : List ℕ) (p q : Paused) (place : Place) (s : PlaceSet) (n : ℕ) → page_due p ≡ Some place → length content ≡ first.table.page_size
+    → TakesPage p q place content → Names given first text s n (Some p) → Names given first (text ++ content) (with_place s place) n (Some q)
+names_taken given first text content p q place s n due len taken names =
+    let single : Settings = settings_of first given in
+    let at : NamesAt given first text p s n = names.at_pause in
+    let whole : length content ≡ p.progress.page_size = len ∙ sym (gave_of given first.table text at.so_far p at.pauses) in
+    let own : IsOfTable given first.table (text ++ content) = inr (table_stays given first.table text content at.so_far p place at.is_own due whole at.pauses) in
+    let then : GivenSoFar = with_content at.so_far p place content in
+    let gives : PausesAt single (text ++ content) then (after_page p content) = took single text content at.so_far p place due whole at.pauses in
+    let reading : HasReading single (text ++ content) then Reading = ends_so single (text ++ content) then (giver_at (after_page p content)) Reading refl refl refl gives in
+    record {
+      has_named = named_onto given first (text ++ content) then Reading (with_place s place) at.pauses.is_page_size own reading
+          (page_named first (all_given (all_read at.so_far p.progress)) place content s (named_read given first text at.so_far p s at.is_own at.pauses names.has_named));
+      at_pause = record {
+        so_far = with_more (page_record place content ∷ []) at.so_far;
+        pauses = taken single text at.so_far at.pauses;
+        is_own = own;
+        has_named = page_named first at.so_far place content s at.has_named;
+        has_sections = at.has_sections;
+      };
+    }
+
 pub in_place_taken : (memory : Image) (given : LoadSettings) (first : Image) (s : LoadInPlace) (text content : List ℕ) (p q : Paused) (place : Place) (k : ℕ) → s.pause ≡ Some p → page_due p ≡ Some place → length content ≡ s.table.page_size
     → s.fed + length content < 2 ^ 63 → TakesPage p q place content → PauseTells q (λ given text so_far. length text < 2 ^ 64 → IsValidUpTo given text k) → LoadsInPlace memory given first s text false
-    → LoadsInPlace (with_page memory place content) given first (load_in_place (Some q) (load_state.Stream Reading k) s.table s.rounds (s.fed + length content) s.ended) (text ++ content) false
+    → LoadsInPlace (with_page memory place content) given first (load_in_place (Some q) (load_state.Stream Reading k) s.table (with_place s.named place) s.rounds (s.fed + length content) s.ended) (text ++ content) false
 in_place_taken memory given first s text content p q place k is due len room taken valid loads =
     let st : StandsOnto given first text memory s.rounds (Some p) s.state = subst (λ (o : Option Paused). StandsOnto given first text memory s.rounds o s.state) is loads.stands in
     let at : PausesOnto given first text p memory s.rounds = st.pauses in
     let then : GivenSoFar = with_more (page_record place content ∷ []) at.so_far in
     let few : length (text ++ content) < 2 ^ 64 = omega (arith, room, loads.has_fed, length-append text content) in
     let size : length content ≡ first.table.page_size = len ∙ ap (λ (t : RamTable). t.page_size) (sym loads.same_table) in
-    in_place_on memory (with_page memory place content) given first s text content (Some q) (load_state.Stream Reading k) s.rounds loads
+    in_place_on memory (with_page memory place content) given first s text content (Some q) (load_state.Stream Reading k) (with_place s.named place) s.rounds loads
     (stands_taken given first text content p q place memory s.rounds s.state due size taken st k
     (valid (settings_of first given) (text ++ content) then (taken (settings_of first given) text at.so_far at.pauses) few))
+    (names_taken given first text content p q place s.named s.rounds due size taken (subst (λ (o : Option Paused). Names given first text s.named s.rounds o) is loads.names))
 
 pub some_taken : (given : LoadSettings) (table : RamTable) (content : List ℕ) (p q : Paused) (place : Place) (n fed : ℕ) → page_due p ≡ Some place → length content ≡ table.page_size → TakesPage p q place content
     → PausesSome given table p n fed → PausesSome given table q n (fed + length content)

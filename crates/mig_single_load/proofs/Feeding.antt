@@ -15,6 +15,7 @@ use Rattle.mig_stream.proofs.Feeding.{reads_short}
 use Rattle.mig_stream.proofs.Longer.{longer_law}
 use Rattle.mig_mem.specs.Image.{Image, zero_image}
 use Rattle.mig_mem.specs.Round.{with_rounds}
+use Rattle.mig_assemble.specs.NamedPlaces.{named_by}
 use Rattle.mig_assemble.specs.Target.{LoadTarget}
 use Rattle.mig_single_load.specs.Settings.{single_of}
 use Rattle.mig_single_load.specs.declared.settings.LoadSettings.{LoadSettings}
@@ -39,6 +40,12 @@ first_stays given first text piece ended r t size stands has =
           has.has_memory before is_before
           ∙ ap (λ (l : List (List PageRecord)). with_rounds first (pages_in given.page_size l)) (sym (take-append-le t.rounds before.rounds stays.more_rounds few))
           ∙ ap (λ (l : List (List PageRecord)). with_rounds first (pages_in given.page_size (take t.rounds l))) (sym rounds);
+      has_named = λ reading is.
+          let one : reading ≡ now.0 = same_reading given (text ++ piece) reading now.0 size is now.1 in
+          let rounds : reading.rounds ≡ before.rounds ++ stays.more_rounds = ap (λ (x : StreamReading). x.rounds) one ∙ stays.has_rounds in
+          has.has_named before is_before
+          ∙ ap (λ (l : List (List PageRecord)). named_by first.table (pages_in given.page_size l)) (sym (take-append-le t.rounds before.rounds stays.more_rounds few))
+          ∙ ap (λ (l : List (List PageRecord)). named_by first.table (pages_in given.page_size (take t.rounds l))) (sym rounds);
     }
 
 -- a piece more
@@ -80,7 +87,7 @@ fed_piece r s o piece step some room =
 
 -- what the reader does alone changes no section
 all_stays : (given : LoadSettings) (r s : Reader) (o : Option LoadTarget) (text : List ℕ) → HasAllSections given (loader r o) text → HasAllSections given (loader s o) text
-all_stays given r s o text all = record { reading = all.reading; is_reading = all.is_reading; has_memory = all.has_memory; has_rounds = all.has_rounds }
+all_stays given r s o text all = record { reading = all.reading; is_reading = all.is_reading; has_memory = all.has_memory; has_named = all.has_named; has_rounds = all.has_rounds }
 
 waits_stays : (given : LoadSettings) (r s : Reader) (o : Option LoadTarget) (text : List ℕ) → Waits given (loader r o) text → Waits given (loader s o) text
 waits_stays given r s o text waits = record { table = waits.table; has_table = waits.has_table; has_no_memory = waits.has_no_memory }

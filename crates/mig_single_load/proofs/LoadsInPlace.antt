@@ -1,15 +1,16 @@
 -- A load in place that writes each page as it is read: its loops, and what it represents between
 -- calls.
-use Rattle.std.proofs.Common.{ℕ, suc, cond, ◌≡◌, ◌≢◌, ◌⊎◌, ◌+◌, ◌<◌, ◌^◌, false, arith, List, [], ◌∷◌, ◌++◌, length, map, Option, Some, None, All, refl, sym, ap, ◌∙◌, subst, inl, inr, append_assoc}
+use Rattle.std.proofs.Common.{ℕ, suc, cond, ◌≡◌, ◌≢◌, ◌⊎◌, ◌+◌, ◌<◌, ◌^◌, false, arith, List, [], ◌∷◌, ◌++◌, length, map, Option, Some, None, All, refl, sym, ap, ◌∙◌, subst, inl, inr, append_assoc, not}
 use Rattle.std.specs.Prelude.{IfSome, Result, Ok, Err, OnErr, ⊤}
 use Rattle.std.specs.Option.{option_map_or, option_or}
 use Rattle.std.proofs.lemmas.Bool.{cases_Bool, cond-false}
-use Rattle.std.proofs.lemmas.List.{append-nil, length-append}
+use Rattle.std.proofs.lemmas.List.{append-nil, length-append, map-append}
 use Rattle.std.proofs.lemmas.List.Elements.{All-nil}
 use Rattle.mig_mem.specs.PageSize.{IsPageSize}
 use Rattle.mig_mem.specs.RamTable.{RamTable, IsTable}
 use Rattle.mig_mem.specs.declared.place.Place.{Place}
-use Rattle.mig_mem.specs.Place.{place_eq, IsPlace}
+use Rattle.mig_mem.specs.Place.{place_eq, has_place, IsPlace}
+use Rattle.mig_mem.specs.PlaceSet.{PlaceSet, places_where}
 use Rattle.mig_mem.specs.Image.{Page, Image, IsImage, content_at}
 use Rattle.mig_mem.specs.Round.{with_round, with_rounds, all_pages, last_at}
 use Rattle.mig_mem.proofs.PlaceOrder.{place_eq-true}
@@ -35,15 +36,18 @@ use Rattle.mig_stream.proofs.Feeding.{reads_short}
 use Rattle.mig_stream.proofs.Longer.{longer_law}
 use Rattle.mig_stream.proofs.Valid.{closed_is_valid}
 use Rattle.mig_stream.proofs.Giver.{none_before_table, few_sections, table_each, paused_table, same_page_size}
-use Rattle.mig_assemble.specs.Target.{FitsTable, pages_of_round}
+use Rattle.mig_assemble.specs.Judging.{places_of}
+use Rattle.mig_assemble.specs.NamedPlaces.{HasPlaces, with_places}
+use Rattle.mig_assemble.specs.Target.{FitsTable, none_named, pages_of_round}
+use Rattle.mig_assemble.proofs.Naming.{names_more, named_by-nil, missing_is}
 use Rattle.mig_single_load.specs.Settings.{for_table, ram_settings}
 use Rattle.mig_single_load.specs.declared.settings.LoadSettings.{LoadSettings}
 use Rattle.mig_single_load.specs.declared.in_place_state.LoadState.{LoadState}
 use Rattle.mig_single_load.specs.declared.in_place_state.LoadState.TheVariants as load_state
 use Rattle.mig_single_load.specs.declared.fault.LoadFault.{LoadFault}
 use Rattle.mig_single_load.specs.SingleLoad.{verdict_of}
-use Rattle.mig_single_load.specs.InPlace.{settings_of, IsOfOwnTable, IsOfOtherTable, HasOtherTable, pages_on, HasRecordsOnto, HasVerdictOnto}
-use Rattle.mig_single_load.specs.LoadInPlace.{InPlaceKeepsOtherPlaces, InPlaceOkIsWhole, SentIsLoadedInPlace, given_pages, settings_for, IsOfTable, IsEnd, GaveNext, PutsNext, PutsNextSome, GaveAll, GivesAll, PutsAll, PausesOnto, PausesSome, IsInState, StandsOnto, LoadInPlace, load_in_place, LoadsInPlace, HasSomeOnto, PutsSome, LacksMemory, closed_place, valid_place, HasClosedAtOnto, IsValidUpToOnto}
+use Rattle.mig_single_load.specs.InPlace.{settings_of, IsOfOwnTable, IsOfOtherTable, HasOtherTable, pages_on, pages_of_all, HasRecordsOnto, HasNamedOnto, HasMissingOnto, HasVerdictOnto}
+use Rattle.mig_single_load.specs.LoadInPlace.{InPlaceKeepsOtherPlaces, InPlaceOkIsWhole, SentIsLoadedInPlace, given_pages, given_places, settings_for, IsOfTable, IsEnd, GaveNext, PutsNext, PutsNextSome, GaveAll, GivesAll, PutsAll, NamesAll, NamesAt, Names, PausesOnto, PausesSome, IsInState, StandsOnto, LoadInPlace, load_in_place, LoadsInPlace, HasSomeOnto, PutsSome, LacksMemory, closed_place, valid_place, HasClosedAtOnto, IsValidUpToOnto}
 use Rattle.mig_single_load.proofs.Sections.{same_reading}
 use Rattle.mig_single_load.proofs.Onto.{apart, sent_verdict, sent_sections}
 use Rattle.mig_single_load.proofs.LoadedAtOnce.{given_more, given_last, put_behind, few_first, calls}
@@ -373,9 +377,10 @@ own_first given table =
     let reads : Reads begin [] begin [] Reading = reads_short begin [] (omega arith) in
     inl (record { table = None; rounds = []; state = Reading }, record { to = begin; rest = []; reads = reads; has_table = refl; has_rounds = refl }, refl)
 
-pub in_place_first : (given : LoadSettings) (first : Image) (p : Paused) (table : RamTable) → IsTable first.table → IsImage first → first.table ≡ table → PausesAt (settings_for first.table given) [] none_given p
-    → LoadsInPlace first given first (load_in_place (Some p) (load_state.Stream Reading 0) table 0 0 false) [] false
-in_place_first given first p table is image same at =
+pub in_place_first : (given : LoadSettings) (first : Image) (p : Paused) (table : RamTable) (named : PlaceSet) → IsTable first.table → IsImage first → first.table ≡ table → named ≡ none_named first.table
+    → PausesAt (settings_for first.table given) [] none_given p
+    → LoadsInPlace first given first (load_in_place (Some p) (load_state.Stream Reading 0) table named 0 0 false) [] false
+in_place_first given first p table named is image same none at =
     let begin : StreamProgress = start given.frame Single first.table.page_size given.limit given.waiting in
     let reading : StreamReading = record { table = None; rounds = []; state = Reading } in
     let reads : Reads begin [] begin [] Reading = reads_short begin [] (omega arith) in
@@ -398,6 +403,15 @@ in_place_first given first p table is image same at =
         pauses = record { so_far = none_given; pauses = at; is_own = own_first given first.table; has_memory = nothing; has_sections = refl };
         is_in_state = (inl refl, refl, refl);
         is_read_to = record { to = begin; rest = []; state = Reading; reads = reads; has_length = omega (arith, ap (λ (l : List ℕ). length l) reads.has_text, length-append reads.front []) };
+      };
+      names = record {
+        has_named = record {
+          reading = reading;
+          is_reading = is_reading;
+          own = λ _. none ∙ named_by-nil first.table;
+          other = λ o. absurd (apart first reading (inl refl) o);
+        };
+        at_pause = record { so_far = none_given; pauses = at; is_own = own_first given first.table; has_named = none ∙ named_by-nil first.table; has_sections = refl };
       };
     }
 
@@ -600,6 +614,86 @@ stands_more given first text piece m n load_state.OtherTable size st =
     }
 stands_more given first text piece m n load_state.NoMemory size st = absurd st.is_in_state
 
+-- ---- the places that were named
+
+-- those of the records that were given last, too
+places_more : (first : Image) (so_far : GivenSoFar) (gave : Given) (r : RoundOfRecords) (s new : PlaceSet) → (IsEnd gave → ⊥) → r.page_size ≡ first.table.page_size
+    → HasPlaces first.table (given_places first so_far) s → new ≡ with_places s (places_of (pages_of_round r)) → HasPlaces first.table (given_places first (with_given gave r.records so_far)) new
+places_more first so_far gave r s new more size before is =
+    is
+    ∙ ap (λ (n : ℕ). with_places s (places_of (map (page_of n) r.records))) size
+    ∙ names_more first.table (given_places first so_far) (places_of (pages_on first r.records)) s before
+    ∙ ap (λ (l : List Place). record { table = first.table; marked = places_where first.table (has_place l) })
+    (sym (map-append (λ (x : Page). x.place) (given_pages first so_far) (pages_on first r.records)) ∙ ap (λ (l : List Page). places_of l) (given_pages_more first gave r.records so_far more))
+
+-- what is named of the records that were given last, and of those that follow, by a loop that has
+-- come from there to here
+abbrev pub NamesSoFar : Given → Giver → PlaceSet → ℕ → Given → Giver → PlaceSet → ℕ → Type 0
+NamesSoFar gave r named sections next s after more = (given : LoadSettings) (first : Image) (text : List ℕ) (so_far : GivenSoFar) → PutsNext given first.table text so_far gave r sections
+    → HasPlaces first.table (given_places first so_far) named
+    → (then : GivenSoFar) × PutsNext given first.table text then next s more × HasPlaces first.table (given_places first then) after
+
+pub names_none : (gave : Given) (r : Giver) (s : PlaceSet) (n : ℕ) → NamesSoFar gave r s n gave r s n
+names_none gave r s n = λ given first text so_far puts is. (so_far, puts, is)
+
+pub names_on : (first_gave gave next : Given) (r0 r s : Giver) (s0 now new : PlaceSet) (n0 n more_n : ℕ) → (IsEnd gave → ⊥) → more_n ≡ one_more gave n → new ≡ with_places now (places_of (pages_of_round r.given)) → Step next r s
+    → NamesSoFar first_gave r0 s0 n0 gave r now n → NamesSoFar first_gave r0 s0 n0 next s new more_n
+names_on first_gave gave next r0 r s s0 now new n0 n more_n more count is step so = λ given first text so_far puts before.
+    let was = so given first text so_far puts before in (
+      with_given gave r.given.records was.0,
+      subst (λ (k : ℕ). PutsNext given first.table text (with_given gave r.given.records was.0) next s k) (sym count) (puts_more given first.table text was.0 gave next r s n more was.1 step),
+      places_more first was.0 gave r.given now new more was.1.gave_next.is_size was.2 is,
+    )
+
+pub names_all : (first_gave gave : Given) (found : StreamState) (r0 r : Giver) (s0 now : PlaceSet) (n0 n : ℕ) → gave ≡ End found → NamesSoFar first_gave r0 s0 n0 gave r now n → NamesAll first_gave r0 s0 n0 found r now n
+names_all first_gave gave found r0 r s0 now n0 n is so = λ given first text so_far puts before.
+    let was = so given first text so_far puts before in
+    let last : PutsNext given first.table text was.0 (End found) r n = subst (λ (x : Given). PutsNext given first.table text was.0 x r n) is was.1 in (
+      was.0,
+      record { gives = last.gave_next.gives; has_reading = last.gave_next.ends; has_none_left = last.gave_next.leaves_none; has_sections = last.has_sections },
+      was.2,
+    )
+
+-- what was named is what the stream names
+pub named_onto : (given : LoadSettings) (first : Image) (text : List ℕ) (so_far : GivenSoFar) (found : StreamState) (s : PlaceSet) → IsPageSize first.table.page_size → IsOfTable given first.table text
+    → HasReading (settings_of first given) text so_far found → HasPlaces first.table (given_places first so_far) s → HasNamedOnto given first text s
+named_onto given first text so_far found s size own has names = record {
+  reading = has.reading;
+  is_reading = has.is_reading;
+  own = λ _.
+      names
+      ∙ ap (λ (l : List (List PageRecord)). record { table = first.table; marked = places_where first.table (has_place (places_of (pages_of_all first l so_far.open_section))) }) (sym has.has_sections)
+      ∙ ap (λ (l : List PageRecord). record { table = first.table; marked = places_where first.table (has_place (places_of (pages_of_all first has.reading.rounds l))) }) (sym has.has_open);
+  other = λ o. absurd (apart first has.reading (own_of given first text has.reading size has.is_reading own) o);
+}
+
+-- a stream that isn't read on names no more when it grows
+named_more : (given : LoadSettings) (first : Image) (text piece : List ℕ) (m : Image) (n : ℕ) (found : LoadState) (s : PlaceSet) → IsPageSize first.table.page_size → StandsOnto given first text m n None found
+    → HasNamedOnto given first text s → HasNamedOnto given first (text ++ piece) s
+unfolding reading_more
+named_more given first text piece m n (load_state.Stream found at) s size st has =
+    let same : st.has_records.reading ≡ has.reading = same_reading (for_table first.table given) text st.has_records.reading has.reading size st.has_records.is_reading has.is_reading in
+    record {
+      reading = has.reading;
+      is_reading = reading_more (settings_of first given) text piece has.reading has.is_reading
+          (λ e. st.is_in_state.1 (sym st.is_in_state.2 ∙ ap (λ (x : StreamReading). x.state) same ∙ e));
+      own = has.own;
+      other = has.other;
+    }
+named_more given first text piece m n load_state.OtherTable s size st has =
+    let single = settings_of first given in
+    let now = one_reading_law single (text ++ piece) size in
+    let same : st.has_records.reading ≡ has.reading = same_reading (for_table first.table given) text st.has_records.reading has.reading size st.has_records.is_reading has.is_reading in
+    let was : IsOfOtherTable first has.reading = subst (λ (x : StreamReading). IsOfOtherTable first x) same st.is_in_state in
+    let stays : StaysRead has.reading now.0 = longer_law single text piece has.reading now.0 size has.is_reading now.1 in
+    record {
+      reading = now.0;
+      is_reading = now.1;
+      own = λ own. absurd (apart first now.0 own (was.0, stays.same_table was.0 was.1, was.2));
+      other = λ _. has.other was;
+    }
+named_more given first text piece m n load_state.NoMemory s size st has = absurd st.is_in_state
+
 -- ---- a piece of it
 
 -- what a pause that goes on is given by
@@ -678,6 +772,75 @@ found_on given first text piece p q m new n more fresh r s gave found f at own p
     (stands_at given first (text ++ piece) all.0 q new more all.1.gives.is_page_size all.3 has (pauses (settings_of first given) (text ++ piece) all.0 all.1.gives) all.2 all.1.has_sections k
     (tells (λ none. let bad : Some found ≡ None = sym all.1.has_none_left.has_found ∙ none in absurd cc) (settings_of first given) (text ++ piece) all.0 all.1.gives few))
 
+-- and named
+found_named : (given : LoadSettings) (first : Image) (text piece : List ℕ) (p : Paused) (s new : PlaceSet) (n more : ℕ) (fresh r last : Giver) (gave : Given) (found : StreamState) → Found p piece fresh r gave
+    → NamesAt given first text p s n → (whole_table r.progress ≡ None) ⊎ (whole_table r.progress ≡ Some first.table) → NamesAll gave r s n found last new more
+    → (then : GivenSoFar) × GaveAll given first.table (text ++ piece) then found last more × HasPlaces first.table (given_places first then) new × IsOfTable given first.table (text ++ piece)
+found_named given first text piece p s new n more fresh r last gave found f at own names =
+    let next = found_puts given first.table text piece at.so_far p fresh r gave n f at.pauses own at.has_sections in
+    let all = names given first (text ++ piece) at.so_far next at.has_named in (
+      all.0,
+      all.1,
+      all.2,
+      own_text given first.table (text ++ piece) at.so_far gave r next.gave_next f.there own,
+    )
+
+pub names_off : (given : LoadSettings) (first : Image) (text piece : List ℕ) (p : Paused) (s new : PlaceSet) (n more : ℕ) (fresh r last : Giver) (gave : Given) (found : StreamState) → Found p piece fresh r gave
+    → NamesAt given first text p s n → (whole_table r.progress ≡ None) ⊎ (whole_table r.progress ≡ Some first.table) → NamesAll gave r s n found last new more → Names given first (text ++ piece) new more None
+names_off given first text piece p s new n more fresh r last gave found f at own names =
+    let all = found_named given first text piece p s new n more fresh r last gave found f at own names in
+    record { has_named = named_onto given first (text ++ piece) all.0 found new all.1.gives.is_page_size all.3 all.1.has_reading all.2; at_pause = tt }
+
+pub names_at : (given : LoadSettings) (first : Image) (text piece : List ℕ) (p q : Paused) (s new : PlaceSet) (n more : ℕ) (fresh r last : Giver) (gave : Given) (found : StreamState) → Found p piece fresh r gave
+    → NamesAt given first text p s n → (whole_table r.progress ≡ None) ⊎ (whole_table r.progress ≡ Some first.table) → NamesAll gave r s n found last new more
+    → ((single : Settings) (text : List ℕ) (so_far : GivenSoFar) → Gives single text so_far last → PausesAt single text so_far q) → Names given first (text ++ piece) new more (Some q)
+names_at given first text piece p q s new n more fresh r last gave found f at own names pauses =
+    let all = found_named given first text piece p s new n more fresh r last gave found f at own names in
+    record {
+      has_named = named_onto given first (text ++ piece) all.0 found new all.1.gives.is_page_size all.3 all.1.has_reading all.2;
+      at_pause = record { so_far = all.0; pauses = pauses (settings_of first given) (text ++ piece) all.0 all.1.gives; is_own = all.3; has_named = all.2; has_sections = all.1.has_sections };
+    }
+
+-- none is named of a stream of another table
+pub names_other : (given : LoadSettings) (first : Image) (text piece : List ℕ) (p : Paused) (s : PlaceSet) (n : ℕ) (fresh r : Giver) (gave : Given) (t : RamTable) → Found p piece fresh r gave
+    → NamesAt given first text p s n → whole_table r.progress ≡ Some t → t ≢ first.table → Names given first (text ++ piece) s n None
+names_other given first text piece p s n fresh r gave t f at whole differ =
+    let single = settings_of first given in
+    let gives = (found_next given first.table text piece at.so_far p fresh r gave f at.pauses).gives in
+    let has : HasTable single (text ++ piece) (Some t) = table_told single (text ++ piece) (with_given gave r.given.records at.so_far) r t gives whole in
+    let reading : StreamReading = has.0 in
+    let size : IsPageSize first.table.page_size = gives.is_page_size in
+    let before : HasTable single text None =
+    elim at.is_own [
+      | inl none ↦ none
+      | inr own ↦ absurd (differ (let both : Some t ≡ Some first.table = has.2 ∙ table_longer given first.table text piece first.table size own reading has.1 in cc))
+    ] in
+    let told : HasTable single text (whole_table p.progress) = paused_table single text at.so_far p at.pauses in
+    let none : whole_table p.progress ≡ None =
+    told.2 ∙ ap (λ (x : StreamReading). x.table) (same_reading (for_table first.table given) text told.0 before.0 size told.1 before.1) ∙ sym before.2 in
+    let both = none_before_table single text at.so_far (giver_at p) at.pauses none in
+    let nothing : given_places first at.so_far ≡ [] =
+    ap (λ (l : List (List PageRecord)). places_of (all_pages (map (pages_on first) l) ++ pages_on first at.so_far.open_section)) both.0 ∙ ap (λ (l : List PageRecord). places_of (pages_on first l)) both.1 in
+    record {
+      has_named = record {
+        reading = reading;
+        is_reading = has.1;
+        own = λ own. absurd (apart first reading own (t, sym has.2, differ));
+        other = λ _. at.has_named ∙ ap (λ (l : List Place). record { table = first.table; marked = places_where first.table (has_place l) }) nothing ∙ sym (named_by-nil first.table);
+      };
+      at_pause = tt;
+    }
+
+-- how many pages no record named
+pub missing_onto : (given : LoadSettings) (first : Image) (text : List ℕ) (s : PlaceSet) (n : ℕ) → HasNamedOnto given first text s → n ≡ length (places_where s.table (λ p. not (has_place s.marked p)))
+    → HasMissingOnto given first text n
+missing_onto given first text s n has count = record {
+  reading = has.reading;
+  is_reading = has.is_reading;
+  own = λ own. count ∙ missing_is first.table (places_of (pages_of_all first has.reading.rounds has.is_reading.to.records)) s (has.own own);
+  other = λ other. count ∙ missing_is first.table [] s (has.other other ∙ named_by-nil first.table);
+}
+
 -- and this much was given of any stream
 pub found_on_some : (given : LoadSettings) (fed : ℕ) (table : RamTable) (piece : List ℕ) (p q : Paused) (n more : ℕ) (fresh r s : Giver) (gave : Given) (found : StreamState) → Found p piece fresh r gave
     → PausesSome given table p n fed → (whole_table r.progress ≡ None) ⊎ (whole_table r.progress ≡ Some table) → GivesAll gave r n found s more
@@ -710,22 +873,26 @@ pub some_each : (given : LoadSettings) (fed : ℕ) (t table : RamTable) (n : ℕ
 some_each given fed t table n None same h = tt
 some_each given fed t table n (Some p) same h = (given, subst (λ (x : RamTable). PausesSome given x p n fed) same h)
 
-pub in_place_on : (memory new : Image) (given : LoadSettings) (first : Image) (s : LoadInPlace) (text piece : List ℕ) (pause : Option Paused) (found : LoadState) (n : ℕ) → LoadsInPlace memory given first s text false
-    → StandsOnto given first (text ++ piece) new n pause found → LoadsInPlace new given first (load_in_place pause found s.table n (s.fed + length piece) s.ended) (text ++ piece) false
-in_place_on memory new given first s text piece pause found n loads stands = record {
+pub in_place_on : (memory new : Image) (given : LoadSettings) (first : Image) (s : LoadInPlace) (text piece : List ℕ) (pause : Option Paused) (found : LoadState) (named : PlaceSet) (n : ℕ) → LoadsInPlace memory given first s text false
+    → StandsOnto given first (text ++ piece) new n pause found → Names given first (text ++ piece) named n pause
+    → LoadsInPlace new given first (load_in_place pause found s.table named n (s.fed + length piece) s.ended) (text ++ piece) false
+in_place_on memory new given first s text piece pause found named n loads stands names = record {
   is_table = loads.is_table;
   is_image = loads.is_image;
   same_table = loads.same_table;
   has_fed = ap (λ (k : ℕ). k + length piece) loads.has_fed ∙ sym (length-append text piece);
   has_ended = loads.has_ended;
   stands = stands;
+  names = names;
 }
 
 pub in_place_past : (memory : Image) (given : LoadSettings) (first : Image) (s : LoadInPlace) (text piece : List ℕ) → s.pause ≡ None → LoadsInPlace memory given first s text false
-    → LoadsInPlace memory given first (load_in_place None s.state s.table s.rounds (s.fed + length piece) s.ended) (text ++ piece) false
+    → LoadsInPlace memory given first (load_in_place None s.state s.table s.named s.rounds (s.fed + length piece) s.ended) (text ++ piece) false
 in_place_past memory given first s text piece none loads =
-    in_place_on memory memory given first s text piece None s.state s.rounds loads
-    (stands_more given first text piece memory s.rounds s.state loads.is_table.has_page_size (subst (λ (o : Option Paused). StandsOnto given first text memory s.rounds o s.state) none loads.stands))
+    let stands : StandsOnto given first text memory s.rounds None s.state = subst (λ (o : Option Paused). StandsOnto given first text memory s.rounds o s.state) none loads.stands in
+    in_place_on memory memory given first s text piece None s.state s.named s.rounds loads
+    (stands_more given first text piece memory s.rounds s.state loads.is_table.has_page_size stands)
+    (record { has_named = named_more given first text piece memory s.rounds s.state s.named loads.is_table.has_page_size stands loads.names.has_named; at_pause = tt })
 
 -- ---- if memory was refused
 
@@ -785,9 +952,9 @@ some_longer given first text piece m n has =
       has_sections = has.has_sections;
     }
 
-pub lacks_now : (memory new : Image) (given : LoadSettings) (first : Image) (s : LoadInPlace) (text piece : List ℕ) (n : ℕ) → LoadsInPlace memory given first s text false → HasSomeOnto given first (text ++ piece) new n
-    → LacksMemory new given first (load_in_place None load_state.NoMemory s.table n (s.fed + length piece) s.ended) (text ++ piece) false
-lacks_now memory new given first s text piece n loads some = record {
+pub lacks_now : (memory new : Image) (given : LoadSettings) (first : Image) (s : LoadInPlace) (text piece : List ℕ) (named : PlaceSet) (n : ℕ) → LoadsInPlace memory given first s text false → HasSomeOnto given first (text ++ piece) new n
+    → LacksMemory new given first (load_in_place None load_state.NoMemory s.table named n (s.fed + length piece) s.ended) (text ++ piece) false
+lacks_now memory new given first s text piece named n loads some = record {
   is_table = loads.is_table;
   is_image = loads.is_image;
   same_table = loads.same_table;
@@ -799,7 +966,7 @@ lacks_now memory new given first s text piece n loads some = record {
 }
 
 pub lacks_more : (memory : Image) (given : LoadSettings) (first : Image) (s : LoadInPlace) (text piece : List ℕ) → LacksMemory memory given first s text false
-    → LacksMemory memory given first (load_in_place None s.state s.table s.rounds (s.fed + length piece) s.ended) (text ++ piece) false
+    → LacksMemory memory given first (load_in_place None s.state s.table s.named s.rounds (s.fed + length piece) s.ended) (text ++ piece) false
 lacks_more memory given first s text piece lacks = record {
   is_table = lacks.is_table;
   is_image = lacks.is_image;

@@ -1,13 +1,14 @@
 -- The sections of a stream that are applied to a memory, one after another, and the answer that
 -- they make.
-use Rattle.std.proofs.Common.{ℕ, ◌≡◌, ◌+◌, ◌<◌, ◌≤◌, Bool, true, false, List, [], ◌∷◌, ◌++◌, length, map, take, refl, sym, ap, ◌∙◌, inl, inr, Option, Some, None, arith, rules, subst}
+use Rattle.std.proofs.Common.{ℕ, ◌≡◌, ◌+◌, ◌<◌, ◌≤◌, Bool, true, false, List, [], ◌∷◌, ◌++◌, length, map, take, refl, sym, ap, ◌∙◌, inl, inr, Option, Some, None, arith, rules, subst, not}
 use Rattle.std.specs.Prelude.{◌⊎◌, ⊤, IfSome, IfNone, IfOk, IsOk, OnErr, Result, Ok, Err, slice_index_or}
 use Rattle.std.specs.List.{All}
 use Rattle.std.proofs.lemmas.List.{map-append, take_more, take_all, append-nil, length-append, length-map}
 use Rattle.std.proofs.lemmas.Bool.{cases_lt}
 use Rattle.mig_mem.specs.PageSize.{IsPageSize}
 use Rattle.mig_mem.specs.RamTable.{RamTable, IsTable}
-use Rattle.mig_mem.specs.Place.{IsPlace}
+use Rattle.mig_mem.specs.Place.{IsPlace, has_place}
+use Rattle.mig_mem.specs.PlaceSet.{PlaceSet, places_where}
 use Rattle.std.specs.Option.{option_map_or}
 use Rattle.std.proofs.lemmas.List.Elements.{All-head, All-tail}
 use Rattle.mig_mem.specs.Image.{Page, Image, image_of, zero_page, zero_image}
@@ -30,13 +31,16 @@ use Rattle.mig_stream.proofs.Limits.{limits_law}
 use Rattle.mig_stream.proofs.SpelledText.{spelled_law}
 use Rattle.mig_stream.proofs.WrittenText.{written_single}
 use Rattle.mig_stream.proofs.WrittenPages.{written_pages}
+use Rattle.mig_assemble.specs.Judging.{places_of}
+use Rattle.mig_assemble.specs.NamedPlaces.{places_in, named_by, with_places}
 use Rattle.mig_assemble.specs.Target.{LoadTarget, new_target, pages_of_round, FitsTable}
+use Rattle.mig_assemble.proofs.Naming.{named_by-nil, named_by-push, missing_is}
 use Rattle.mig_single_load.specs.Settings.{single_of, ram_settings}
 use Rattle.mig_single_load.specs.declared.settings.LoadSettings.{LoadSettings}
 use Rattle.mig_single_load.specs.declared.loaded.Loaded.{Loaded}
 use Rattle.mig_single_load.specs.declared.fault.LoadFault.{LoadFault}
-use Rattle.mig_single_load.specs.SingleLoad.{memory_after, verdict_of, IsSingleAnswer, IsSingleWithoutMemory, loaded, unloaded}
-use Rattle.mig_single_load.specs.Loader.{Loader, loader, memory_of, sections_loaded, HasAllSections, Waits, put_so_far, Loads, HasVerdict, Judges, Answers, HasFirst, HasPutSections, HasPutAllSections, WasFed}
+use Rattle.mig_single_load.specs.SingleLoad.{memory_after, named_after, missing_after, verdict_of, IsSingleAnswer, IsSingleWithoutMemory, loaded, unloaded}
+use Rattle.mig_single_load.specs.Loader.{Loader, loader, memory_of, sections_loaded, HasAllSections, Waits, put_so_far, Loads, HasVerdict, Judges, TellsMissing, Answers, HasFirst, HasPutSections, HasPutAllSections, WasFed}
 
 -- the pages of some sections
 abbrev pub pages_in : ℕ → List (List PageRecord) → List (List Page)
@@ -57,7 +61,7 @@ pub put_new : (given : LoadSettings) (text : List ℕ) (ended : Bool) (r : Reade
 put_new given text ended r table t fed has is = rw is record {
   is_page_size = fed.is_page_size;
   stands = fed.stands;
-  has_first = record { has_table = has; has_memory = λ reading _. sym (after-nil table) ∙ onto-zeros table [] };
+  has_first = record { has_table = has; has_memory = λ reading _. sym (after-nil table) ∙ onto-zeros table []; has_named = λ reading _. named_by-nil table };
 }
 
 -- the page size of the table, and that a round that is still to come isn't the 2^63rd
@@ -85,8 +89,9 @@ fits_is given first text ended r t round put is places =
 -- one section more
 pub put_more : (given : LoadSettings) (first : Image) (text : List ℕ) (ended : Bool) (r s : Reader) (t u : LoadTarget) (round : RoundOfRecords) → HasPutSections given first text ended r t
     → round.page_size ≡ given.page_size → HasRound (single_of given) text t.rounds round.records → Stands (single_of given) (put_so_far text ended (t.rounds + 1)) s
-    → u.memory ≡ with_round t.memory (pages_of_round round) → u.rounds ≡ t.rounds + 1 → HasPutSections given first text ended s u
-put_more given first text ended r s t u round put is_size is_round stands memory rounds =
+    → u.memory ≡ with_round t.memory (pages_of_round round) → u.named ≡ with_places t.named (places_of (pages_of_round round)) → u.rounds ≡ t.rounds + 1
+    → HasPutSections given first text ended s u
+put_more given first text ended r s t u round put is_size is_round stands memory named rounds =
     let has : HasFirst given first text t = put.has_first in
     let size : IsPageSize given.page_size = put.is_page_size in
     record {
@@ -95,22 +100,33 @@ put_more given first text ended r s t u round put is_size is_round stands memory
       has_first = record {
         has_table = has.has_table;
         has_memory = λ reading is.
-            let one : is_round.0 ≡ reading = same_reading given text is_round.0 reading size is_round.1 is in
-            let few : t.rounds < length reading.rounds = subst (λ (x : StreamReading). t.rounds < length x.rounds) one is_round.2 in
-            let here : slice_index_or reading.rounds t.rounds [] ≡ round.records =
-            subst (λ (x : StreamReading). slice_index_or x.rounds t.rounds [] ≡ round.records) one is_round.3 in
-            let before : List (List PageRecord) = take t.rounds reading.rounds in
-            let more : before ++ round.records ∷ [] ≡ take (t.rounds + 1) reading.rounds =
-            ap (λ (x : List PageRecord). before ++ x ∷ []) (sym here) ∙ sym (take_more reading.rounds t.rounds [] few) in
             memory
             ∙ ap (λ (m : Image). with_round m (pages_of_round round)) (has.has_memory reading is)
-            ∙ ap (λ (n : ℕ). with_round (with_rounds first (pages_in given.page_size before)) (map (page_of n) round.records)) is_size
-            ∙ sym (onto-push first (pages_in given.page_size before) (map (page_of given.page_size) round.records))
-            ∙ ap (λ (l : List (List Page)). with_rounds first l) (sym (map-append (map (page_of given.page_size)) before (round.records ∷ [])))
-            ∙ ap (λ (l : List (List PageRecord)). with_rounds first (pages_in given.page_size l)) more
-            ∙ ap (λ (n : ℕ). with_rounds first (pages_in given.page_size (take n reading.rounds))) (sym rounds);
+            ∙ ap (λ (n : ℕ). with_round (with_rounds first (pages_in given.page_size (take t.rounds reading.rounds))) (map (page_of n) round.records)) is_size
+            ∙ sym (onto-push first (pages_in given.page_size (take t.rounds reading.rounds)) (map (page_of given.page_size) round.records))
+            ∙ ap (λ (l : List (List Page)). with_rounds first l) (sections_more reading is);
+        has_named = λ reading is.
+            named
+            ∙ ap (λ (n : ℕ). with_places t.named (places_of (map (page_of n) round.records))) is_size
+            ∙ named_by-push first.table (pages_in given.page_size (take t.rounds reading.rounds)) (map (page_of given.page_size) round.records) t.named (has.has_named reading is)
+            ∙ ap (λ (l : List (List Page)). named_by first.table l) (sections_more reading is);
       };
     }
+  where
+    -- the sections before it, and it, are one section more of the stream
+    sections_more : (reading : StreamReading) → IsReading (single_of given) text reading
+        → pages_in given.page_size (take t.rounds reading.rounds) ++ map (page_of given.page_size) round.records ∷ [] ≡ pages_in given.page_size (take u.rounds reading.rounds)
+    sections_more reading is =
+        let one : is_round.0 ≡ reading = same_reading given text is_round.0 reading put.is_page_size is_round.1 is in
+        let few : t.rounds < length reading.rounds = subst (λ (x : StreamReading). t.rounds < length x.rounds) one is_round.2 in
+        let here : slice_index_or reading.rounds t.rounds [] ≡ round.records =
+        subst (λ (x : StreamReading). slice_index_or x.rounds t.rounds [] ≡ round.records) one is_round.3 in
+        let before : List (List PageRecord) = take t.rounds reading.rounds in
+        let more : before ++ round.records ∷ [] ≡ take (t.rounds + 1) reading.rounds =
+        ap (λ (x : List PageRecord). before ++ x ∷ []) (sym here) ∙ sym (take_more reading.rounds t.rounds [] few) in
+        sym (map-append (map (page_of given.page_size)) before (round.records ∷ []))
+        ∙ ap (λ (l : List (List PageRecord)). pages_in given.page_size l) more
+        ∙ ap (λ (n : ℕ). pages_in given.page_size (take n reading.rounds)) (sym rounds)
 
 -- no section is left
 pub not_more : (given : LoadSettings) (text : List ℕ) (reading : StreamReading) (n : ℕ) → IsReading (single_of given) text reading
@@ -149,6 +165,7 @@ all_put given first text ended r t put last =
       reading = reading;
       is_reading = is_reading;
       has_memory = has.has_memory reading is_reading ∙ ap (λ (l : List (List PageRecord)). with_rounds first (pages_in given.page_size l)) (take_all t.rounds sections most);
+      has_named = has.has_named reading is_reading ∙ ap (λ (l : List (List PageRecord)). named_by first.table (pages_in given.page_size l)) (take_all t.rounds sections most);
       has_rounds = omega (arith, most, least);
     }
 
@@ -169,6 +186,7 @@ loads_put given text ended r table t put all =
       is_reading = all.is_reading;
       has_memory = ap (λ (m : Image). Some m) (all.has_memory ∙ sym (onto-zeros table (pages_in given.page_size reading.rounds)))
           ∙ ap (λ (x : Option RamTable). memory_after given.page_size x reading.rounds) is_table;
+      has_named = ap (λ (n : PlaceSet). Some n) all.has_named ∙ ap (λ (x : Option RamTable). named_after given.page_size x reading.rounds) is_table;
       has_rounds = all.has_rounds;
     } in
     (record { is_page_size = put.is_page_size; stands = put.stands; has_sections = inl has }, has)
@@ -182,6 +200,7 @@ none_there given text r size has =
       reading = reading;
       is_reading = has.1;
       has_memory = ap (λ (x : Option RamTable). memory_after given.page_size x reading.rounds) has.2;
+      has_named = ap (λ (x : Option RamTable). named_after given.page_size x reading.rounds) has.2;
       has_rounds = sym (ap (λ (x : List (List PageRecord)). length x) none);
     }
 
@@ -211,6 +230,14 @@ first_of_all given text r t size all =
           there.1 ∙ ap (λ (x : StreamReading). after t.memory.table (pages_in given.page_size x.rounds)) one
           ∙ ap (λ (l : List (List PageRecord)). after t.memory.table (pages_in given.page_size l)) (sym (take_all t.rounds reading.rounds most))
           ∙ onto-zeros t.memory.table (pages_in given.page_size (take t.rounds reading.rounds));
+      has_named = λ reading is.
+          let one : all.reading ≡ reading = same_reading given text all.reading reading size all.is_reading is in
+          let most : length reading.rounds ≤ t.rounds = subst (λ (x : StreamReading). length x.rounds ≤ t.rounds) one (omega (arith, all.has_rounds)) in
+          let names : t.named ≡ named_by t.memory.table (pages_in given.page_size all.reading.rounds) =
+          let e : Some t.named ≡ Some (named_by t.memory.table (pages_in given.page_size all.reading.rounds)) =
+          all.has_named ∙ ap (λ (o : Option RamTable). named_after given.page_size o all.reading.rounds) (sym there.0) in cc in
+          names ∙ ap (λ (x : StreamReading). named_by t.memory.table (pages_in given.page_size x.rounds)) one
+          ∙ ap (λ (l : List (List PageRecord)). named_by t.memory.table (pages_in given.page_size l)) (sym (take_all t.rounds reading.rounds most));
     }
 
 -- a loader that represents a stream was fed it
@@ -256,6 +283,43 @@ judged given l text ended state v size all told is =
         is_verdict = is ∙ ap (verdict_of (sections_loaded l)) said ∙ verdict_over ended (sections_loaded l) all.reading.state ∙ ap (λ (n : ℕ). verdict_of n all.reading.state) all.has_rounds;
       },
     )
+
+-- ---- how many pages it lacks
+
+pub counts_missing : (given : LoadSettings) (r : Reader) (t : LoadTarget) (text : List ℕ) (n : ℕ) → HasAllSections given (loader r (Some t)) text
+    → n ≡ length (places_where t.named.table (λ p. not (has_place t.named.marked p))) → TellsMissing given (loader r (Some t)) text (Some n)
+counts_missing given r t text n all is =
+    let there = table_there given.page_size t.memory all.reading.table all.reading.rounds all.has_memory in
+    let names : t.named ≡ named_by t.memory.table (pages_in given.page_size all.reading.rounds) =
+    let e : Some t.named ≡ Some (named_by t.memory.table (pages_in given.page_size all.reading.rounds)) =
+    all.has_named ∙ ap (λ (o : Option RamTable). named_after given.page_size o all.reading.rounds) (sym there.0) in cc in
+    inl (
+      all,
+      record {
+        reading = all.reading;
+        is_reading = all.is_reading;
+        is_count = ap (λ (m : ℕ). Some m) (is ∙ missing_is t.memory.table (places_in (pages_in given.page_size all.reading.rounds)) t.named names)
+            ∙ ap (λ (o : Option RamTable). missing_after given.page_size o all.reading.rounds) there.0;
+      },
+    )
+
+-- without a memory
+pub none_missing : (given : LoadSettings) (r : Reader) (text : List ℕ) → HasAllSections given (loader r None) text ⊎ Waits given (loader r None) text → TellsMissing given (loader r None) text None
+none_missing given r text (inr waits) = inr (waits, refl)
+none_missing given r text (inl all) = inl (
+  all,
+  record {
+    reading = all.reading;
+    is_reading = all.is_reading;
+    is_count = ap (λ (o : Option RamTable). missing_after given.page_size o all.reading.rounds) (no_table all.reading.table all.has_memory);
+  },
+)
+  where
+    no_table : (o : Option RamTable) → None ≡ memory_after given.page_size o all.reading.rounds → None ≡ o
+    no_table None e = refl
+    no_table (Some table) e = absurd cc
+
+-- ---- the answer of both
 
 loaded_is : {A : Type 0} (a b : Loaded A) → a.memory ≡ b.memory → a.rounds ≡ b.rounds → a.verdict ≡ b.verdict → a ≡ b
 loaded_is a b m n v = grind (rules)

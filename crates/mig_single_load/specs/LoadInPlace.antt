@@ -4,6 +4,7 @@ use Rattle.std.specs.Prelude.{◌≡◌, ◌≢◌, ◌⊎◌, ◌≤◌, ◌<�
 use Rattle.mig_mem.specs.RamTable.{RamTable, IsTable}
 use Rattle.mig_mem.specs.Place.{IsPlace}
 use Rattle.mig_mem.specs.declared.place.Place.{Place}
+use Rattle.mig_mem.specs.PlaceSet.{PlaceSet}
 use Rattle.mig_mem.specs.Image.{Image, Page, IsImage, content_at}
 use Rattle.mig_mem.specs.Round.{IsRound, with_round, with_rounds, all_pages}
 use Rattle.mig_stream.specs.declared.item.StreamState.{StreamState}
@@ -15,12 +16,14 @@ use Rattle.mig_stream.specs.Reader.{HasTable, IsValidUpTo, HasClosedAt}
 use Rattle.mig_stream.specs.Text.{total_bytes}
 use Rattle.mig_stream.specs.Written.{single}
 use Rattle.mig_stream.specs.Giving.{Giver, GivenSoFar, with_given, Gives, EndsSo, LeavesNone, HasNoneLeft, HasReading, Paused, PausesAt}
+use Rattle.mig_assemble.specs.Judging.{places_of}
+use Rattle.mig_assemble.specs.NamedPlaces.{HasPlaces}
 use Rattle.mig_single_load.specs.Settings.{single_of, for_table, ram_settings}
 use Rattle.mig_single_load.specs.declared.settings.LoadSettings.{LoadSettings}
 use Rattle.mig_single_load.specs.declared.fault.LoadFault.{LoadFault}
 use Rattle.mig_single_load.specs.declared.in_place_state.LoadState.{LoadState}
 use Rattle.mig_single_load.specs.declared.in_place_state.LoadState.TheVariants as load_state
-use Rattle.mig_single_load.specs.InPlace.{settings_of, IsOfOwnTable, IsOfOtherTable, pages_on, HasRecordsOnto, HasSectionsOnto, HasVerdictOnto}
+use Rattle.mig_single_load.specs.InPlace.{settings_of, IsOfOwnTable, IsOfOtherTable, pages_on, HasRecordsOnto, HasSectionsOnto, HasNamedOnto, HasVerdictOnto}
 
 -- ---- what the memory holds
 
@@ -51,14 +54,16 @@ pub record LoadInPlace : Type 0 where
   -- the pause after which the stream is read on, if it is
   pub pause : Option Paused
   pub state : LoadState
-  -- the memory's table, and how many sections are complete
+  -- the memory's table, the places that the records so far named, and how many sections are complete
   pub table : RamTable
+  pub named : PlaceSet
   pub rounds : ℕ
   pub fed : ℕ
   pub ended : Bool
 
-abbrev pub load_in_place : Option Paused → LoadState → RamTable → ℕ → ℕ → Bool → LoadInPlace
-load_in_place pause state table rounds fed ended = record { pause = pause; state = state; table = table; rounds = rounds; fed = fed; ended = ended }
+abbrev pub load_in_place : Option Paused → LoadState → RamTable → PlaceSet → ℕ → ℕ → Bool → LoadInPlace
+load_in_place pause state table named rounds fed ended =
+    record { pause = pause; state = state; table = table; named = named; rounds = rounds; fed = fed; ended = ended }
 
 -- the settings of the reader of a single stream of this table
 abbrev pub settings_for : RamTable → LoadSettings → Settings
@@ -71,6 +76,10 @@ IsOfTable given table text = HasTable (settings_for table given) text None ⊎ H
 -- all pages that a reader gave so far, in the order of the stream
 abbrev pub given_pages : Image → GivenSoFar → List Page
 given_pages first so_far = all_pages (map (pages_on first) so_far.sections) ++ pages_on first so_far.open_section
+
+-- their places
+abbrev pub given_places : Image → GivenSoFar → List Place
+given_places first so_far = places_of (given_pages first so_far)
 
 -- The pause is at the end of the stream so far, all records of which are in the memory. The
 -- stream's table is the memory's, or isn't known yet.
@@ -101,8 +110,22 @@ pub record StandsOnto (given : LoadSettings) (first : Image) (text : List ℕ) (
   pub is_in_state : IsInState first has_records.reading pause found
   pub is_read_to : IsReadTo given first text found
 
+-- The pause is at the end of the stream so far, and the set has the places of all its records.
+pub record NamesAt (given : LoadSettings) (first : Image) (text : List ℕ) (p : Paused) (named : PlaceSet) (sections : ℕ) : Type 0 where
+  pub so_far : GivenSoFar
+  pub pauses : PausesAt (settings_of first given) text so_far p
+  pub is_own : IsOfTable given first.table text
+  pub has_named : HasPlaces first.table (given_places first so_far) named
+  pub has_sections : sections ≡ length so_far.sections
+
+-- The places that the stream's records so far named, and the pause after them.
+pub record Names (given : LoadSettings) (first : Image) (text : List ℕ) (named : PlaceSet) (sections : ℕ) (pause : Option Paused) : Type 0 where
+  pub has_named : HasNamedOnto given first text named
+  pub at_pause : IfSome pause (λ p. NamesAt given first text p named sections)
+
 -- A load that was made for the memory `first` with these settings, and fed this stream, which may
--- have ended. The memory is now `first` with all page records of the stream applied.
+-- have ended. The memory is now `first` with all page records of the stream applied, and the places
+-- that they named are known.
 pub record LoadsInPlace (memory : Image) (given : LoadSettings) (first : Image) (s : LoadInPlace) (text : List ℕ) (ended : Bool) : Type 0 where
   pub is_table : IsTable first.table
   pub is_image : IsImage first
@@ -110,6 +133,7 @@ pub record LoadsInPlace (memory : Image) (given : LoadSettings) (first : Image) 
   pub has_fed : s.fed ≡ length text
   pub has_ended : s.ended ≡ ended
   pub stands : StandsOnto given first text memory s.rounds s.pause s.state
+  pub names : Names given first text s.named s.rounds s.pause
 
 -- A load that keeps its memory, too.
 pub record InPlace : Type 0 where
@@ -228,6 +252,12 @@ PutsAll gave r memory sections found s after more = (given : LoadSettings) (firs
     → memory ≡ with_round first (given_pages first so_far)
     → (then : GivenSoFar) × GaveAll given first.table text then found s more × (after ≡ with_round first (given_pages first then))
 
+-- Their places were added to a set that had those of the records before.
+abbrev pub NamesAll : Given → Giver → PlaceSet → ℕ → StreamState → Giver → PlaceSet → ℕ → Type 0
+NamesAll gave r named sections found s after more = (given : LoadSettings) (first : Image) (text : List ℕ) (so_far : GivenSoFar) → PutsNext given first.table text so_far gave r sections
+    → HasPlaces first.table (given_places first so_far) named
+    → (then : GivenSoFar) × GaveAll given first.table text then found s more × HasPlaces first.table (given_places first then) after
+
 -- The first of these records were written: an allocation was refused.
 abbrev pub PutsSome : Given → Giver → Image → ℕ → Image → ℕ → Type 0
 PutsSome gave r memory sections after more = (given : LoadSettings) (first : Image) (text : List ℕ) (so_far : GivenSoFar) → PutsNext given first.table text so_far gave r sections
@@ -246,4 +276,5 @@ pub record PausesSome (given : LoadSettings) (table : RamTable) (p : Paused) (se
 -- the invariant of what a load in place keeps
 pub record IsLoadInPlace (s : LoadInPlace) : Type 0 where
   pub is_table : IsTable s.table
+  pub named_table : s.named.table ≡ s.table
   pub pauses : IfSome s.pause (λ p. (given : LoadSettings) × PausesSome given s.table p s.rounds s.fed)

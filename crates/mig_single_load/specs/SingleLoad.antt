@@ -2,6 +2,7 @@
 use Rattle.std.specs.Prelude.{◌≡◌, ◌⊎◌, ◌≤◌, ◌+◌, ℕ, List, map, length, take, Option, None, Some, Result, Ok, Err, ⊤}
 use Rattle.std.specs.Option.{option_map}
 use Rattle.mig_mem.specs.RamTable.{RamTable}
+use Rattle.mig_mem.specs.PlaceSet.{PlaceSet}
 use Rattle.mig_mem.specs.Image.{Page, Image}
 use Rattle.mig_mem.specs.Round.{after}
 use Rattle.mig_stream.specs.declared.item.StreamState.{StreamState}
@@ -9,6 +10,7 @@ use Rattle.mig_stream.specs.declared.item.StreamState.TheVariants.{Reading, Clos
 use Rattle.mig_stream.specs.declared.fault.StreamFault.TheVariants.{Truncated}
 use Rattle.mig_stream.specs.PageRecord.{PageRecord, page_of}
 use Rattle.mig_stream.specs.Reading.{StreamReading, IsReading}
+use Rattle.mig_assemble.specs.NamedPlaces.{named_by, missing_of}
 use Rattle.mig_single_load.specs.Settings.{single_of}
 use Rattle.mig_single_load.specs.declared.settings.LoadSettings.{LoadSettings}
 use Rattle.mig_single_load.specs.declared.loaded.Loaded.{Loaded}
@@ -20,6 +22,14 @@ use Rattle.mig_single_load.specs.declared.fault.Fault.TheVariants as fault
 -- the memory after some sections of records, None without a table
 abbrev pub memory_after : ℕ → Option RamTable → List (List PageRecord) → Option Image
 memory_after page_size table sections = option_map (λ t. after t (map (map (page_of page_size)) sections)) table
+
+-- the set of the places that some sections of records name, None without a table
+abbrev pub named_after : ℕ → Option RamTable → List (List PageRecord) → Option PlaceSet
+named_after page_size table sections = option_map (λ t. named_by t (map (map (page_of page_size)) sections)) table
+
+-- how many pages of the table some sections of records don't name, None without a table
+abbrev pub missing_after : ℕ → Option RamTable → List (List PageRecord) → Option ℕ
+missing_after page_size table sections = option_map (λ t. missing_of t (map (map (page_of page_size)) sections)) table
 
 -- the fault of a stream, after some complete sections
 abbrev pub at_main : ℕ → Fault → Result ⊤ LoadFault

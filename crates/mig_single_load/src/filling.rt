@@ -1,21 +1,24 @@
-//! The memory into which a single stream is loaded, with the number of sections in it, for
-//! `settle`.
+//! The memory into which a single stream is loaded, with the number of sections in it and the
+//! places that they named, for `settle`.
 
 ghost use Rattle.std.specs.Prelude.{◌≡◌, ◌+◌, ◌<◌, ◌^◌, IfOk};
 ghost use Rattle.mig_mem.specs.Round.{with_round};
+ghost use Rattle.mig_assemble.specs.Judging.{places_of};
+ghost use Rattle.mig_assemble.specs.NamedPlaces.{with_places};
 ghost use Rattle.mig_assemble.specs.Target.{new_target, pages_of_round, FitsTable};
 
-use mig_assemble::put_records;
-use mig_mem::{Memory, NoMemory, Table};
+use mig_assemble::{name_records, put_records};
+use mig_mem::{Dirty, Memory, NoMemory, Table};
 use mig_stream::StreamRound;
 use std::alloc::{Allocator, Global};
 use std::marker::Model;
 
-/// The memory into which a single stream is loaded, and the number of sections in it. A `Target`
-/// also has marks, which only packets need. They take eight times what a memory of zeros takes.
+/// The memory into which a single stream is loaded, the places that its sections named, and the
+/// number of sections in it. A `Target` also has marks by which it judges, which only packets need.
 #[derive(Drop)]
 pub(crate) struct Filling<A: Allocator = Global> {
     memory: Memory<A>,
+    named: Dirty<A>,
     sections: u64,
 }
 
@@ -25,7 +28,11 @@ impl<A: Allocator> Model for Filling<A> {
 
     ghost Value = { LoadTarget };
 
-    ghost view = { λ f. memory_with f.memory f.sections };
+    ghost view = { λ f. memory_with f.memory f.named f.sections };
+
+    ghost use Rattle.std.specs.Prelude.{◌≡◌};
+
+    ghost invariant = { λ f. f.named.table ≡ f.memory.table };
 }
 
 impl<A: Allocator + Copy> Filling<A> {
@@ -35,6 +42,7 @@ impl<A: Allocator + Copy> Filling<A> {
     {
         Ok(Filling {
             memory: Memory::zeroed(alloc, table)?,
+            named: Dirty::none(alloc, table)?,
             sections: 0,
         })
     }
@@ -46,9 +54,11 @@ impl<A: Allocator> Filling<A> {
         requires fits { FitsTable self.old.memory.table section.now }
         requires room { self.old.rounds < 2 ^ 63 }
         ensures memory { self.new.memory ≡ with_round self.old.memory (pages_of_round section.now) }
+        ensures named { self.new.named ≡ with_places self.old.named (places_of (pages_of_round section.now)) }
         ensures rounds { self.new.rounds ≡ self.old.rounds + 1 }
     {
         put_records(&mut self.memory, section);
+        name_records(&mut self.named, section);
         self.sections += 1;
     }
 
@@ -57,6 +67,13 @@ impl<A: Allocator> Filling<A> {
         ensures { result.now ≡ self.now.memory }
     {
         &self.memory
+    }
+
+    /// Returns the places that the sections named.
+    pub(crate) fn named(&self) -> &Dirty<A>
+        ensures { result.now ≡ self.now.named }
+    {
+        &self.named
     }
 
     /// Returns the number of sections in the memory.

@@ -7,7 +7,7 @@ ghost use Rattle.mig_stream.specs.Reader.{IsSettled};
 ghost use Rattle.mig_single_load.specs.declared.settings.LoadSettings.{LoadSettings};
 ghost use Rattle.mig_single_load.specs.Settings.{ram_settings};
 ghost use Rattle.mig_single_load.specs.SingleLoad.{no_memory_at};
-ghost use Rattle.mig_single_load.specs.InPlace.{settings_of, HasVerdictOnto, HasOtherTable};
+ghost use Rattle.mig_single_load.specs.InPlace.{settings_of, HasMissingOnto, HasVerdictOnto, HasOtherTable};
 ghost use Rattle.mig_single_load.specs.LoadInPlace.{LoadsOnto, LacksOnto, HasClosedAtOnto, IsValidUpToOnto, SentIsLoadedInPlace};
 ghost use Rattle.mig_single_load.specs.MachineSent.{SentIsLoadedWithin, MachineSentIsLoadedInPlace};
 
@@ -189,6 +189,14 @@ impl<A: Allocator, M: GuestTarget> InPlaceLoader<A, M> {
         ensures { M.image result.now ≡ self.now.memory }
     {
         &self.memory
+    }
+
+    /// Returns how many pages of the memory no record of the stream so far named, as
+    /// `InPlaceState::missing` does.
+    pub fn missing(&self) -> u64
+        ensures { (given : LoadSettings) (first : Image) (text : List ℕ) (ended : Bool) → LoadsOnto given first self.now text ended → HasMissingOnto given first text result }
+    {
+        self.state.missing()
     }
 
     /// Returns the number of complete sections, START and END among them. The memory has all of

@@ -14,14 +14,15 @@ ghost use Rattle.mig_single_load.specs.declared.in_place_state.LoadState.TheVari
 ghost use Rattle.mig_single_load.specs.declared.settings.LoadSettings.{LoadSettings};
 ghost use Rattle.mig_single_load.specs.Settings.{ram_settings};
 ghost use Rattle.mig_single_load.specs.SingleLoad.{no_memory_at};
-ghost use Rattle.mig_single_load.specs.InPlace.{settings_of, HasVerdictOnto, HasOtherTable};
-ghost use Rattle.mig_single_load.specs.LoadInPlace.{InPlaceKeepsOtherPlaces, InPlaceOkIsWhole, LoadsInPlace, settings_for, GaveNext, PutsNextSome, PutsAll, GivesAll, IsEnd, PausesSome, PausesOnto, StandsOnto, PutsSome, HasSomeOnto, LacksMemory, closed_place, valid_place, HasClosedAtOnto, IsValidUpToOnto};
+ghost use Rattle.mig_single_load.specs.InPlace.{settings_of, HasMissingOnto, HasVerdictOnto, HasOtherTable};
+ghost use Rattle.mig_single_load.specs.LoadInPlace.{InPlaceKeepsOtherPlaces, InPlaceOkIsWhole, LoadsInPlace, settings_for, GaveNext, PutsNextSome, PutsAll, GivesAll, NamesAll, IsEnd, PausesSome, PausesOnto, StandsOnto, NamesAt, Names, PutsSome, HasSomeOnto, LacksMemory, closed_place, valid_place, HasClosedAtOnto, IsValidUpToOnto};
 ghost use Rattle.mig_single_load.specs.ComesNext.{page_wanted, page_asked, ComesNext};
 
 use crate::settle::{no_memory, other_table, verdict_at};
 use crate::{InPlaceFault, LoadFault, LoadSettings};
-use mig_assemble::put_records;
-use mig_mem::{GuestTarget, NoMemory, Table};
+use mig_assemble::{name_records, put_records};
+use mig_marking::lacking;
+use mig_mem::{Dirty, GuestTarget, NoMemory, Table};
 use mig_stream::{Given, Pause, RecordReader, StreamState, Wanted};
 use std::alloc::{Allocator, Global};
 use std::fmt::{self, Debug, Formatter};
@@ -75,6 +76,8 @@ pub struct InPlaceState<A: Allocator = Global> {
     state: LoadState,
     // the memory's table
     table: Table<A>,
+    // the places that the records so far named
+    named: Dirty<A>,
     // complete sections
     rounds: u64,
     fed: u64,
@@ -86,9 +89,9 @@ impl<A: Allocator> Model for InPlaceState<A> {
 
     ghost Value = { LoadInPlace };
 
-    ghost view = { λ s. load_in_place s.pause s.state s.table s.rounds s.fed s.ended };
+    ghost view = { λ s. load_in_place s.pause s.state s.table s.named s.rounds s.fed s.ended };
 
-    ghost invariant = { λ s. IsLoadInPlace (load_in_place s.pause s.state s.table s.rounds s.fed s.ended) };
+    ghost invariant = { λ s. IsLoadInPlace (load_in_place s.pause s.state s.table s.named s.rounds s.fed s.ended) };
 }
 
 /// Prints an opaque value: it holds guest memory.
@@ -127,18 +130,23 @@ fn is_of_other_table<A: Allocator, M: GuestTarget>(reader: &RecordReader<'_, A>,
 }
 
 // Writes the records that the reader gave last, and all that it gives next, into a memory of the
-// stream's table, and counts the sections that they complete. Returns the state of the stream.
+// stream's table, adds their places to `named`, and counts the sections that they complete. Returns
+// the state of the stream.
 fn put_given<A: Allocator + Copy, M: GuestTarget>(
     reader: &mut RecordReader<'_, A>,
     first: Given,
     memory: &mut M,
+    named: &mut Dirty<A>,
     sections: &mut u64,
 ) -> Result<StreamState, NoMemory>
-    requires { PutsNextSome (M.image memory.old).table first reader.old sections.old }
+    requires some { PutsNextSome (M.image memory.old).table first reader.old sections.old }
+    requires named { named.old.table ≡ (M.image memory.old).table }
     ensures ok { IfOk result (λ found. PutsAll first reader.old (M.image memory.old) sections.old found reader.new (M.image memory.new) sections.new) }
     ensures gives { IfOk result (λ found. GivesAll first reader.old sections.old found reader.new sections.new) }
+    ensures names { IfOk result (λ found. NamesAll first reader.old named.old sections.old found reader.new named.new sections.new) }
     ensures err { OnErr result (PutsSome first reader.old (M.image memory.old) sections.old (M.image memory.new) sections.new) }
     ensures table { (M.image memory.new).table ≡ (M.image memory.old).table }
+    ensures named_table { named.new.table ≡ named.old.table }
 {
     let mut gave = first;
     'records: loop {
@@ -148,33 +156,39 @@ fn put_given<A: Allocator + Copy, M: GuestTarget>(
             Given::End(found) => return Ok(found),
         }
         put_records(memory, reader.given());
+        name_records(named, reader.given());
         gave = reader.read_on()?;
     }
 }
 
-// Reads a piece after a pause, and writes its records. Returns the state of the load, and the next
-// pause if the stream goes on.
+// Reads a piece after a pause, writes its records, and adds their places to `named`. Returns the
+// state of the load, and the next pause if the stream goes on.
 fn load_piece<A: Allocator + Copy, M: GuestTarget>(
     pause: Pause<A>,
     piece: &[u8],
     memory: &mut M,
+    named: &mut Dirty<A>,
     sections: &mut u64,
 ) -> Result<(Option<Pause<A>>, LoadState), NoMemory>
-    requires { (given : LoadSettings) × (fed : ℕ) × PausesSome given (M.image memory.old).table pause sections.old fed × (fed + length piece.now < 2 ^ 63) }
+    requires named { named.old.table ≡ (M.image memory.old).table }
+    requires some { (given : LoadSettings) × (fed : ℕ) × PausesSome given (M.image memory.old).table pause sections.old fed × (fed + length piece.now < 2 ^ 63) }
     ensures ok { IfOk result (λ r. (given : LoadSettings) (first : Image) (text : List ℕ) → IsImage first → PausesOnto given first text pause (M.image memory.old) sections.old
         → length (text ++ piece.now) < 2 ^ 64 → StandsOnto given first (text ++ piece.now) (M.image memory.new) sections.new r.0 r.1) }
     ensures some { IfOk result (λ r. (given : LoadSettings) (fed : ℕ) → PausesSome given (M.image memory.old).table pause sections.old fed
         → IfSome r.0 (λ p. PausesSome given (M.image memory.old).table p sections.new (fed + length piece.now))) }
     ensures err { OnErr result ((given : LoadSettings) (first : Image) (text : List ℕ) → PausesOnto given first text pause (M.image memory.old) sections.old
         → HasSomeOnto given first (text ++ piece.now) (M.image memory.new) sections.new) }
+    ensures names { IfOk result (λ r. (given : LoadSettings) (first : Image) (text : List ℕ) → first.table ≡ (M.image memory.old).table → NamesAt given first text pause named.old sections.old
+        → Names given first (text ++ piece.now) named.new sections.new r.0) }
     ensures table { (M.image memory.new).table ≡ (M.image memory.old).table }
+    ensures named_table { named.new.table ≡ named.old.table }
 {
     let mut reader = pause.resume(piece);
     let gave = find_table(&mut reader)?;
     if is_of_other_table(&reader, memory) {
         return Ok((None, LoadState::OtherTable));
     }
-    let found = put_given(&mut reader, gave, memory, sections)?;
+    let found = put_given(&mut reader, gave, memory, named, sections)?;
     let state = LoadState::Stream(found, reader.valid_up_to());
     match found {
         StreamState::Reading => Ok((Some(reader.pause()?), state)),
@@ -243,6 +257,7 @@ impl<A: Allocator + Copy> InPlaceState<A> {
     {
         table.keeps_limits();
         let page_size = table.page_size();
+        let named = Dirty::none(alloc, table)?;
         let table = table.copy_in(alloc)?;
         Ok(InPlaceState {
             pause: Some(Pause::new_within(
@@ -254,6 +269,7 @@ impl<A: Allocator + Copy> InPlaceState<A> {
             )),
             state: LoadState::Stream(StreamState::Reading, 0),
             table,
+            named,
             rounds: 0,
             fed: 0,
             ended: false,
@@ -296,7 +312,8 @@ impl<A: Allocator + Copy> InPlaceState<A> {
         let Some(pause) = self.pause.take() else {
             return Ok(());
         };
-        match load_piece(pause, piece, memory, &mut self.rounds) {
+        let named = &mut self.named;
+        match load_piece(pause, piece, memory, named, &mut self.rounds) {
             Ok((pause, state)) => {
                 self.pause = pause;
                 self.state = state;
@@ -347,6 +364,12 @@ impl<A: Allocator + Copy> InPlaceState<A> {
         ensures fed { self.new.fed ≡ self.old.fed + length content.now }
     {
         let Some(mut pause) = self.pause.take() else {
+            unreachable!();
+        };
+        let Wanted::Page(place) = pause.wanted() else {
+            unreachable!();
+        };
+        let Ok(_) = self.named.mark(place) else {
             unreachable!();
         };
         pause.take_page(content);
@@ -414,6 +437,20 @@ impl<A: Allocator> InPlaceState<A> {
         ensures { result.now ≡ self.now.table }
     {
         &self.table
+    }
+
+    /// Returns how many pages of the memory no record of the stream so far named, those of the section
+    /// that isn't complete included. Once the stream is closed these are the pages that it doesn't
+    /// have: the memory holds there what it held before.
+    ///
+    /// A stream can be complete and lack pages: the main stream of a multifd migration without its
+    /// channels, or a stream of changes alone. The verdict is Ok then. A whole guest lacks none. All
+    /// pages lack if the stream has another table. Nothing is promised after a refused allocation.
+    pub fn missing(&self) -> u64
+        ensures { (memory : Image) (given : LoadSettings) (first : Image) (text : List ℕ) (ended : Bool) → LoadsInPlace memory given first self.now text ended
+            → HasMissingOnto given first text result }
+    {
+        lacking(&self.named)
     }
 
     /// Returns the number of complete sections, START and END among them. The memory has all of

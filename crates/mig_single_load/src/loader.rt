@@ -16,11 +16,12 @@ ghost use Rattle.mig_single_load.specs.declared.settings.LoadSettings.{LoadSetti
 ghost use Rattle.mig_single_load.specs.Settings.{ram_settings, single_of, LetsThrough};
 ghost use Rattle.mig_single_load.specs.SingleLoad.{loaded, unloaded};
 ghost use Rattle.mig_single_load.specs.MachineSent.{IsSent, IsMachineSent};
-ghost use Rattle.mig_single_load.specs.Loader.{memory_of, sections_loaded, HasAllSections, Waits, Loads, Judges, Answers};
+ghost use Rattle.mig_single_load.specs.Loader.{memory_of, sections_loaded, HasAllSections, Waits, Loads, Judges, TellsMissing, Answers};
 
 use crate::filling::Filling;
 use crate::settle::{answer, settle, verdict};
 use crate::{FeedFault, LoadFault, LoadSettings, Loaded};
+use mig_marking::lacking;
 use mig_mem::{Memory, NoMemory};
 use mig_stream::{Mode, StreamReader};
 use std::alloc::{Allocator, Global};
@@ -207,6 +208,21 @@ impl<A: Allocator> SingleLoader<A> {
         ensures { option_copied result ≡ memory_of self.now }
     {
         self.target.as_ref().map(|target| target.memory())
+    }
+
+    /// Returns how many pages of the guest no record of the sections in the memory named: these are
+    /// zeros, as the memory was at first. None as long as the size list isn't complete, or while
+    /// sections wait.
+    ///
+    /// A stream can be complete and lack pages: the main stream of a multifd migration without its
+    /// channels, or a stream of changes alone. The verdict is Ok then. A whole guest lacks none.
+    pub fn missing(&self) -> Option<u64>
+        ensures { (given : LoadSettings) (text : List ℕ) (ended : Bool) → Loads given self.now text ended → TellsMissing given self.now text result }
+    {
+        match &self.target {
+            Some(target) => Some(lacking(target.named())),
+            None => None,
+        }
     }
 
     /// Returns how many sections are in the memory.

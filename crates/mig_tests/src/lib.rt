@@ -12,6 +12,8 @@ mod in_place;
 #[cfg(test)]
 mod lent;
 #[cfg(test)]
+mod missing;
+#[cfg(test)]
 mod open_senders;
 #[cfg(test)]
 mod parts;

@@ -84,6 +84,7 @@ fn is_read_to_its_end(state: &InPlaceState, frame: Frame) -> bool {
     let end = closed_at(frame);
     state.verdict() == Ok(())
         && state.rounds() == 4
+        && state.missing() == 64
         && state.fed() == end
         && state.closed_at() == Some(end)
         && state.valid_up_to() == Some(end)

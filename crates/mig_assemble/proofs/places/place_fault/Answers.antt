@@ -1,7 +1,5 @@
-use Rattle.std.proofs.Common.{◌≡◌, ◌∙◌, sym, ap, inl, inr, Option, None}
+use Rattle.std.proofs.Common.{◌≡◌, ◌∙◌, sym, ap, inl, inr, None}
 use Rattle.mig_packet.specs.PacketHead.{as_zeros}
-use Rattle.mig_packet.specs.Lent.{fields}
-use Rattle.mig_assemble.specs.declared.fault.RoundFault.{RoundFault}
 use Rattle.mig_assemble.specs.Judging.{place_fault}
 use Rattle.mig_assemble.proofs.HeadPlaces.{fault_in, lie_fault, head_fault}
 use Rattle.mig_assemble.proofs.places.place_fault.Goals as goal

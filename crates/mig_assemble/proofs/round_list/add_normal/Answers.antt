@@ -1,11 +1,11 @@
-use Rattle.std.proofs.Common.{ℕ, ◌≡◌, ◌<◌, ◌/◌, ◌∙◌, ap, sym, subst, arith, List, map, Some}
+use Rattle.std.proofs.Common.{ℕ, ◌≡◌, ◌/◌, ◌∙◌, ap, subst, arith, List, map, Some}
 use Rattle.std.specs.List.{range_with_len}
 use Rattle.mig_mem.specs.declared.putting.RoundPage.{RoundPage}
 use Rattle.mig_mem.specs.Place.{place_at}
 use Rattle.mig_mem.specs.RamTable.{RamTable}
 use Rattle.mig_mem.specs.Image.{Page}
 use Rattle.mig_mem.specs.Puts.{round_page}
-use Rattle.mig_packet.specs.Packet.{normal_count, offset_at, content_at}
+use Rattle.mig_packet.specs.Packet.{normal_count, offset_at}
 use Rattle.mig_assemble.specs.Judging.{page_in}
 use Rattle.mig_assemble.specs.RoundList.{Adds}
 use Rattle.mig_assemble.proofs.PacketParts.{normal_page_at, normal_by_number}

@@ -1,7 +1,6 @@
 use Rattle.std.proofs.Common.{ℕ, ◌≡◌, ◌∙◌, sym, ap, subst, List, Option, Some, None}
 use Rattle.std.specs.Option.{unwrap_or}
 use Rattle.mig_mem.specs.RamTable.{RamTable, block_of}
-use Rattle.mig_mem.specs.Image.{Page}
 use Rattle.mig_packet.specs.Packet.{Fields}
 use Rattle.mig_packet.specs.Lent.{fields}
 use Rattle.mig_assemble.specs.Judging.{pages_in}

@@ -1,14 +1,13 @@
-use Rattle.std.proofs.Common.{ℕ, ◌≡◌, ◌∙◌, ap, arith, List, Option, None, length}
+use Rattle.std.proofs.Common.{ℕ, ◌≡◌, ◌∙◌, ap, arith, List, Option, None}
 use Rattle.std.proofs.lemmas.List.{take_all}
 use Rattle.std.specs.Option.{unwrap_or, option_copied}
 use Rattle.mig_mem.specs.declared.place.Place.{Place}
 use Rattle.mig_mem.specs.declared.putting.RoundPage.{RoundPage}
 use Rattle.mig_mem.specs.Place.{place_at}
-use Rattle.mig_mem.specs.Image.{Page, zero_page}
+use Rattle.mig_mem.specs.Image.{zero_page}
 use Rattle.mig_mem.specs.Puts.{round_page}
 use Rattle.mig_stream.specs.PageRecord.{PageRecord, page_of}
 use Rattle.mig_stream.specs.Round.{record_at}
-use Rattle.mig_assemble.specs.RoundList.{Adds}
 use Rattle.mig_assemble.proofs.RoundLists.{adds_none, adds_element}
 use Rattle.mig_assemble.proofs.round_list.add_records.Goals as goal
 

@@ -1,11 +1,11 @@
-use Rattle.std.proofs.Common.{ℕ, ◌≡◌, ◌<◌, ◌+◌, ◌/◌, ◌∙◌, ap, sym, subst, refl, arith, List, map, None}
+use Rattle.std.proofs.Common.{ℕ, ◌≡◌, ◌+◌, ◌/◌, ◌∙◌, ap, subst, refl, arith, List, map, None}
 use Rattle.std.specs.List.{range_with_len}
 use Rattle.mig_mem.specs.declared.putting.RoundPage.{RoundPage}
 use Rattle.mig_mem.specs.Place.{place_at}
 use Rattle.mig_mem.specs.RamTable.{RamTable}
 use Rattle.mig_mem.specs.Image.{Page, zero_page}
 use Rattle.mig_mem.specs.Puts.{round_page}
-use Rattle.mig_packet.specs.Packet.{normal_count, zero_count, offset_at}
+use Rattle.mig_packet.specs.Packet.{zero_count, offset_at}
 use Rattle.mig_assemble.specs.RoundList.{Adds}
 use Rattle.mig_assemble.proofs.PacketParts.{zero_page_at, zero_by_number}
 use Rattle.mig_assemble.proofs.RoundLists.{adds_none, adds_numbered}

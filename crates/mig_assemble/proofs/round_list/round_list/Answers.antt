@@ -1,4 +1,4 @@
-use Rattle.std.proofs.Common.{ℕ, ◌≡◌, ◌∙◌, ◌++◌, sym, ap, subst, List, [], get_or, map}
+use Rattle.std.proofs.Common.{ℕ, ◌∙◌, ◌++◌, sym, ap, subst, List, []}
 use Rattle.std.specs.List.{flat_map}
 use Rattle.std.proofs.lemmas.List.{take_all, append-nil}
 use Rattle.std.proofs.lemmas.List.Folds.{flat_map-map}

@@ -1,4 +1,4 @@
-use Rattle.std.proofs.Common.{[], ◌++◌, map, take}
+use Rattle.std.proofs.Common.{[], ◌++◌, take}
 use Rattle.std.specs.List.{flat_map}
 use Rattle.mig_packet.specs.declared.packet.Packet.{Packet}
 use Rattle.mig_packet.specs.Lent.{fields}

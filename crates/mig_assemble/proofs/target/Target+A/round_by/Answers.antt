@@ -1,32 +1,36 @@
-use Rattle.std.proofs.Common.{ℕ, ◌≡◌, ◌+◌, ◌∙◌, List, map, sym, ap, subst}
-use Rattle.std.specs.List.{All}
+use Rattle.std.proofs.Common.{◌≡◌, ◌∙◌, List, map, sym, ap}
 use Rattle.mig_mem.specs.declared.putting.RoundPage.{RoundPage}
 use Rattle.mig_mem.specs.RamTable.{RamTable}
 use Rattle.mig_mem.specs.PlaceSet.{PlaceSet}
-use Rattle.mig_mem.specs.Image.{Page, Image}
+use Rattle.mig_mem.specs.Image.{Page}
 use Rattle.mig_mem.specs.Round.{with_round}
-use Rattle.mig_mem.specs.Puts.{HasPageSize, round_page}
-use Rattle.mig_packet.specs.declared.packet.Packet.{Packet}
+use Rattle.mig_mem.specs.Puts.{round_page}
 use Rattle.mig_packet.specs.Lent.{fields}
-use Rattle.mig_assemble.specs.Judging.{place_fault}
-use Rattle.mig_assemble.specs.Target.{LoadTarget, FitsTable, pages_of_round, after_round}
-use Rattle.mig_assemble.proofs.Lawful.{each_lies_right}
+use Rattle.mig_assemble.specs.Target.{LoadTarget, pages_of_round, after_round}
+use Rattle.mig_assemble.proofs.Lawful.{each_lies_right, lawful_lies_right}
 use Rattle.mig_assemble.proofs.RoundLists.{listed}
 use Rattle.mig_assemble.proofs.target.Target+A.round_by.Goals as goal
 
 pub round_list-requires-clause-lawful : goal.round_list-requires-clause-lawful
 round_list-requires-clause-lawful g c =
-    let same : c.table.result.now ≡ c.self.inside.seen.table = c.table.ensures.value ∙ sym (ap (λ (s : PlaceSet). s.table) c.self.invariant) in
+    let same : c.table.result.now ≡ c.self.inside.seen.table = c.table.ensures.value ∙ sym (ap (λ (s : PlaceSet). s.table) c.self.invariant.is_unmarked) in
     rw same (each_lies_right c.self.inside.seen.table c.self.inside.base (pages_of_round c.args.round.now) c.packets-packets.result.now c.in_ok-judge.ensures.lawful)
+
+pub name_packets-requires-clause-lawful : goal.name_packets-requires-clause-lawful
+name_packets-requires-clause-lawful g c =
+    let same : c.name_records.new.named.table ≡ c.self.inside.seen.table =
+    c.name_records.ensures.table ∙ c.self.invariant.same_table ∙ sym (ap (λ (s : PlaceSet). s.table) c.self.invariant.is_unmarked) in
+    rw same (lawful_lies_right c.self.inside.seen.table c.self.inside.base (pages_of_round c.args.round.now) (map fields c.packets-packets.result.now) c.in_ok-judge.ensures.lawful)
 
 pub returns-clause-ok : goal.returns-clause-ok
 returns-clause-ok g c =
     let p = c.self.inside in
-    let here : LoadTarget = record { memory = p.memory; rounds = p.rounds; base = p.base } in
+    let here : LoadTarget = record { memory = p.memory; named = p.named; rounds = p.rounds; base = p.base } in
     let list : List RoundPage = c.in_ok-pages.pages.items in
     let table : RamTable = c.table.result.now in
     let put : c.put_pages.new.self ≡ with_round p.memory (map (round_page p.memory.table.page_size) list) =
     c.put_pages.ensures ∙ ap (λ (l : List RoundPage). with_round p.memory (map (round_page p.memory.table.page_size) l)) c.as_slice.ensures.value in
-    listed here c.put_pages.new.self c.args.round.now c.packets-packets.result.now c.args.gathered.now c.packets-packets.ensures
+    listed here c.put_pages.new.self c.name_records.new.named c.name_packets.new.named c.args.round.now c.packets-packets.result.now c.args.gathered.now c.packets-packets.ensures
     (put ∙ ap (λ (l : List Page). with_round p.memory l) (rw (← c.table.ensures.value) c.in_ok-pages.ensures.stands_for))
+    c.self.invariant.same_table c.name_records.ensures.named c.name_records.ensures.table c.name_packets.ensures.named
     ∙ ap (λ (s : LoadTarget). after_round s c.args.round.now (map fields c.args.gathered.now)) c.self.view_is

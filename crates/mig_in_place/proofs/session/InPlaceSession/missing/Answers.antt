@@ -2,7 +2,8 @@ use Rattle.std.proofs.Common.{◌≡◌, ◌∙◌, not, length, ap}
 use Rattle.mig_mem.specs.PlaceSet.{PlaceSet, places_where}
 use Rattle.mig_mem.specs.Place.{has_place}
 use Rattle.mig_in_place.specs.Session.{InPlaceLoad}
-use Rattle.mig_in_place.proofs.MissingPages.{missing_is}
+use Rattle.mig_answer.specs.Rounds.{places_in_rounds}
+use Rattle.mig_assemble.proofs.Naming.{missing_is}
 use Rattle.mig_in_place.proofs.session.InPlaceSession.missing.Goals as goal
 
 pub returns : goal.returns
@@ -16,5 +17,5 @@ returns g c = λ memory given uuid first texts stands.
       is_count = λ own.
           c.lacking.ensures.value
           ∙ ap (λ (s : PlaceSet). length (places_where s.table (λ p. not (has_place s.marked p)))) named
-          ∙ missing_is first.table c.args.self.now.rounds has.readings c.args.self.now.named (has.has_places own);
+          ∙ missing_is first.table (places_in_rounds first.table c.args.self.now.rounds has.readings) c.args.self.now.named (has.has_places own);
     }

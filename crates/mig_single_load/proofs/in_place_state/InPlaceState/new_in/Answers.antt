@@ -1,5 +1,7 @@
 use Rattle.std.proofs.Common.{◌≡◌, ℕ, [], refl, sym, ap, subst, ◌∙◌}
 use Rattle.mig_mem.specs.RamTable.{RamTable, IsTable}
+use Rattle.mig_mem.specs.PlaceSet.{PlaceSet}
+use Rattle.mig_assemble.specs.Target.{none_named}
 use Rattle.mig_stream.specs.declared.item.Mode.TheVariants.{Single}
 use Rattle.mig_stream.specs.Reading.{settings, in_frame, with_waiting}
 use Rattle.mig_stream.specs.Giving.{none_given, PausesAt}
@@ -13,7 +15,8 @@ returns-clause-loads g c = λ first image same.
     let size : c.page_size-page_size.result ≡ first.table.page_size = c.page_size-page_size.ensures ∙ ap (λ (t : RamTable). t.page_size) (sym same) in
     let at : PausesAt (settings_for first.table c.args.settings) [] none_given c.new_within.result =
     subst (λ (n : ℕ). PausesAt (with_waiting c.args.settings.waiting (in_frame c.args.settings.frame (settings Single n c.args.settings.limit))) [] none_given c.new_within.result) size c.new_within.ensures.pauses in
-    in_place_first c.args.settings first c.new_within.result c.in_ok-table.table is image (same ∙ sym c.in_ok-table.ensures) at
+    in_place_first c.args.settings first c.new_within.result c.in_ok-table.table c.in_ok-named.named is image (same ∙ sym c.in_ok-table.ensures)
+    (c.in_ok-named.ensures ∙ ap (λ (t : RamTable). none_named t) (sym same)) at
 
 pub invariant_of-result : goal.invariant_of-result
 invariant_of-result g c =
@@ -23,5 +26,6 @@ invariant_of-result g c =
     subst (λ (n : ℕ). PausesAt (with_waiting c.args.settings.waiting (in_frame c.args.settings.frame (settings Single n c.args.settings.limit))) [] none_given c.new_within.result) size c.new_within.ensures.pauses in
     record {
       is_table = subst IsTable (sym c.in_ok-table.ensures) c.keeps_limits.ensures;
+      named_table = ap (λ (s : PlaceSet). s.table) c.in_ok-named.ensures ∙ sym c.in_ok-table.ensures;
       pauses = (c.args.settings, record { text = []; has_fed = refl; so_far = none_given; pauses = at; is_own = own_first c.args.settings table; has_sections = refl });
     }

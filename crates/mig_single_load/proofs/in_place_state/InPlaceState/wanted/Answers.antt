@@ -22,12 +22,12 @@ returns-in-None-clause-page g c =
 
 pub returns-in-Some-clause-place : goal.returns-in-Some-clause-place
 returns-in-Some-clause-place g c =
-    let s : LoadInPlace = load_in_place c.self.inside.pause c.self.inside.state c.self.inside.table c.self.inside.rounds c.self.inside.fed c.self.inside.ended in
+    let s : LoadInPlace = load_in_place c.self.inside.pause c.self.inside.state c.self.inside.table c.self.inside.named c.self.inside.rounds c.self.inside.fed c.self.inside.ended in
     subst (λ (x : LoadInPlace). IfSome (page_wanted x) (λ place. IsPlace x.table place)) c.self.view_is (place_wanted s c.self.invariant)
 
 pub returns-in-None-clause-place : goal.returns-in-None-clause-place
 returns-in-None-clause-place g c =
-    let s : LoadInPlace = load_in_place c.self.inside.pause c.self.inside.state c.self.inside.table c.self.inside.rounds c.self.inside.fed c.self.inside.ended in
+    let s : LoadInPlace = load_in_place c.self.inside.pause c.self.inside.state c.self.inside.table c.self.inside.named c.self.inside.rounds c.self.inside.fed c.self.inside.ended in
     subst (λ (x : LoadInPlace). IfSome (page_wanted x) (λ place. IsPlace x.table place)) c.self.view_is (place_wanted s c.self.invariant)
 
 pub returns-in-Some-clause-loads : goal.returns-in-Some-clause-loads

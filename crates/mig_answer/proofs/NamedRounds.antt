@@ -1,0 +1,31 @@
+-- The places that the rounds of a load on several channels named, round after round.
+use Rattle.std.proofs.Common.{ℕ, ◌≡◌, ◌+◌, List, [], ◌∷◌, ◌++◌, map, sym, ap, ◌∙◌, Option, Some, arith}
+use Rattle.std.specs.List.{flat_map, range_with_len}
+use Rattle.std.specs.Option.{option_map}
+use Rattle.std.proofs.lemmas.List.{append-nil}
+use Rattle.std.proofs.lemmas.List.Concat.{flat_map-append}
+use Rattle.std.proofs.lemmas.List.FromFn.{map-range_with_len_more}
+use Rattle.mig_mem.specs.declared.place.Place.{Place}
+use Rattle.mig_mem.specs.RamTable.{RamTable}
+use Rattle.mig_mem.specs.PlaceSet.{PlaceSet}
+use Rattle.mig_mem.specs.Image.{Page}
+use Rattle.mig_assemble.specs.Judging.{places_of}
+use Rattle.mig_assemble.specs.NamedPlaces.{named_by}
+use Rattle.mig_assemble.specs.Target.{none_named}
+use Rattle.mig_assemble.proofs.Naming.{named_by-nil}
+use Rattle.mig_answer.specs.Texts.{Readings}
+use Rattle.mig_answer.specs.Rounds.{pages_at, places_in_rounds, named_at}
+
+-- no round names a place
+pub named_at_first : (table : RamTable) (readings : Readings) → readings.main.table ≡ Some table → named_at 0 readings ≡ Some (none_named table)
+named_at_first table readings is =
+    ap (option_map (λ t. named_by t (map (λ i. pages_at t i readings) (range_with_len 0 0)))) is ∙ ap (λ (s : PlaceSet). Some s) (sym (named_by-nil table))
+
+-- one round more
+pub rounds_more : (table : RamTable) (k : ℕ) (readings : Readings) → places_in_rounds table (k + 1) readings ≡ places_in_rounds table k readings ++ places_of (pages_at table k readings)
+rounds_more table k readings =
+    let rounds : List (List Page) = map (λ i. pages_at table i readings) (range_with_len 0 k) in
+    let last : List Page = pages_at table k readings in
+    ap (λ (l : List (List Page)). flat_map places_of l) (map-range_with_len_more (λ i. pages_at table i readings) 0 k k (omega arith))
+    ∙ flat_map-append places_of rounds (last ∷ [])
+    ∙ ap (λ (l : List Place). flat_map places_of rounds ++ l) (append-nil (places_of last))
