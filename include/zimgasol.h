@@ -531,6 +531,12 @@ ZIMGASOL_API zimgasol_status zimgasol_loader_verdict(zimgasol_loader *loader,
 /* Returns how many sections are in the memory. START and END count, too. */
 ZIMGASOL_API uint64_t zimgasol_loader_rounds(zimgasol_loader *loader);
 
+/* Reports in *count how many pages of the guest no record of these sections named: they are zeros,
+ * as the memory was at first. With DONE the stream doesn't have them: it is 0 for a whole guest; a
+ * stream of changes, or the main stream of a multifd migration without its channels, leaves pages
+ * out and is DONE all the same. Returns whether the memory is there: else *count is unchanged. */
+ZIMGASOL_API bool zimgasol_loader_missing(zimgasol_loader *loader, uint64_t *count);
+
 /* Returns how many bytes were fed. */
 ZIMGASOL_API uint64_t zimgasol_loader_fed(zimgasol_loader *loader);
 
@@ -659,6 +665,13 @@ ZIMGASOL_API zimgasol_status zimgasol_in_place_verdict(zimgasol_in_place *in_pla
  * too. START and END count. */
 ZIMGASOL_API uint64_t zimgasol_in_place_rounds(zimgasol_in_place *in_place);
 
+/* Returns how many pages of the blocks no record of the stream so far named. With DONE the stream
+ * doesn't have these pages: the blocks hold there what they held at first. It is 0 for a whole
+ * guest; a stream of changes, or the main stream of a multifd migration without its channels,
+ * leaves pages out and is DONE all the same. It is all pages with OTHER_TABLE. After NO_MEMORY the
+ * number says nothing. */
+ZIMGASOL_API uint64_t zimgasol_in_place_missing(zimgasol_in_place *in_place);
+
 /* Returns how many bytes were fed. */
 ZIMGASOL_API uint64_t zimgasol_in_place_fed(zimgasol_in_place *in_place);
 
@@ -712,6 +725,12 @@ ZIMGASOL_API zimgasol_status zimgasol_session_end(zimgasol_session *session, siz
  * channels, and these in their order. */
 ZIMGASOL_API zimgasol_status zimgasol_session_verdict(zimgasol_session *session,
     zimgasol_fault *found);
+
+/* Reports in *count how many pages of the guest no record and no packet of the rounds in its memory
+ * named: they are zeros, as the memory was at first. With DONE the streams don't have them: it is 0
+ * for a whole guest; a stream of changes leaves pages out and is DONE all the same. Returns whether
+ * the memory is there: if not, and after NO_MEMORY, *count is unchanged. */
+ZIMGASOL_API bool zimgasol_session_missing(zimgasol_session *session, uint64_t *count);
 
 /* Returns how many bytes of a source were fed; 0 if there is no such source. */
 ZIMGASOL_API uint64_t zimgasol_session_fed(zimgasol_session *session, size_t source);

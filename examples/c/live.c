@@ -222,7 +222,7 @@ typedef struct receiver {
     int socket;
     zimgasol_table *table;
     zimgasol_status status;
-    uint64_t sections;
+    uint64_t sections, missing;
     bool straight;
 } receiver;
 
@@ -271,6 +271,7 @@ static void *receive(void *given) {
         zimgasol_in_place_end(&load);
         if (r->status == ZIMGASOL_DONE) r->status = zimgasol_in_place_verdict(&load, &fault);
         r->sections = zimgasol_in_place_rounds(&load);
+        r->missing = zimgasol_in_place_missing(&load);
         zimgasol_in_place_free(&load);
     }
     /* where it gave up early the sender's next write fails */
@@ -307,8 +308,9 @@ static int migrate(machine *m, receiver *r, zimgasol_table *sent_table, zimgasol
     pthread_join(loader, NULL);
     double ended = now();
     zimgasol_sender_free(&sender);
-    if (sent < 0 || r->status != ZIMGASOL_DONE) {
-        fprintf(stderr, "sent %ld, status %d\n", sent, (int)r->status);
+    if (sent < 0 || r->status != ZIMGASOL_DONE || r->missing != 0) {
+        fprintf(stderr, "sent %ld, status %d, %llu pages missing\n", sent, (int)r->status,
+            (unsigned long long)r->missing);
         return 3;
     }
     if (times)

@@ -6,7 +6,7 @@ ghost use Rattle.mig_mem.specs.Lent.{mut_lent_bytes};
 ghost use Rattle.mig_c_calls.specs.Status.{done};
 ghost use Rattle.mig_c_loads.specs.Frames.{waiting_of as most_waiting};
 ghost use Rattle.mig_c.specs.Kinds.{table_in, in_place_in, filled_in, Turns, Tells};
-ghost use Rattle.mig_c_loads.specs.InPlace.{Opens, OpensInPlace, FeedsInPlace, EndsInPlace, TellsVerdict, TellsClosedAt, TellsValidUpTo};
+ghost use Rattle.mig_c_loads.specs.InPlace.{Opens, OpensInPlace, FeedsInPlace, EndsInPlace, TellsVerdict, TellsClosedAt, TellsValidUpTo, TellsMissing};
 ghost use Rattle.mig_c_loads.specs.NextBytes.{TellsNext, TakesPage, FillsPage};
 ghost use Rattle.mig_c_loads.specs.ZeroBlocks.{AreZerosBut, IsFilledAtFirst};
 ghost use Rattle.mig_c_loads.specs.Frames.{are_zeros};
@@ -291,6 +291,29 @@ pub extern "C" fn zimgasol_in_place_rounds(alloc: Global, in_place: &mut InPlace
 {
     let object = in_place.handle.take().into_box(alloc);
     let number = rounds(&object);
+    in_place.handle = Handle::of(object);
+    number
+}
+
+fn missing(object: &Object) -> u64
+    requires { IsSome (in_place_in (Some object.now)) }
+    ensures { Tells (TellsMissing result) (in_place_in (Some object.now)) }
+{
+    match object {
+        Object::InPlace(load) => load.missing(),
+        _ => unreachable!(),
+    }
+}
+
+/// Returns how many pages of the blocks no record of the stream so far named.
+#[unsafe(no_mangle)]
+pub extern "C" fn zimgasol_in_place_missing(alloc: Global, in_place: &mut InPlaceHandle) -> u64
+    requires in_place { IsSome (in_place_in in_place.old.handle.value) }
+    ensures same { in_place.new.handle.value ≡ in_place.old.handle.value }
+    ensures tells { Tells (TellsMissing result) (in_place_in in_place.old.handle.value) }
+{
+    let object = in_place.handle.take().into_box(alloc);
+    let number = missing(&object);
     in_place.handle = Handle::of(object);
     number
 }

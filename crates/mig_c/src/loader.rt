@@ -7,7 +7,7 @@ ghost use Rattle.mig_c_calls.specs.Status.{done};
 ghost use Rattle.mig_c_loads.specs.Frames.{waiting_of as most_waiting};
 ghost use Rattle.mig_c.specs.Kinds.{loader_in, Turns, Tells};
 ghost use Rattle.mig_c_loads.specs.Reading.{GivesPage, GivesPages, GivesBlock, FindsFilled, place_at, block_count};
-ghost use Rattle.mig_c_loads.specs.Loading.{IsFresh, Opens, Feeds, Settles, Ends, TellsVerdict, TellsClosedAt, TellsValidUpTo, OpensLoader};
+ghost use Rattle.mig_c_loads.specs.Loading.{IsFresh, Opens, Feeds, Settles, Ends, TellsVerdict, TellsClosedAt, TellsMissing, TellsValidUpTo, OpensLoader};
 
 use crate::handle::{Handle, LoaderHandle};
 use crate::object::Object;
@@ -15,7 +15,7 @@ use mig_c_calls::NamedBlock;
 use mig_c_calls::status::{BAD_FRAME, BAD_LIMIT, BAD_PAGE_SIZE, DONE, MAX_LIMIT, NO_MEMORY};
 use mig_c_loads::{
     AskedSettings, FoundFault, count_blocks, fault_of, feed_loader, frame_of, loader_closed_at,
-    read_block, read_page, read_pages, settle_loader, waiting_of,
+    loader_missing, read_block, read_page, read_pages, settle_loader, waiting_of,
 };
 use mig_mem::{NoMemory, is_page_size};
 use mig_single_load::{LoadSettings, RoundEnd, SingleLoader};
@@ -254,6 +254,34 @@ pub extern "C" fn zimgasol_loader_fed(alloc: Global, loader: &mut LoaderHandle) 
     let number = fed(&object);
     loader.handle = Handle::of(object);
     number
+}
+
+fn missing(object: &Object, missing: &mut u64) -> bool
+    requires { IsSome (loader_in (Some object.now)) }
+    ensures { Tells (TellsMissing result missing.old missing.new) (loader_in (Some object.now)) }
+{
+    match object {
+        Object::Loader(loader) => loader_missing(loader, missing),
+        _ => unreachable!(),
+    }
+}
+
+/// Returns whether the guest's memory is there, and reports how many of its pages no record of the
+/// sections in it named.
+#[unsafe(no_mangle)]
+pub extern "C" fn zimgasol_loader_missing(
+    alloc: Global,
+    loader: &mut LoaderHandle,
+    count: &mut u64,
+) -> bool
+    requires loader { IsSome (loader_in loader.old.handle.value) }
+    ensures same { loader.new.handle.value ≡ loader.old.handle.value }
+    ensures tells { Tells (TellsMissing result count.old count.new) (loader_in loader.old.handle.value) }
+{
+    let object = loader.handle.take().into_box(alloc);
+    let is_known = missing(&object, count);
+    loader.handle = Handle::of(object);
+    is_known
 }
 
 fn closed_at(object: &Object, at: &mut u64) -> u32

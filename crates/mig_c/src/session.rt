@@ -8,7 +8,7 @@ ghost use Rattle.mig_c_loads.specs.Frames.{waiting_of as most_waiting};
 ghost use Rattle.mig_c.specs.Kinds.{session_in, Turns, Tells};
 ghost use Rattle.mig_c_loads.specs.Found.{seen_of_verdict};
 ghost use Rattle.mig_c_loads.specs.Reading.{GivesPage, GivesPages, GivesBlock, FindsFilled, place_at, block_count};
-ghost use Rattle.mig_c_loads.specs.Sessions.{Opens, OpensSession, FeedsSource, EndsSource, source_of, TellsFed, TellsClosedAt, TellsValidUpTo, TellsFault, TellsAllRounds};
+ghost use Rattle.mig_c_loads.specs.Sessions.{Opens, OpensSession, FeedsSource, EndsSource, source_of, TellsFed, TellsClosedAt, TellsValidUpTo, TellsFault, TellsAllRounds, TellsMissing};
 
 use crate::handle::{Handle, SessionHandle};
 use crate::object::Object;
@@ -19,8 +19,8 @@ use mig_c_calls::status::{
 };
 use mig_c_loads::{
     AskedSettings, FoundFault, closed_at_of, count_blocks, end_source, fed_of, feed_source,
-    frame_of, read_block, read_page, read_pages, round_end_of, source_fault_of, source_of,
-    valid_up_to_of, verdict_of, waiting_of,
+    frame_of, missing_of, read_block, read_page, read_pages, round_end_of, source_fault_of,
+    source_of, valid_up_to_of, verdict_of, waiting_of,
 };
 use mig_mem::{NoMemory, is_page_size};
 use mig_session::{Session, Source};
@@ -224,6 +224,34 @@ pub extern "C" fn zimgasol_session_fed(
     let number = fed(&object, source_of(source));
     session.handle = Handle::of(object);
     number
+}
+
+fn missing(object: &Object, missing: &mut u64) -> bool
+    requires { IsSome (session_in (Some object.now)) }
+    ensures { Tells (TellsMissing result missing.old missing.new) (session_in (Some object.now)) }
+{
+    match object {
+        Object::Session(session) => missing_of(session, missing),
+        _ => unreachable!(),
+    }
+}
+
+/// Returns whether the guest's memory is there, and reports how many of its pages no record and no
+/// packet of the rounds in it named.
+#[unsafe(no_mangle)]
+pub extern "C" fn zimgasol_session_missing(
+    alloc: Global,
+    session: &mut SessionHandle,
+    count: &mut u64,
+) -> bool
+    requires session { IsSome (session_in session.old.handle.value) }
+    ensures same { session.new.handle.value ≡ session.old.handle.value }
+    ensures tells { Tells (TellsMissing result count.old count.new) (session_in session.old.handle.value) }
+{
+    let object = session.handle.take().into_box(alloc);
+    let is_known = missing(&object, count);
+    session.handle = Handle::of(object);
+    is_known
 }
 
 fn closed_at(object: &Object, at: &mut u64) -> u32

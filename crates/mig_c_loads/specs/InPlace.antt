@@ -8,7 +8,7 @@ use Rattle.mig_stream.specs.declared.item.Frame.{Frame}
 use Rattle.mig_single_load.specs.declared.settings.LoadSettings.{LoadSettings}
 use Rattle.mig_single_load.specs.declared.fault.LoadFault.{LoadFault}
 use Rattle.mig_single_load.specs.SingleLoad.{no_memory_at}
-use Rattle.mig_single_load.specs.InPlace.{HasVerdictOnto}
+use Rattle.mig_single_load.specs.InPlace.{HasVerdictOnto, HasMissingOnto}
 use Rattle.mig_single_load.specs.LoadInPlace.{LoadInPlace, LoadsInPlace, LacksMemory, HasClosedAtOnto, IsValidUpToOnto}
 use Rattle.mig_c_loads.specs.declared.fault.FoundFault.{FoundFault}
 use Rattle.mig_c_calls.specs.Status.{IsOneOf, done, running, no_memory, is_over, too_long, bad_length, bad_frame}
@@ -128,3 +128,8 @@ pub record TellsValidUpTo (told : Bool) (before after : ℕ) (s : LoadInPlace) :
 -- the bytes of a block with other content at one of its pages
 abbrev pub with_content : ℕ → List ℕ → ℕ → List ℕ → List ℕ
 with_content size bytes page content = take (page * size) bytes ++ content ++ drop (page * size + size) bytes
+
+-- C sees how many pages of the blocks no record of the stream so far named.
+abbrev pub TellsMissing : ℕ → LoadInPlace → Type 0
+TellsMissing missing s = (memory : Image) (given : LoadSettings) (first : Image) (text : List ℕ) (ended : Bool)
+    → LoadsInPlace memory given first s text ended → HasMissingOnto given first text missing

@@ -3,7 +3,7 @@ use Rattle.std.specs.Prelude.{◌≡◌, ◌≢◌, ◌≤◌, ◌<◌, ◌+◌,
 use Rattle.mig_single_load.specs.Settings.{single_of}
 use Rattle.mig_single_load.specs.declared.settings.LoadSettings.{LoadSettings}
 use Rattle.mig_single_load.specs.declared.fault.LoadFault.{LoadFault}
-use Rattle.mig_single_load.specs.Loader.{Loader, Loads, HasAllSections, Waits, Judges}
+use Rattle.mig_single_load.specs.Loader.{Loader, Loads, HasAllSections, Waits, Judges, TellsMissing as lacks}
 use Rattle.mig_mem.specs.PageSize.{IsPageSize}
 use Rattle.mig_stream.specs.Reader.{IsSettled, HasClosedAt, IsValidUpTo}
 use Rattle.mig_c_loads.specs.declared.fault.FoundFault.{FoundFault}
@@ -82,6 +82,13 @@ pub record TellsClosedAt (status before after : ℕ) (l : Loader) : Type 0 where
   pub closed : status ≡ done → (given : LoadSettings) (text : List ℕ) (ended : Bool) → Loads given l text ended → HasClosedAt (single_of given) text (Some after)
   pub not_closed : status ≡ running → (given : LoadSettings) (text : List ℕ) (ended : Bool) → Loads given l text ended → HasClosedAt (single_of given) text None
   pub same : status ≢ done → after ≡ before
+
+-- C sees how many pages of the guest the sections in its memory don't name, once there is a memory;
+-- before that the number stays.
+pub record TellsMissing (is_known : Bool) (before after : ℕ) (l : Loader) : Type 0 where
+  pub known : IsTrue is_known → (given : LoadSettings) (text : List ℕ) (ended : Bool) → Loads given l text ended → lacks given l text (Some after)
+  pub unknown : IsFalse is_known → (given : LoadSettings) (text : List ℕ) (ended : Bool) → Loads given l text ended → lacks given l text None
+  pub same : IsFalse is_known → after ≡ before
 
 -- C sees how many of the bytes that were fed are complete items without a fault: a fault's item
 -- begins after them.

@@ -8,7 +8,7 @@ use Rattle.mig_answer.specs.declared.verdict.Verdict.TheVariants.{Running, Done}
 use Rattle.mig_stream.specs.Reader.{IsClosedAt, HasClosedAt}
 use Rattle.mig_single_load.specs.Settings.{main_of}
 use Rattle.mig_answer.specs.Texts.{Texts, no_texts}
-use Rattle.mig_session.specs.Session.{LoadSession, StandsFor, HasSource, count_of, feed_step, end_step, answer_in, StepsOn, RunsOut, StillLacks, AsRead, LacksMemory, IsSourceValidUpTo, HasFault, HasAllRounds}
+use Rattle.mig_session.specs.Session.{LoadSession, StandsFor, HasSource, count_of, feed_step, end_step, answer_in, StepsOn, RunsOut, StillLacks, AsRead, LacksMemory, IsSourceValidUpTo, HasFault, HasAllRounds, HasMissing}
 use Rattle.mig_session.specs.Advancing.{failed_without_memory}
 use Rattle.mig_mem.specs.PageSize.{IsPageSize}
 use Rattle.mig_c_calls.specs.Status.{IsOneOf, done, running, no_memory, bad_page_size, bad_limit, bad_channels, bad_source, is_over, too_long, bad_length, bad_frame, bad_round_end}
@@ -78,6 +78,16 @@ pub record TellsClosedAt (status before after : ℕ) (s : LoadSession) : Type 0 
       → AsRead given uuid texts s (λ read. HasClosedAt (main_of given) read.main.bytes None)
   pub lacking : (given : LoadSettings) (uuid : List ℕ) (texts : Texts) → LacksMemory given uuid texts s → status ≡ running
   pub same : status ≢ done → after ≡ before
+
+-- C sees how many pages of the guest the rounds in its memory don't name, once there is a memory;
+-- before that the number stays. Once the verdict is there the streams aren't read on.
+pub record TellsMissing (is_known : Bool) (before after : ℕ) (s : LoadSession) : Type 0 where
+  pub known : IsTrue is_known → (given : LoadSettings) (uuid : List ℕ) (texts : Texts) → StandsFor given uuid texts s
+      → AsRead given uuid texts s (λ read. HasMissing given uuid read (answer_in s).rounds (Some after))
+  pub unknown : IsFalse is_known → (given : LoadSettings) (uuid : List ℕ) (texts : Texts) → StandsFor given uuid texts s
+      → AsRead given uuid texts s (λ read. HasMissing given uuid read (answer_in s).rounds None)
+  pub lacking : (given : LoadSettings) (uuid : List ℕ) (texts : Texts) → LacksMemory given uuid texts s → IsFalse is_known
+  pub same : IsFalse is_known → after ≡ before
 
 -- C sees how many of a source's bytes are complete items without a fault, as far as they were read:
 -- a fault's item begins after them. It isn't reported if there is no such source, nor after a

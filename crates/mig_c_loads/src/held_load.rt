@@ -4,7 +4,7 @@
 ghost use Rattle.std.specs.Prelude.{◌≡◌, ◌<◌, ◌+◌, ◌^◌, ◌↔◌, IsFalse, IfOk, IfSome, None, Some, length};
 ghost use Rattle.mig_mem.specs.Place.{IsPlace};
 ghost use Rattle.mig_mem.specs.Lent.{mut_lent_bytes};
-ghost use Rattle.mig_c_loads.specs.InPlace.{Begins, RefusesPiece, FeedsMemory, FeedsInPlace, EndsInPlace, TellsVerdict, TellsClosedAt, TellsValidUpTo};
+ghost use Rattle.mig_c_loads.specs.InPlace.{Begins, RefusesPiece, FeedsMemory, FeedsInPlace, EndsInPlace, TellsVerdict, TellsClosedAt, TellsValidUpTo, TellsMissing};
 ghost use Rattle.mig_c_loads.specs.NextBytes.{TellsNext, TakesPage, FillsPage};
 ghost use Rattle.mig_c_loads.specs.ZeroBlocks.{AreZerosBut, filled_at_first, with_filled};
 
@@ -290,5 +290,12 @@ impl HeldLoad {
         ensures { result ≡ self.now.load.rounds }
     {
         self.state.rounds()
+    }
+
+    /// Returns how many pages of the blocks no record of the stream so far named.
+    pub fn missing(&self) -> u64
+        ensures { TellsMissing result self.now.load }
+    {
+        self.state.missing()
     }
 }

@@ -38,12 +38,12 @@ pub use laws::{
     drained_channels_are_loaded, drained_is_loaded, drained_machine_is_loaded,
     drained_machine_stream_is_loaded, pages_read_are_noted,
 };
-pub use loading::{fault_of, feed_loader, loader_closed_at, settle_loader};
+pub use loading::{fault_of, feed_loader, loader_closed_at, loader_missing, settle_loader};
 pub use next_bytes::NextBytes;
 pub use reading::{count_blocks, next_nonzero, read_block, read_page, read_pages};
 pub use round_end::round_end_of;
 pub use settings::{AskedSettings, waiting_of};
 pub use sources::{
-    closed_at_of, end_source, fed_of, feed_source, has_all_rounds, source_fault_of, source_of,
-    valid_up_to_of, verdict_of,
+    closed_at_of, end_source, fed_of, feed_source, has_all_rounds, missing_of, source_fault_of,
+    source_of, valid_up_to_of, verdict_of,
 };

@@ -1,6 +1,6 @@
 //! A loader of one stream: the statuses that its calls return, and what C sees of it.
 
-ghost use Rattle.mig_c_loads.specs.Loading.{Feeds, Settles, TellsVerdict, TellsClosedAt};
+ghost use Rattle.mig_c_loads.specs.Loading.{Feeds, Settles, TellsVerdict, TellsClosedAt, TellsMissing};
 
 use crate::fault::{FoundFault, of_verdict};
 use mig_c_calls::status::{DONE, IS_OVER, NO_MEMORY, ROOM, RUNNING, TOO_LONG, WAITS};
@@ -42,6 +42,20 @@ pub fn fault_of(loader: &SingleLoader<Global>) -> FoundFault
     ensures { TellsVerdict result loader.now }
 {
     of_verdict(loader.verdict(), loader.ended())
+}
+
+/// Returns whether the guest's memory is there, and reports how many of its pages the sections in it
+/// don't name.
+pub fn loader_missing(loader: &SingleLoader<Global>, missing: &mut u64) -> bool
+    ensures { TellsMissing result missing.old missing.new loader.now }
+{
+    match loader.missing() {
+        Some(count) => {
+            *missing = count;
+            true
+        }
+        None => false,
+    }
 }
 
 /// Reports how many of the bytes fed belong to the stream, once it is closed. Returns the status:

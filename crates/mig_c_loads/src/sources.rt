@@ -3,7 +3,7 @@
 ghost use Rattle.std.specs.Prelude.{◌≡◌, ◌↔◌, IsTrue};
 ghost use Rattle.mig_session.specs.Session.{HasSource, answer_in};
 ghost use Rattle.mig_c_loads.specs.Found.{seen_of_verdict};
-ghost use Rattle.mig_c_loads.specs.Sessions.{FeedsSource, EndsSource, TellsFed, TellsClosedAt, TellsValidUpTo, TellsFault, TellsAllRounds, source_of};
+ghost use Rattle.mig_c_loads.specs.Sessions.{FeedsSource, EndsSource, TellsFed, TellsClosedAt, TellsValidUpTo, TellsFault, TellsAllRounds, TellsMissing, source_of};
 
 use crate::fault::{FoundFault, found, none, of_source, running};
 use mig_answer::Verdict;
@@ -72,6 +72,20 @@ pub fn closed_at_of(session: &Session<Global>, at: &mut u64) -> u32
             DONE
         }
         None => RUNNING,
+    }
+}
+
+/// Returns whether the guest's memory is there, and reports how many of its pages the rounds in it
+/// don't name.
+pub fn missing_of(session: &Session<Global>, missing: &mut u64) -> bool
+    ensures { TellsMissing result missing.old missing.new session.now }
+{
+    match session.missing() {
+        Some(count) => {
+            *missing = count;
+            true
+        }
+        None => false,
     }
 }
 

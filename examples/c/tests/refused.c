@@ -133,19 +133,21 @@ static void load(size_t cut) {
             uint64_t none = 7;
             if (zimgasol_loader_blocks(&loader) == 0)
                 WANT(zimgasol_loader_next_nonzero(&loader, 0, 0, &none) == ZIMGASOL_NO_PAGE &&
-                    zimgasol_loader_read(&loader, 0, 0, page, 0) == ZIMGASOL_NO_PAGE);
+                    zimgasol_loader_read(&loader, 0, 0, page, 0) == ZIMGASOL_NO_PAGE &&
+                    !zimgasol_loader_missing(&loader, &none) && none == 7);
             WANT(zimgasol_loader_verdict(&loader, &fault) == ZIMGASOL_RUNNING &&
                 fault.number == ZIMGASOL_RUNNING);
             WANT(zimgasol_loader_closed_at(&loader, &none) == ZIMGASOL_RUNNING && none == 7);
         }
     }
-    uint64_t closed = 7;
+    uint64_t closed = 7, missing = 7;
     WANT(zimgasol_loader_fed(&loader) == text_len);
     WANT(zimgasol_loader_closed_at(&loader, &closed) == ZIMGASOL_DONE && closed == text_len);
     zimgasol_loader_end(&loader);
     WANT(zimgasol_loader_feed(&loader, text, 1) == ZIMGASOL_IS_OVER);
     WANT(zimgasol_loader_verdict(&loader, &fault) == ZIMGASOL_DONE && fault.number == 0);
     WANT(zimgasol_loader_rounds(&loader) == 4);
+    WANT(zimgasol_loader_missing(&loader, &missing) && missing == 3);
     WANT(zimgasol_loader_blocks(&loader) == 2);
     zimgasol_block block;
     WANT(zimgasol_loader_block(&loader, 1, &block) == ZIMGASOL_DONE && block.pages == 2 &&
@@ -276,7 +278,7 @@ static void load_in_place(size_t cut) {
     }
     WANT(zimgasol_in_place_closed_at(&load, &at) == ZIMGASOL_DONE && at == text_len);
     WANT(zimgasol_in_place_verdict(&load, &fault) == ZIMGASOL_DONE && fault.number == 0 &&
-        zimgasol_in_place_rounds(&load) == 4);
+        zimgasol_in_place_rounds(&load) == 4 && zimgasol_in_place_missing(&load) == 3);
     zimgasol_in_place_free(&load);
     WANT(load.at == NULL);
     WANT(is_filled(first_block, 2 * PAGE, 0xEE) && first_block[2 * PAGE] == 3 &&
@@ -299,7 +301,7 @@ static void cut_in_place(void) {
         is_filled(first_block + 2 * PAGE + 1, PAGE - 1, 7) &&
         is_filled(second_block, 2 * PAGE, 0xEE));
     WANT(zimgasol_in_place_verdict(&load, &fault) == ZIMGASOL_RUNNING && fault.round == 1 &&
-        zimgasol_in_place_rounds(&load) == 1);
+        zimgasol_in_place_rounds(&load) == 1 && zimgasol_in_place_missing(&load) == 4);
     zimgasol_in_place_end(&load);
     WANT(zimgasol_in_place_verdict(&load, &fault) == ZIMGASOL_STREAM_TRUNCATED &&
         fault.round == 1 && first_block[2 * PAGE] == 1);
@@ -379,7 +381,9 @@ static void load_several(size_t cut) {
     zimgasol_session session = {0};
     zimgasol_fault fault;
     AGAIN(zimgasol_session_new(&session, PAGE, uuid, 16, 1, 1 << 20, ZIMGASOL_FRAME_RAM));
+    uint64_t none = 7;
     WANT(zimgasol_session_verdict(&session, &fault) == ZIMGASOL_RUNNING);
+    WANT(!zimgasol_session_missing(&session, &none) && none == 7);
     uint32_t found = feed_session(&session, cut);
     if (found == ZIMGASOL_NO_MEMORY) {
         WANT(refusals == 1 && zimgasol_session_verdict(&session, &fault) == ZIMGASOL_NO_MEMORY &&
@@ -393,6 +397,8 @@ static void load_several(size_t cut) {
     WANT(zimgasol_session_feed(&session, ZIMGASOL_MAIN, page, 1) == ZIMGASOL_IS_OVER &&
         zimgasol_session_feed(&session, 2, page, 1) == ZIMGASOL_BAD_SOURCE);
     WANT(zimgasol_session_rounds(&session) == 1 && zimgasol_session_blocks(&session) == 1);
+    uint64_t missing = 7;
+    WANT(zimgasol_session_missing(&session, &missing) && missing == 1);
     zimgasol_block block;
     WANT(zimgasol_session_block(&session, 0, &block) == ZIMGASOL_DONE && block.pages == 2 &&
         block.id[0] == 'a' && block.id[1] == 0);
