@@ -583,7 +583,7 @@ ZIMGASOL_API void zimgasol_loader_free(zimgasol_loader *loader);
  * The caller has a buffer for each block of a table, with the block's pages one after another, and
  * passes all of them to each call that feeds. No second guest is held, and no section is kept: a
  * page is written when its bytes have come. Between two calls the load has the beginning of one
- * item of the stream at most.
+ * item of the stream at most, and a bit for each page.
  *
  * At any time the blocks have all page records of the stream so far, on top of what they held at
  * first: those of the complete sections, and those of the section that isn't complete yet. So they

@@ -32,8 +32,8 @@ use uuid::Uuid;
 /// Loads a guest from the pieces of a main stream and of its channels, in any order.
 ///
 /// A round is checked and applied when its last source completes it, and its buffers are freed. So
-/// between calls a session holds the guest. It also buffers the rounds that not every source has
-/// completed yet.
+/// between calls a session holds the guest, and two bits for each page. It also buffers the rounds
+/// that not every source has completed yet.
 ///
 /// Until an allocation is refused, what it returns depends on the bytes so far, and on which
 /// sources have ended. It doesn't depend on where the streams were cut, nor on the order in which

@@ -42,7 +42,7 @@ pub(crate) enum LoadState {
 
 /// Loads a guest from the pieces of a single stream into memory that is passed with each piece. It
 /// writes each page once, when its bytes have arrived. No section is kept: between two calls the
-/// load holds the beginning of one item of the stream at most.
+/// load holds the beginning of one item of the stream at most, and a bit for each page.
 ///
 /// At any time the memory has all page records read so far, on top of what it held at first. Those
 /// of a section that isn't complete are there, too. They stay there if the stream turns out to be

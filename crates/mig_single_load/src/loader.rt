@@ -31,9 +31,9 @@ use std::marker::Model;
 /// Loads a guest from the pieces of a single stream. Each section is applied by the call that
 /// brings its footer, and its buffers are freed.
 ///
-/// So between calls a loader holds the guest and the pages of one section, which isn't complete. If
-/// an allocation was refused it may also hold sections that wait. In a call it also holds the pages
-/// of the piece.
+/// So between calls a loader holds the guest, a bit for each page, and the pages of one section,
+/// which isn't complete. If an allocation was refused it may also hold sections that wait. In a
+/// call it also holds the pages of the piece.
 ///
 /// # Examples
 ///
