@@ -4,6 +4,7 @@ pub mod Refusals
 pub mod Packing
 pub mod Lawful
 pub mod Blocks
+pub mod SameTables
 pub mod PlaceOrder
 pub mod Members
 pub mod TablePlaces

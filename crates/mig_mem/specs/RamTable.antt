@@ -1,7 +1,12 @@
 -- The table of a guest's memory: its page size and its RAM blocks.
-use Rattle.std.specs.Prelude.{ℕ, ◌≢◌, ◌<◌, ◌≤◌, ◌*◌, ◌^◌, List, [], length, map, slice_index_or, All, AllPairs, sum_by, position, Option, Bool, ◌&&◌, nat_lt, nat_le, IsTrue}
+use Rattle.std.specs.Prelude.{ℕ, ◌≢◌, ◌<◌, ◌≤◌, ◌*◌, ◌^◌, List, [], length, map, slice_index_or, All, AllPairs, sum_by, position, Option, Bool, ◌&&◌, nat_lt, nat_le, IsTrue, nat_eq, ◌↔◌, ◌≡◌}
 use Rattle.std.specs.List.{list_all}
 use Rattle.std.specs.Str.{bytes_eq}
+use Rattle.std.specs.Cmp.{IsEquivalence, partial_equiv_from_equiv, IsPartialEquivalence}
+use Rattle.std.specs.Cmp.Lexicographic.{pointwise}
+use Rattle.std.specs.Cmp.Rules.{comparing}
+use Rattle.std.specs.Ordering.{on, eq_of_both}
+use Rattle.std.proofs.Common.{rules}
 use Rattle.std.specs.declared.vec.Vec.{Vec}
 use Rattle.mig_mem.specs.PageSize.{IsPageSize}
 
@@ -25,6 +30,24 @@ table_from page_size list = record { page_size = page_size; blocks = map entry_b
 -- the block with a number
 abbrev pub block : List Block → ℕ → Block
 block blocks i = slice_index_or blocks i (record { id = []; pages = 0 })
+
+abbrev pub same_block : Block → Block → Bool
+same_block = eq_of_both (on (λ b. b.id) (pointwise nat_eq)) (on (λ b. b.pages) nat_eq)
+
+-- whether two tables have the same page size and the same blocks in the same order
+abbrev pub same_tables : RamTable → RamTable → Bool
+same_tables = eq_of_both (on (λ t. t.page_size) nat_eq) (on (λ t. t.blocks) (pointwise same_block))
+
+-- that test is an equivalence, as `Eq` asks, and so a partial one, as `PartialEq` does
+pub same_tables_equiv : IsEquivalence same_tables
+same_tables_equiv = search (comparing, rules) depth 9
+
+pub same_tables_partial_equiv : IsPartialEquivalence same_tables
+same_tables_partial_equiv = partial_equiv_from_equiv same_tables_equiv
+
+-- the law: that test holds exactly of a table and itself
+abbrev pub EqualTablesAreTheSame : Type 0
+EqualTablesAreTheSame = (a b : RamTable) → IsTrue (same_tables a b) ↔ (a ≡ b)
 
 -- the number of the block with an id
 abbrev pub block_of : List Block → List ℕ → Option ℕ

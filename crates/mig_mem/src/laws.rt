@@ -4,6 +4,7 @@
 //! Each law is the clause of a function that does nothing. So it is proved with the crate, and a
 //! caller who calls the function may use it.
 
+ghost use Rattle.mig_mem.specs.RamTable.{EqualTablesAreTheSame};
 ghost use Rattle.mig_mem.specs.Refusal.{TableIsLawful};
 ghost use Rattle.mig_mem.specs.Round.{ImagesMakeRounds, RoundsMakeMemory, OnePageMore, OneRoundMore, RoundsGoOnto, RoundsBeginWithZeros, AllPagesMakeMemory};
 ghost use Rattle.mig_mem.specs.Tracking.{TrackingGivesLastImage};
@@ -13,6 +14,11 @@ ghost use Rattle.mig_mem.specs.Lent.{LentPagesAreParts};
 /// blocks within the limits with `NoMemory` alone.
 pub fn table_is_lawful()
     ensures { TableIsLawful }
+{}
+
+/// `==` holds of two tables exactly if they are the same, as `Table::same` answers.
+pub fn equal_tables_are_the_same()
+    ensures { EqualTablesAreTheSame }
 {}
 
 /// The dirty pages of a memory, with their contents in it, are a round of its table. So what a

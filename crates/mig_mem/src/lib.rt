@@ -34,9 +34,9 @@ pub use dirty::Dirty;
 pub use fault::{NoMemory, TableFault};
 pub use guest::{GuestPages, GuestTarget, ThreadedTarget};
 pub use laws::{
-    all_pages_make_memory, images_make_rounds, lent_pages_are_parts, one_page_more, one_round_more,
-    rounds_begin_with_zeros, rounds_go_onto, rounds_make_memory, table_is_lawful,
-    tracking_gives_last_image,
+    all_pages_make_memory, equal_tables_are_the_same, images_make_rounds, lent_pages_are_parts,
+    one_page_more, one_round_more, rounds_begin_with_zeros, rounds_go_onto, rounds_make_memory,
+    table_is_lawful, tracking_gives_last_image,
 };
 pub use lent::LentMemory;
 pub use lent_mut::LentMemoryMut;

@@ -3,7 +3,7 @@
 
 ghost use Rattle.std.specs.Prelude.{◌≡◌, ◌*◌, ◌^◌, ◌<◌, ◌≤◌, ◌⊎◌, ◌↔◌, length, IfOk, IfErr, IfSome, OnOk, IsTrue, None, Some};
 ghost use Rattle.mig_mem.specs.PageSize.{IsPageSize};
-ghost use Rattle.mig_mem.specs.RamTable.{block, block_of, IsTable, table_from};
+ghost use Rattle.mig_mem.specs.RamTable.{block, block_of, same_tables, same_tables_equiv, same_tables_partial_equiv, IsTable, table_from};
 ghost use Rattle.mig_mem.specs.Place.{IsPlace};
 ghost use Rattle.mig_mem.specs.Refusal.{refusal};
 
@@ -74,6 +74,21 @@ impl<A: Allocator> Model for Table<A> {
     ghost view = { λ t. table_of_spans t.page_size t.ids.items t.spans.items };
 
     ghost invariant = { λ t. AllWithin t.ids.items t.spans.items × IsTable (table_of_spans t.page_size t.ids.items t.spans.items) };
+}
+
+/// Compares as `Table::same` does (`equal_tables_are_the_same`).
+impl<A: Allocator> PartialEq for Table<A> {
+    ghost eq = { same_tables };
+
+    ghost laws = { same_tables_partial_equiv };
+
+    fn eq(&self, other: &Table<A>) -> bool {
+        self.same(other)
+    }
+}
+
+impl<A: Allocator> Eq for Table<A> {
+    ghost laws = { same_tables_equiv };
 }
 
 impl<A: Allocator> fmt::Debug for Table<A> {
