@@ -15,6 +15,7 @@ use Rattle.mig_mem.specs.Image.{Page, IsImage}
 use Rattle.mig_mem.specs.PlaceSet.{IsPlaceSet}
 use Rattle.mig_mem.specs.Round.{round_of}
 use Rattle.mig_mem.proofs.Members.{map-map, map_agree, All-range}
+use Rattle.mig_mem.proofs.Counts.{range-append}
 use Rattle.mig_packet.specs.PageSize.{page_limit}
 use Rattle.mig_packet.specs.Packet.{Fields, fields_of}
 use Rattle.mig_send.specs.Batches.{BatchOfPages, IsBatch, batch_places}
@@ -30,7 +31,7 @@ use Rattle.mig_assemble.proofs.Bags.{SameBag, bag_permutation, bag_trans, bag_ma
 use Rattle.mig_assemble.proofs.OrderFree.{refusal_bag}
 use Rattle.mig_assemble.proofs.LawfulRounds.{round_is_lawful}
 use Rattle.mig_answer.specs.Dealt.{dealt_fields, dealt_pages, BringTheRound, DealtRoundsAreLawful}
-use Rattle.mig_answer.proofs.DealtBags.{bag_append, bag_each, bag_lasts, map-flat_map, range-append, by_number, each_once_run}
+use Rattle.mig_answer.proofs.DealtBags.{bag_append, bag_each, bag_lasts, map-flat_map, by_number, each_once_run}
 use Rattle.mig_answer.proofs.DealtPackets.{batch_offsets, batch_pages}
 use Rattle.mig_answer.proofs.DealtPages.{round-flat_map, same_last, same_memory, none_again}
 
@@ -47,7 +48,8 @@ said round number = batch_fields round.snapshot.image (get_or round.batches (num
 -- first those of the batches, then the SYNC packets
 abbrev in_order : DealtRound → List Fields
 in_order round =
-    map (said round) (range_with_len round.base (length round.batches)) ++ map sync_said (range_with_len (round.base + length round.batches) (length round.shares))
+    map (said round) (range_with_len round.base (length round.batches)) ++ map sync_said
+    (range_with_len (round.base + length round.batches) (length round.shares))
 
 numbers-in_order : (round : DealtRound) → numbers (in_order round) ≡ range_with_len round.base (packet_count round)
 numbers-in_order round =
@@ -97,7 +99,8 @@ module _ (round : DealtRound) (table : IsTable round.snapshot.image.table) (imag
       let first : SameBag (flat_map (λ share. map claimed (share_numbers share)) round.shares) (map claimed claiming) =
       subst (λ (l : List (List ℕ)). SameBag l (map claimed claiming)) (map-flat_map claimed share_numbers round.shares) (bag_map claimed ns claiming claim) in
       let second : SameBag (map (λ share. sync_packet size (share_last share)) round.shares) (map (sync_packet size) lasts) =
-      subst (λ (l : List (List ℕ)). SameBag l (map (sync_packet size) lasts)) (map-map (sync_packet size) share_last round.shares) (bag_map (sync_packet size) ls lasts end) in
+      subst (λ (l : List (List ℕ)). SameBag l (map (sync_packet size) lasts)) (map-map (sync_packet size) share_last round.shares)
+      (bag_map (sync_packet size) ls lasts end) in
       bag_trans packets
       (flat_map (λ share. map claimed (share_numbers share)) round.shares ++ map (λ share. sync_packet size (share_last share)) round.shares)
       (map claimed claiming ++ map (sync_packet size) lasts)
@@ -121,12 +124,14 @@ module _ (round : DealtRound) (table : IsTable round.snapshot.image.table) (imag
       (omega (arith, fits, high)))))
       ∙ ap (λ (l : List Fields). map (said round) claiming ++ l)
       (map-map (fields_of size) (sync_packet size) lasts
-      ∙ map_agree syncs sync_said lasts (All-range (λ number. syncs number ≡ sync_said number) (round.base + length round.batches) (length round.shares) (λ number low high.
+      ∙ map_agree syncs sync_said lasts (All-range (λ number. syncs number ≡ sync_said number) (round.base + length round.batches)
+      (length round.shares) (λ number low high.
       say_their_pages.sync_says round.snapshot.image.table number table (omega (arith, fits, high)))))
 
   pub dealt_in_order : SameBag (dealt_fields round) (in_order round)
   dealt_in_order =
-      subst (λ (l : List Fields). SameBag l (in_order round)) (map-flat_map (fields_of size) (share_packets round.base round.snapshot.image round.batches) round.shares)
+      subst (λ (l : List Fields). SameBag l (in_order round))
+      (map-flat_map (fields_of size) (share_packets round.base round.snapshot.image round.batches) round.shares)
       (subst (λ (l : List Fields). SameBag (map (fields_of size) packets) l) said_in_order
       (bag_map (fields_of size) packets (map claimed claiming ++ map (sync_packet size) lasts) packets_in_order))
 
@@ -145,7 +150,8 @@ module _ (round : DealtRound) (table : IsTable round.snapshot.image.table) (imag
   no_pages [] = refl
   no_pages (n ∷ ns) = no_pages ns
 
-  pages_in_order : SameBag (all_round_pages round.snapshot.image.table [] (in_order round)) (round_of round.snapshot.image (flat_map batch_places round.batches))
+  pages_in_order : SameBag (all_round_pages round.snapshot.image.table [] (in_order round))
+      (round_of round.snapshot.image (flat_map batch_places round.batches))
   pages_in_order =
       let pages : Fields → List Page = packet_pages round.snapshot.image.table in
       let batch : ℕ → BatchOfPages = λ number. get_or round.batches (number - round.base) no_batch in
@@ -169,7 +175,8 @@ module _ (round : DealtRound) (table : IsTable round.snapshot.image.table) (imag
 
   module _ (cut : flat_map batch_places round.batches ≡ round.snapshot.dirty) (ascending : IsAscending round.snapshot.dirty) where
     ordered_pages : SameBag (all_round_pages round.snapshot.image.table [] (in_order round)) (round_of round.snapshot.image round.snapshot.dirty)
-    ordered_pages = subst (λ (l : List Place). SameBag (all_round_pages round.snapshot.image.table [] (in_order round)) (round_of round.snapshot.image l)) cut pages_in_order
+    ordered_pages = subst (λ (l : List Place). SameBag (all_round_pages round.snapshot.image.table [] (in_order round))
+        (round_of round.snapshot.image l)) cut pages_in_order
 
     -- the pages that the packets bring are those of the round, in some order
     pub pages_dealt : SameBag (dealt_pages round.snapshot.image.table round) (round_of round.snapshot.image round.snapshot.dirty)
@@ -180,14 +187,16 @@ module _ (round : DealtRound) (table : IsTable round.snapshot.image.table) (imag
 
     ordered_is_lawful : IsLawful round.snapshot.image.table round.base [] (in_order round)
     ordered_is_lawful =
-        let count : length (numbers (in_order round)) ≡ packet_count round = length-map (in_order round) (λ (packet : Fields). packet.number) ∙ length-in_order round in
+        let count : length (numbers (in_order round)) ≡ packet_count round =
+        length-map (in_order round) (λ (packet : Fields). packet.number) ∙ length-in_order round in
         let run : range_with_len round.base (length (numbers (in_order round))) ≡ numbers (in_order round) =
         ap (range_with_len round.base) count ∙ sym (numbers-in_order round) in
         record {
           has_run = subst (λ (l : List ℕ). IsPermutation (range_with_len round.base (length (numbers (in_order round)))) l) run
               (IsPermutation-refl (range_with_len round.base (length (numbers (in_order round)))));
           has_places = right_places;
-          has_each_once = none_again round.snapshot.image round.snapshot.dirty (all_round_pages round.snapshot.image.table [] (in_order round)) ascending ordered_pages;
+          has_each_once = none_again round.snapshot.image round.snapshot.dirty
+              (all_round_pages round.snapshot.image.table [] (in_order round)) ascending ordered_pages;
         }
 
     pub bring_the_round : BringTheRound round.snapshot.image.table round
@@ -218,5 +227,6 @@ is_brought table limit channels round le fits dealt =
       has_pages = pages_dealt round places.has_table dealt.has_image batches dealt.has_shares fits dealt.has_batches.has_all places.is_ascending;
     })
 
+-- a round brings its pages however its packets were dealt
 pub dealt_rounds_are_lawful : DealtRoundsAreLawful
 dealt_rounds_are_lawful table limit channels round le fits dealt = (is_brought table limit channels round le fits dealt).bring

@@ -17,6 +17,7 @@ use Rattle.mig_assemble.proofs.Elements.{contains_cases, contains_here, contains
 
 -- ---- the same elements
 
+-- equal lists have the same elements, each as often
 pub bag_same : {X : Type 0} (xs ys : List X) → xs ≡ ys → SameBag xs ys
 bag_same {X} xs ys e = record {
   there = λ x h. subst (λ (l : List X). Contains l x) e h;
@@ -35,7 +36,8 @@ bag_append xs ys us vs first second = record {
     | inl a ↦ Contains-append_left xs us x (first.back x a)
     | inr b ↦ Contains-append_right xs us x (second.back x b)
   ];
-  sums = λ f. sum_by-append f xs us ∙ ap (λ (n : ℕ). n + sum_by f us) (first.sums f) ∙ ap (λ (n : ℕ). sum_by f ys + n) (second.sums f) ∙ sym (sum_by-append f ys vs);
+  sums = λ f. sum_by-append f xs us ∙ ap (λ (n : ℕ). n + sum_by f us) (first.sums f)
+      ∙ ap (λ (n : ℕ). sum_by f ys + n) (second.sums f) ∙ sym (sum_by-append f ys vs);
 }
 
 -- lists that are made of each element, by one way or by another
@@ -81,7 +83,8 @@ bag_lasts {X} {Y} f g xs = record {
   back = λ y h. elim (Contains-append_cases (flat_map f xs) (map g xs) y h) [
     | inl a ↦ (let k = flat_map_contains f xs y a in contains_flat_map each xs k.0 y k.1 (Contains-append_left (f k.0) (g k.0 ∷ []) y k.2))
     | inr b ↦ (let k = map_contains g xs y b in
-        contains_flat_map each xs k.0 y k.1 (Contains-append_right (f k.0) (g k.0 ∷ []) y (subst (λ (z : Y). Contains (g k.0 ∷ []) z) k.2 (contains_here (g k.0) []))))
+        contains_flat_map each xs k.0 y k.1 (Contains-append_right (f k.0) (g k.0 ∷ []) y
+        (subst (λ (z : Y). Contains (g k.0 ∷ []) z) k.2 (contains_here (g k.0) []))))
   ];
   sums = λ h. both h xs;
 }
@@ -104,16 +107,10 @@ bag_lasts {X} {Y} f g xs = record {
 
 -- ---- maps
 
+-- to map all that is listed is to map what is listed of each element
 pub map-flat_map : {X Y Z : Type 0} (g : Y → Z) (f : X → List Y) (xs : List X) → map g (flat_map f xs) ≡ flat_map (λ x. map g (f x)) xs
 map-flat_map g f [] = refl
 map-flat_map {X} {Y} {Z} g f (x ∷ xs) = map-append g (f x) (flat_map f xs) ∙ ap (λ (l : List Z). map g (f x) ++ l) (map-flat_map g f xs)
-
-pub range-append : (a m n : ℕ) → range_with_len a (m + n) ≡ range_with_len a m ++ range_with_len (a + m) n
-range-append a zero n = let e : 0 + n ≡ n = omega arith in let f : a ≡ a + 0 = omega arith in ap (range_with_len a) e ∙ ap (λ (k : ℕ). range_with_len k n) f
-range-append a (suc m) n =
-    let e : suc m + n ≡ suc (m + n) = omega arith in
-    let f : (a + 1) + m ≡ a + suc m = omega arith in
-    ap (range_with_len a) e ∙ ap (λ (l : List ℕ). a ∷ l) (range-append (a + 1) m n) ∙ ap (λ (k : ℕ). a ∷ (range_with_len (a + 1) m ++ range_with_len k n)) f
 
 -- a list by the numbers of its elements, counted from a base on
 pub by_number : {X : Type 0} (base : ℕ) (d : X) (xs : List X) → map (λ n. get_or xs (n - base) d) (range_with_len base (length xs)) ≡ xs

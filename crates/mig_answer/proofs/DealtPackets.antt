@@ -97,7 +97,8 @@ module _ (m : Image) (batch : BatchOfPages) (number : ℕ) (table : IsTable m.ta
       let round : List Page = round_of m (batch_places batch) in
       let size : ℕ = m.table.page_size in
       let P : ℕ → Type 0 = IsPageOffset m.table (block m.table.blocks batch.block).id in
-      let all : All (λ (x : Page). P (x.place.page * size)) round = All-weaker (IsOwn m batch) (λ (x : Page). P (x.place.page * size)) right_offset round (own_pages m batch image is) in
+      let all : All (λ (x : Page). P (x.place.page * size)) round =
+      All-weaker (IsOwn m batch) (λ (x : Page). P (x.place.page * size)) right_offset round (own_pages m batch image is) in
       All-append P (map (λ (page : NormalPage). page.offset) (batch_fields m batch number).normal) (batch_fields m batch number).zero
       (All-map P (λ (page : NormalPage). page.offset) (batch_fields m batch number).normal
       (All-map (λ (page : NormalPage). P page.offset) (to_normal size) (normals_of round)
@@ -127,7 +128,8 @@ module _ (m : Image) (batch : BatchOfPages) (number : ℕ) (table : IsTable m.ta
       ∙ map-id xs
 
   -- the pages that it brings are those that aren't zeros, and then those that are
-  pub batch_pages_are : packet_pages m.table (batch_fields m batch number) ≡ normals_of (round_of m (batch_places batch)) ++ zeros_of (round_of m (batch_places batch))
+  pub batch_pages_are : packet_pages m.table (batch_fields m batch number) ≡ normals_of
+      (round_of m (batch_places batch)) ++ zeros_of (round_of m (batch_places batch))
   batch_pages_are =
       let round : List Page = round_of m (batch_places batch) in
       let size : ℕ = m.table.page_size in

@@ -28,6 +28,8 @@ places_of_round : (m : Image) (places : List Place) → places_of (round_of m pl
 unfolding pages_of
 places_of_round m places = map-map (λ (x : Page). x.place) (page_in_image m) places ∙ map-id places
 
+-- the round of all places that are listed is the rounds of what is listed of each, one after
+-- another
 pub round-flat_map : {X : Type 0} (m : Image) (f : X → List Place) (xs : List X) → round_of m (flat_map f xs) ≡ flat_map (λ x. round_of m (f x)) xs
 unfolding pages_of
 round-flat_map m f xs = map-flat_map (page_in_image m) f xs
@@ -69,7 +71,8 @@ same_memory m xs ys same = image_agree m.table
     (λ p _. ap (λ (o : Option Page). option_map_or (λ (x : Page). x.content) o (content_at m p)) (same p))
 
 -- if the places ascend, none occurs twice in any order
-pub none_again : (m : Image) (places : List Place) (xs : List Page) → IsAscending places → SameBag xs (round_of m places) → AllPairs (λ p q. p ≢ q) (places_of xs)
+pub none_again : (m : Image) (places : List Place) (xs : List Page) → IsAscending places → SameBag xs (round_of m places)
+    → AllPairs (λ p q. p ≢ q) (places_of xs)
 none_again m places xs ascending bag =
     let same : SameBag (places_of xs) (places_of (round_of m places)) = bag_map (λ (x : Page). x.place) xs (round_of m places) bag in
     let apart : AllPairs (λ p q. p ≢ q) places =

@@ -49,21 +49,25 @@ pending_first : verdict_at 0 (readings_of (main_of [] (stream.Bad Truncated)) (c
 pending_first = refl
 
 -- the main stream's fault comes before a channel's
-main_first : verdict_at 0 (readings_of (main_of [] (stream.Bad Truncated)) (channel_of 0 [] (channel.Bad HelloUuid) ∷ [])) ≡ failed 0 origin.Main (fault.Stream Truncated)
+main_first : verdict_at 0 (readings_of (main_of [] (stream.Bad Truncated)) (channel_of 0 [] (channel.Bad HelloUuid) ∷ []))
+    ≡ failed 0 origin.Main (fault.Stream Truncated)
 main_first = refl
 
 -- but only at the same round
-channel_at_its_round : verdict_at 0 (readings_of (main_of ([] ∷ []) (stream.Bad Truncated)) (channel_of 0 (one_packet ∷ []) channel.Closed ∷ channel_of 1 [] (channel.Bad Unsynced) ∷ []))
+channel_at_its_round : verdict_at 0 (readings_of (main_of ([] ∷ []) (stream.Bad Truncated))
+    (channel_of 0 (one_packet ∷ []) channel.Closed ∷ channel_of 1 [] (channel.Bad Unsynced) ∷ []))
     ≡ failed 0 (origin.Channel 1) (fault.Channel Unsynced)
 channel_at_its_round = refl
 
 -- two hellos of one id, though the round isn't lawful either
-hello_twice : verdict_at 0 (readings_of (main_of ([] ∷ []) stream.Closed) (channel_of 0 (one_packet ∷ []) channel.Closed ∷ channel_of 0 (one_packet ∷ []) channel.Closed ∷ []))
+hello_twice : verdict_at 0 (readings_of (main_of ([] ∷ []) stream.Closed)
+    (channel_of 0 (one_packet ∷ []) channel.Closed ∷ channel_of 0 (one_packet ∷ []) channel.Closed ∷ []))
     ≡ failed 0 (origin.Channel 1) fault.HelloTwice
 hello_twice = refl
 
 -- a number that occurs twice
-doubled : verdict_at 0 (readings_of (main_of ([] ∷ []) stream.Closed) (channel_of 1 (one_packet ∷ []) channel.Closed ∷ channel_of 0 (one_packet ∷ []) channel.Closed ∷ []))
+doubled : verdict_at 0 (readings_of (main_of ([] ∷ []) stream.Closed)
+    (channel_of 1 (one_packet ∷ []) channel.Closed ∷ channel_of 0 (one_packet ∷ []) channel.Closed ∷ []))
     ≡ failed 0 origin.Round (fault.Round (Doubled 0))
 unfolding be32_at be64_at
 doubled = refl

@@ -1,9 +1,9 @@
 -- The readings of streams that stay when they continue.
-use Rattle.std.proofs.Common.{ℕ, zero, suc, ◌≡◌, ◌≢◌, ◌+◌, ◌<◌, ◌≤◌, Bool, true, false, cond, ◌==◌, ◌&&◌, List, [], ◌∷◌, ◌++◌, length, map, flat_map, get_or, refl, sym, ap, subst, ◌∙◌, inl, inr, Option, Some, None, is_none, option_map, option_and_then, sum_by, arith}
-use Rattle.std.specs.Prelude.{◌⊎◌, nat_lt, IsTrue}
+use Rattle.std.proofs.Common.{ℕ, ◌≡◌, ◌≢◌, ◌+◌, ◌<◌, ◌≤◌, Bool, true, false, ◌&&◌, List, [], ◌∷◌, ◌++◌, length, map, flat_map, get_or, refl, sym, ap, subst, ◌∙◌, inl, inr, Option, Some, None, is_none, option_map, option_and_then, sum_by, arith}
+use Rattle.std.specs.Prelude.{◌⊎◌, IsTrue}
 use Rattle.std.specs.Option.{unwrap_or}
 use Rattle.std.specs.List.{All, AllZip, list_all, list_any, enumerate_from, range_with_len}
-use Rattle.std.proofs.lemmas.Bool.{cases_Bool, cases_order, cases_lt, cond-false, le-ltb, eqb-true, or_parts}
+use Rattle.std.proofs.lemmas.Bool.{cases_Bool, cases_order, cases_lt, or_parts}
 use Rattle.std.proofs.lemmas.List.Elements.{All-nil, All-cons, All-head, All-tail, length_all_zip}
 use Rattle.std.proofs.lemmas.List.Sums.{sum_by-cons}
 use Rattle.mig_mem.specs.PageSize.{IsPageSize}
@@ -12,6 +12,7 @@ use Rattle.mig_mem.specs.PlaceSet.{PlaceSet}
 use Rattle.mig_mem.specs.First.{first_some}
 use Rattle.mig_mem.specs.Image.{Page, Image}
 use Rattle.mig_mem.specs.Round.{after}
+use Rattle.mig_packet.proofs.Heads.{same_map}
 use Rattle.mig_assemble.specs.declared.fault.RoundFault.{RoundFault}
 use Rattle.mig_assemble.specs.Judging.{refusal, all_round_pages}
 use Rattle.mig_assemble.specs.NamedPlaces.{named_by}
@@ -35,13 +36,14 @@ use Rattle.mig_answer.specs.declared.status.Status.TheVariants.{Whole, Clean, Ba
 use Rattle.mig_answer.specs.Status.{status_at, main_status, channel_status, stream_end, channel_end, is_whole, is_pending}
 use Rattle.mig_answer.specs.Texts.{Text, Texts, Readings, AreReadings}
 use Rattle.mig_answer.specs.Rounds.{record_pages_at, channel_packets_at, packets_at, packet_count_at, base_at, refusal_of, refusal_at, pages_at, memory_at, named_at}
-use Rattle.mig_answer.specs.MultiLoad.{Standing, main_standing, main_at, channels_at, sources_at, hello_ids, repeated_hello, passes, failed, verdicts_told, verdict_at}
+use Rattle.mig_answer.specs.MultiLoad.{Standing, main_standing, main_at, channels_at, sources_at, hello_ids, repeated_hello, passes, failed, sources_verdicts, verdict_at}
 use Rattle.mig_answer.specs.Growing.{GoesOn, GoOn, AnswersStay, WithoutMemoryStays, RoundsStay}
-use Rattle.mig_answer.proofs.Statuses.{status_whole, status_end, stream_ends}
-use Rattle.mig_answer.proofs.Judged.{IsWhole, IsSettled, has_round, whole_at}
+use Rattle.mig_answer.proofs.Statuses.{status_whole, status_end, stream_ends, status_behind}
+use Rattle.mig_answer.proofs.Judged.{IsWhole, IsFinal, has_round, whole_at}
 use Rattle.mig_answer.proofs.OneAnswer.{some_readings}
 use Rattle.mig_answer.proofs.GrowingChannels.{ChannelStays, channel_stays, round_of_more}
 use Rattle.mig_answer.proofs.GrowingMain.{main_stays, main_table_first}
+use Rattle.mig_answer.proofs.ReceivedTogether.{same_sums}
 
 -- What is read of all streams stays read. There was no round before the table.
 pub record ReadingsStay (before now : Readings) : Type 0 where
@@ -67,30 +69,25 @@ channels_stay given (old ∷ olds) (new ∷ news) (x ∷ befores) (y ∷ nows) s
   channels_stay given olds news befores nows size go.1 are_before.1 are_now.1,
 )
 
+-- if streams grow, their readings stay and go on
 pub readings_stay : (given : LoadSettings) (uuid : List ℕ) (old new : Texts) (before now : Readings) → IsPageSize given.page_size → GoOn old new
     → AreReadings given uuid old before → AreReadings given uuid new now → ReadingsStay before now
 readings_stay given uuid old new before now size go are_before are_now =
     let many : length new.channels ≡ length old.channels = sym (length_all_zip GoesOn old.channels new.channels go.channels) in
     record {
       main = main_stays given old.main new.main before.main now.main size go.main are_before.has_main are_now.has_main;
-      channels = channels_stay (channel_of given uuid (length old.channels)) old.channels new.channels before.channels now.channels size go.channels are_before.has_channels
-          (subst (λ (n : ℕ). AllZip (λ (text : Text) (reading : ChannelReading). IsReading (channel_of given uuid n) text.bytes text.ended reading) new.channels now.channels)
+      channels = channels_stay (channel_of given uuid (length old.channels)) old.channels new.channels before.channels
+          now.channels size go.channels are_before.has_channels
+          (subst (λ (n : ℕ). AllZip (λ (text : Text) (reading : ChannelReading). IsReading
+          (channel_of given uuid n) text.bytes text.ended reading) new.channels now.channels)
           many are_now.has_channels);
       has_table_first = main_table_first given old.main before.main size are_before.has_main;
     }
 
 -- ---- a source that isn't pending at a round stands there as it did
 
-status_behind : (k rounds : ℕ) (end : Status) → rounds < k → status_at k rounds end ≡ Pending
-status_behind k rounds end below = elim (cases_Bool (k == rounds)) [
-  | inl e ↦ absurd (let same : k ≡ rounds = eqb-true k rounds e in omega (arith, same, below))
-  | inr ne ↦
-      cond-false (nat_lt k rounds) Whole (cond (k == rounds) end Pending) (le-ltb k rounds (omega (arith, below)))
-      ∙ cond-false (k == rounds) end Pending ne
-]
-
 -- it has the round, or has come to it and has nothing more to come
-at_round : (k rounds : ℕ) (end : Status) → is_pending (status_at k rounds end) ≡ false → (k < rounds) ⊎ ((k ≡ rounds) × (is_pending end ≡ false))
+pub at_round : (k rounds : ℕ) (end : Status) → is_pending (status_at k rounds end) ≡ false → (k < rounds) ⊎ ((k ≡ rounds) × (is_pending end ≡ false))
 at_round k rounds end settled = elim (cases_order k rounds) [
   | inl e ↦ inr (e, sym (ap is_pending (status_end k rounds end e)) ∙ settled)
   | inr ne ↦ elim ne [
@@ -109,7 +106,8 @@ channel_over channel.Reading settled = absurd cc
 channel_over channel.Closed settled = λ e. absurd cc
 channel_over (channel.Bad f) settled = λ e. absurd cc
 
-some_rounds : {X : Type 0} (rounds : List X) (k : ℕ) → k < length rounds → rounds ≢ []
+-- a list that has an element at a number isn't empty
+pub some_rounds : {X : Type 0} (rounds : List X) (k : ℕ) → k < length rounds → rounds ≢ []
 some_rounds rounds k below none = let e : length rounds ≡ 0 = ap length none in omega (arith, below, e)
 
 kept : {X : Type 0} (before now : Option X) → before ≢ None → ((x : X) → before ≡ Some x → now ≡ Some x) → now ≡ before
@@ -129,7 +127,8 @@ same_main_at k before now stays first settled = elim (at_round k (length before.
       let longer = round_of_more before.rounds now.rounds stays.more_rounds k stays.has_rounds lt in
       record {
         same_table = kept before.table now.table (λ none. some_rounds before.rounds k lt (first none)) stays.same_table;
-        same_status = status_whole k (length now.rounds) (stream_end now.state) longer.0 ∙ sym (status_whole k (length before.rounds) (stream_end before.state) lt);
+        same_status = status_whole k (length now.rounds) (stream_end now.state) longer.0
+            ∙ sym (status_whole k (length before.rounds) (stream_end before.state) lt);
         same_round = longer.1;
       }
   | inr end ↦
@@ -153,7 +152,8 @@ same_channel_at k before now stays settled = elim (at_round k (length before.rou
       let longer = round_of_more before.rounds now.rounds stays.more_rounds k stays.has_rounds lt in
       record {
         same_hello = stays.same_hello (λ none. some_rounds before.rounds k lt (stays.has_hello_first none));
-        same_status = status_whole k (length now.rounds) (channel_end now.state) longer.0 ∙ sym (status_whole k (length before.rounds) (channel_end before.state) lt);
+        same_status = status_whole k (length now.rounds) (channel_end now.state) longer.0
+            ∙ sym (status_whole k (length before.rounds) (channel_end before.state) lt);
         same_round = longer.1;
       }
   | inr end ↦
@@ -169,14 +169,14 @@ abbrev standing_at : ℕ → (ℕ × ChannelReading) → Standing
 standing_at k c = record { source = origin.Channel c.0; status = channel_status k c.1 }
 
 same_channels_at : (k n : ℕ) (befores nows : List ChannelReading) → AllZip ChannelStays befores nows
-    → All IsSettled (map (standing_at k) (enumerate_from n befores)) → AllZip (SameChannel k) befores nows
+    → All IsFinal (map (standing_at k) (enumerate_from n befores)) → AllZip (SameChannel k) befores nows
 same_channels_at k n [] [] stay settled = tt
 same_channels_at k n [] (y ∷ nows) stay settled = absurd stay
 same_channels_at k n (x ∷ befores) [] stay settled = absurd stay
 same_channels_at k n (x ∷ befores) (y ∷ nows) stay settled =
     let rest : List Standing = map (standing_at k) (enumerate_from (n + 1) befores) in (
-      same_channel_at k x y stay.0 (All-head IsSettled (standing_at k (n, x)) rest settled),
-      same_channels_at k (n + 1) befores nows stay.1 (All-tail IsSettled (standing_at k (n, x)) rest settled),
+      same_channel_at k x y stay.0 (All-head IsFinal (standing_at k (n, x)) rest settled),
+      same_channels_at k (n + 1) befores nows stay.1 (All-tail IsFinal (standing_at k (n, x)) rest settled),
     )
 
 -- all sources say the same of round k
@@ -184,10 +184,10 @@ record SameAt (k : ℕ) (before now : Readings) : Type 0 where
   main : SameMain k before.main now.main
   channels : AllZip (SameChannel k) before.channels now.channels
 
-same_at : (k : ℕ) (before now : Readings) → ReadingsStay before now → All IsSettled (sources_at k before) → SameAt k before now
+same_at : (k : ℕ) (before now : Readings) → ReadingsStay before now → All IsFinal (sources_at k before) → SameAt k before now
 same_at k before now stay settled = record {
-  main = same_main_at k before.main now.main stay.main stay.has_table_first (All-head IsSettled (main_at k before) (channels_at k before) settled);
-  channels = same_channels_at k 0 before.channels now.channels stay.channels (All-tail IsSettled (main_at k before) (channels_at k before) settled);
+  main = same_main_at k before.main now.main stay.main stay.has_table_first (All-head IsFinal (main_at k before) (channels_at k before) settled);
+  channels = same_channels_at k 0 before.channels now.channels stay.channels (All-tail IsFinal (main_at k before) (channels_at k before) settled);
 }
 
 -- ---- and so do the channels together
@@ -232,22 +232,6 @@ same_count k (x ∷ befores) (y ∷ nows) same =
     ∙ ap (λ (n : ℕ). count_at k x + n) (same_count k befores nows same.1)
     ∙ sym (sum_by-cons (count_at k) x befores)
 
--- ---- over the rounds before
-
-same_sum : (f g : ℕ → ℕ) (a n : ℕ) → ((i : ℕ) → i < a + n → f i ≡ g i) → sum_by f (range_with_len a n) ≡ sum_by g (range_with_len a n)
-same_sum f g a zero same = refl
-same_sum f g a (suc n) same =
-    sum_by-cons f a (range_with_len (a + 1) n)
-    ∙ ap (λ (x : ℕ). x + sum_by f (range_with_len (a + 1) n)) (same a (omega arith))
-    ∙ ap (λ (x : ℕ). g a + x) (same_sum f g (a + 1) n (λ i below. same i (omega (arith, below))))
-    ∙ sym (sum_by-cons g a (range_with_len (a + 1) n))
-
-same_map : {Y : Type 0} (f g : ℕ → Y) (a n : ℕ) → ((i : ℕ) → i < a + n → f i ≡ g i) → map f (range_with_len a n) ≡ map g (range_with_len a n)
-same_map f g a zero same = refl
-same_map {Y} f g a (suc n) same =
-    ap (λ (y : Y). y ∷ map f (range_with_len (a + 1) n)) (same a (omega arith))
-    ∙ ap (λ (ys : List Y). g a ∷ ys) (same_map f g (a + 1) n (λ i below. same i (omega (arith, below))))
-
 -- ---- rounds that passed
 
 whole_settled : (s : Status) → is_whole s ≡ true → is_pending s ≡ false
@@ -256,10 +240,10 @@ whole_settled Clean e = refl
 whole_settled (Bad f) e = refl
 whole_settled Pending e = absurd cc
 
-all_settled : (sources : List Standing) → All IsWhole sources → All IsSettled sources
-all_settled [] all = All-nil IsSettled
+all_settled : (sources : List Standing) → All IsWhole sources → All IsFinal sources
+all_settled [] all = All-nil IsFinal
 all_settled (s ∷ sources) all =
-    All-cons IsSettled s sources (whole_settled s.status (All-head IsWhole s sources all)) (all_settled sources (All-tail IsWhole s sources all))
+    All-cons IsFinal s sources (whole_settled s.status (All-head IsWhole s sources all)) (all_settled sources (All-tail IsWhole s sources all))
 
 abbrev HavePassed : ℕ → Readings → Type 0
 HavePassed k readings = (j : ℕ) → j < k → IsTrue (passes j readings)
@@ -267,9 +251,10 @@ HavePassed k readings = (j : ℕ) → j < k → IsTrue (passes j readings)
 same_passed : (before now : Readings) (k : ℕ) → ReadingsStay before now → HavePassed k before → (j : ℕ) → j < k → SameAt j before now
 same_passed before now k stay passed j below = same_at j before now stay (all_settled (sources_at j before) (whole_at before j (passed j below)))
 
+-- the number of the first packet of a round stays if the streams grow
 pub base_still : (before now : Readings) (k : ℕ) → ReadingsStay before now → ((j : ℕ) → j < k → IsTrue (passes j before)) → base_at k now ≡ base_at k before
 base_still before now k stay passed =
-    same_sum (λ i. packet_count_at i now) (λ i. packet_count_at i before) 0 k
+    same_sums (λ i. packet_count_at i now) (λ i. packet_count_at i before) 0 k
     (λ i below. same_count i before.channels now.channels (same_passed before now k stay passed i (omega (arith, below))).channels)
 
 -- ---- what is judged at a round
@@ -296,7 +281,8 @@ same_refusal_of table k before now same base =
     let p : ℕ = table.page_size in
     ap (λ (n : ℕ). refusal table n (record_pages_at p k now) (packets_at p k now)) base
     ∙ ap (λ (pages : List Page). refusal table (base_at k before) pages (packets_at p k now)) (same_records p k before now same)
-    ∙ ap (λ (packets : List Fields). refusal table (base_at k before) (record_pages_at p k before) packets) (same_packets p k before.channels now.channels same.channels)
+    ∙ ap (λ (packets : List Fields). refusal table (base_at k before) (record_pages_at p k before) packets)
+    (same_packets p k before.channels now.channels same.channels)
 
 same_refusal : (k : ℕ) (before now : Readings) → SameAt k before now → base_at k now ≡ base_at k before → refusal_at k now ≡ refusal_at k before
 same_refusal k before now same base =
@@ -316,7 +302,8 @@ same_passes k before now same base =
 abbrev verdict_by : ℕ → Status → List Standing → List (Option ℕ) → Option RoundFault → Verdict
 verdict_by k status channels ids refused =
     unwrap_or
-    (first_some (verdicts_told k (main_standing status) channels (repeated_hello ids) ++ option_map (λ f. failed k origin.Round (fault.Round f)) refused ∷ []))
+    (first_some (sources_verdicts k (main_standing status) channels (repeated_hello ids) ++ option_map
+    (λ f. failed k origin.Round (fault.Round f)) refused ∷ []))
     Running
 
 same_verdict : (k : ℕ) (before now : Readings) → SameAt k before now → base_at k now ≡ base_at k before → verdict_at k now ≡ verdict_at k before
@@ -328,7 +315,9 @@ same_verdict k before now same base =
     (same_hellos k before.channels now.channels same.channels)
     ∙ ap (λ (o : Option RoundFault). verdict_by k (main_status k before.main) (channels_at k before) (hello_ids before) o) (same_refusal k before now same base)
 
-pub pass_still : (before now : Readings) (k : ℕ) → ReadingsStay before now → ((j : ℕ) → j < k → IsTrue (passes j before)) → (j : ℕ) → j < k → IsTrue (passes j now)
+-- rounds that all sources passed stay passed if the streams grow
+pub pass_still : (before now : Readings) (k : ℕ) → ReadingsStay before now → ((j : ℕ) → j < k → IsTrue (passes j before))
+    → (j : ℕ) → j < k → IsTrue (passes j now)
 pass_still before now k stay passed j below =
     let base : base_at j now ≡ base_at j before = base_still before now j stay (λ i lt. passed i (omega (arith, lt, below))) in
     same_passes j before now (same_passed before now k stay passed j below) base ∙ passed j below
@@ -356,6 +345,7 @@ mapped_some : {X Y : Type 0} (f : X → Y) (o : Option X) (y : Y) → option_map
 mapped_some f None y e = absurd cc
 mapped_some f (Some x) y e = λ none. absurd cc
 
+-- the memory after passed rounds stays if the streams grow
 pub memory_still : (before now : Readings) (k : ℕ) (memory : Image) → ReadingsStay before now → ((j : ℕ) → j < k → IsTrue (passes j before))
     → memory_at k before ≡ Some memory → memory_at k now ≡ Some memory
 memory_still before now k memory stay passed e =
@@ -375,6 +365,7 @@ same_named before now k stay passed table =
     (λ t. ap (named_by t) (same_map (λ i. pages_at t i now) (λ i. pages_at t i before) 0 k
     (λ i below. same_pages t i before now (same_passed before now k stay passed i (omega (arith, below))))))
 
+-- the places named by passed rounds stay if the streams grow
 pub named_still : (before now : Readings) (k : ℕ) (named : PlaceSet) → ReadingsStay before now → ((j : ℕ) → j < k → IsTrue (passes j before))
     → named_at k before ≡ Some named → named_at k now ≡ Some named
 named_still before now k named stay passed e =
@@ -383,19 +374,21 @@ named_still before now k named stay passed e =
 
 -- ---- answers
 
-none_passes : {X : Type 0} (test : X → Bool) (xs : List X) → list_any test xs ≡ false → All (λ x. test x ≡ false) xs
+-- if no element of a list passes, each one fails the test
+pub none_passes : {X : Type 0} (test : X → Bool) (xs : List X) → list_any test xs ≡ false → All (λ x. test x ≡ false) xs
 none_passes test [] e = All-nil (λ x. test x ≡ false)
 none_passes test (x ∷ xs) e =
     let parts = or_parts (test x) (list_any test xs) e in
     All-cons (λ x. test x ≡ false) x xs parts.0 (none_passes test xs parts.1)
 
 -- if the verdict isn't `Running` no source is pending
-judged_settled : (k : ℕ) (readings : Readings) → verdict_at k readings ≢ Running → All IsSettled (sources_at k readings)
+judged_settled : (k : ℕ) (readings : Readings) → verdict_at k readings ≢ Running → All IsFinal (sources_at k readings)
 judged_settled k readings judged = elim (cases_Bool (list_any (λ (s : Standing). is_pending s.status) (sources_at k readings))) [
   | inl t ↦ absurd (judged (rw t refl))
   | inr f ↦ none_passes (λ (s : Standing). is_pending s.status) (sources_at k readings) f
 ]
 
+-- an answer stays if the streams grow
 pub answers_law : AnswersStay
 answers_law = λ given uuid old new answer size go is judged.
     let k : ℕ = answer.rounds in
@@ -419,7 +412,8 @@ some_or_none None = inl refl
 some_or_none (Some x) = inr (λ none. absurd cc)
 
 -- no round has passed where there is no table
-none_passed : (readings : Readings) (k : ℕ) → (readings.main.table ≡ None → readings.main.rounds ≡ []) → HavePassed k readings → readings.main.table ≡ None → k ≡ 0
+none_passed : (readings : Readings) (k : ℕ) → (readings.main.table ≡ None → readings.main.rounds ≡ []) → HavePassed k readings
+    → readings.main.table ≡ None → k ≡ 0
 none_passed readings k first passed none =
     let few : k ≤ length readings.main.rounds = has_round k (length readings.main.rounds) (stream_end readings.main.state) (stream_ends readings.main.state)
     (λ j below. All-head IsWhole (main_at j readings) (channels_at j readings) (whole_at readings j (passed j below))) in
@@ -434,6 +428,7 @@ wants_memory before now k memory stay passed (inl e) = elim (some_or_none before
   | inr some ↦ inl (e ∙ sym (same_memory before now k stay passed (kept before.main.table now.main.table some stay.main.same_table)))
 ]
 
+-- an answer without memory stays the answer if the streams grow
 pub wants_law : WithoutMemoryStays
 wants_law = λ given uuid old new answer size go is.
     let next = some_readings given uuid new size in
@@ -446,6 +441,7 @@ wants_law = λ given uuid old new answer size go is.
       has_verdict = is.has_verdict;
     }
 
+-- rounds that were counted stay counted if the streams grow
 pub rounds_law : RoundsStay
 rounds_law = λ given uuid old new before after size go is_before is_after.
     let stay = readings_stay given uuid old new is_before.readings is_after.readings size go is_before.are_readings is_after.are_readings in

@@ -13,6 +13,7 @@ use Rattle.mig_packet.proofs.Later.{Reads-on, Reads-more}
 use Rattle.mig_packet.proofs.Limits.{limits_law}
 use Rattle.mig_packet.proofs.Unique.{one_reading}
 use Rattle.mig_packet.proofs.Exists.{some_reading, one_reading_law}
+use Rattle.mig_packet.proofs.PagingSteps.{known}
 use Rattle.mig_answer.specs.Texts.{Text}
 use Rattle.mig_answer.specs.Growing.{GoesOn}
 
@@ -28,7 +29,8 @@ pub record ChannelStays (before now : ChannelReading) : Type 0 where
 -- ---- a hello stays
 
 hello_packet : (c : ChannelProgress) (sync : Bool) (packet : List ℕ)
-    → (cond sync (record c { packets = []; rounds = c.rounds ++ (c.packets ++ packet ∷ []) ∷ [] }) (record c { packets = c.packets ++ packet ∷ [] })).hello ≡ c.hello
+    → (cond sync (record c { packets = []; rounds = c.rounds ++ (c.packets ++ packet ∷ []) ∷ [] })
+    (record c { packets = c.packets ++ packet ∷ [] })).hello ≡ c.hello
 hello_packet c true packet = refl
 hello_packet c false packet = refl
 
@@ -40,13 +42,9 @@ hello_all : (c : ChannelProgress) (id : ℕ) (items : List (List ℕ)) → c.hel
 hello_all c id [] has = has
 hello_all c id (item ∷ items) has = hello_all (after c item) id items (hello_item c c.hello id item has has)
 
-some_id : (h : Option ℕ) → h ≢ None → (id : ℕ) × (h ≡ Some id)
-some_id None some = absurd (some refl)
-some_id (Some id) some = (id, refl)
-
 hello_stays : (c d : ChannelProgress) (bytes : List ℕ) → Front c bytes d → c.hello ≢ None → d.hello ≡ c.hello
 hello_stays c d bytes f some =
-    let found = some_id c.hello some in
+    let found = known c.hello some in
     ap (λ (x : ChannelProgress). x.hello) f.leads_to ∙ hello_all c found.0 f.items found.1 ∙ sym found.1
 
 -- ---- two readings
@@ -111,7 +109,8 @@ stays_on given text more ended a b first_hello open_ is_a is_b =
     let same = one_reading (from given) (text ++ more) is_b.to (with_taken c.rounds next.0) is_b.rest next.1 is_b.found next.2 is_b.reads on in
     record {
       more_rounds = next.0.rounds;
-      has_rounds = is_b.has_rounds ∙ ap (λ (x : ChannelProgress). x.rounds) same.0 ∙ ap (λ (r : List (List (List ℕ))). r ++ next.0.rounds) (sym is_a.has_rounds);
+      has_rounds = is_b.has_rounds ∙ ap (λ (x : ChannelProgress). x.rounds) same.0
+          ∙ ap (λ (r : List (List (List ℕ))). r ++ next.0.rounds) (sym is_a.has_rounds);
       same_hello = λ some.
           is_b.has_hello ∙ ap (λ (x : ChannelProgress). x.hello) same.0
           ∙ hello_stays mid next.0 next.3.front next.3.leads (λ none. some (is_a.has_hello ∙ none)) ∙ sym is_a.has_hello;
@@ -167,6 +166,7 @@ round_of_more {X} before now more k e below = (
   ap (λ (rounds : List (List X)). get_or rounds k []) e ∙ get_or_append_left before more [] k below,
 )
 
+-- a round of a channel stays if more bytes follow
 pub round_stays : (given : Settings) (text more : List ℕ) (k : ℕ) (round : List (List ℕ)) → IsPageSize given.page_size → HasRound given text k round
     → HasRound given (text ++ more) k round
 round_stays given text more k round size has =

@@ -1,7 +1,6 @@
 -- What is read of a main stream stays read if more bytes follow, or it ends.
 use Rattle.std.proofs.Common.{◌≡◌, ◌≢◌, ℕ, Bool, true, false, List, [], ◌++◌, None, refl, sym, ap, subst, ◌∙◌, inl, inr}
 use Rattle.std.proofs.lemmas.Bool.{cases_Bool}
-use Rattle.std.proofs.lemmas.List.{append-nil}
 use Rattle.mig_mem.specs.PageSize.{IsPageSize}
 use Rattle.mig_stream.specs.declared.item.StreamState.{StreamState}
 use Rattle.mig_stream.specs.declared.item.StreamState.TheVariants.{Reading, Closed, Bad}
@@ -11,21 +10,13 @@ use Rattle.mig_stream.specs.Reader.{HasRound}
 use Rattle.mig_stream.specs.Law.{StaysRead}
 use Rattle.mig_stream.proofs.Exists.{one_reading_law}
 use Rattle.mig_stream.proofs.Limits.{limits_law}
-use Rattle.mig_stream.proofs.Longer.{longer_law}
+use Rattle.mig_stream.proofs.Longer.{longer_law, stays_over}
 use Rattle.mig_single_load.specs.Settings.{main_of}
 use Rattle.mig_single_load.specs.declared.settings.LoadSettings.{LoadSettings}
 use Rattle.mig_answer.specs.Texts.{Text, IsMainReading}
 use Rattle.mig_answer.specs.Growing.{GoesOn}
 use Rattle.mig_answer.proofs.OneAnswer.{same_main}
 use Rattle.mig_answer.proofs.GrowingChannels.{round_of_more}
-
-stays_same : (a b : StreamReading) → b ≡ a → StaysRead a b
-stays_same a b e = record {
-  more_rounds = [];
-  has_rounds = ap (λ (x : StreamReading). x.rounds) e ∙ sym (append-nil a.rounds);
-  same_table = λ table t. ap (λ (x : StreamReading). x.table) e ∙ t;
-  same_once_over = λ _. e;
-}
 
 -- an end changes nothing if a stream isn't to be read on
 state_stays : (ended : Bool) (s : StreamState) → s ≢ Reading → state_at ended s ≡ s
@@ -48,7 +39,7 @@ pub main_stays : (given : LoadSettings) (old new : Text) (before now : StreamRea
 main_stays given old new before now size goes is_before is_now = elim (cases_Bool old.ended) [
   | inl t ↦
       let again : IsMainReading given old now = subst (λ (text : Text). IsMainReading given text now) (goes.stays_ended t) is_now in
-      stays_same before now (same_main given old now before size again is_before)
+      stays_over before now (same_main given old now before size again is_before)
   | inr f ↦
       let x : StreamReading = is_before.found in
       let y : StreamReading = is_now.found in
@@ -68,12 +59,14 @@ main_stays given old new before now size goes is_before is_now = elim (cases_Boo
 ]
 
 -- there is no round before the table is known
-pub main_table_first : (given : LoadSettings) (text : Text) (reading : StreamReading) → IsPageSize given.page_size → IsMainReading given text reading → reading.table ≡ None
+pub main_table_first : (given : LoadSettings) (text : Text) (reading : StreamReading) → IsPageSize given.page_size
+    → IsMainReading given text reading → reading.table ≡ None
     → reading.rounds ≡ []
 main_table_first given text reading size is none =
     let limits = limits_law (main_of given) text.bytes is.found size is.is_reading in
     ap (λ (r : StreamReading). r.rounds) is.has_end ∙ limits.has_table_first (sym (ap (λ (r : StreamReading). r.table) is.has_end) ∙ none)
 
+-- a round of the main stream stays if more bytes follow
 pub main_round_stays : (given : Settings) (text more : List ℕ) (k : ℕ) (round : List PageRecord) → IsPageSize given.page_size → HasRound given text k round
     → HasRound given (text ++ more) k round
 main_round_stays given text more k round size has =

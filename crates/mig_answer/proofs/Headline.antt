@@ -20,11 +20,10 @@ use Rattle.mig_stream.specs.Text.{total_bytes}
 use Rattle.mig_stream.specs.Written.{single}
 use Rattle.mig_send.specs.DealtRounds.{DealtRound, IsDealtRound}
 use Rattle.mig_send.specs.ReadBack.{SendingsAreReadBack, MachineSendingsAreReadBack}
-use Rattle.mig_single_load.specs.Settings.{ram_settings}
 use Rattle.mig_single_load.specs.declared.loaded.Loaded.{Loaded}
 use Rattle.mig_answer.specs.declared.verdict.Verdict.{Verdict}
 use Rattle.mig_answer.specs.declared.verdict.Verdict.TheVariants.{Done}
-use Rattle.mig_single_load.specs.SingleLoad.{loaded}
+use Rattle.mig_single_load.specs.SingleLoad.{HasLoadedRounds}
 use Rattle.mig_answer.specs.declared.status.Status.TheVariants.{Whole, Clean}
 use Rattle.mig_answer.specs.Status.{is_whole, is_clean, is_pending, fault_of}
 use Rattle.mig_answer.specs.Texts.{ended_texts, Readings, AreReadings}
@@ -53,7 +52,8 @@ passed table limit channels rounds readings is k below =
     (whole_below table channels k rounds readings is.told below)) in
     let hellos = hellos_differ table channels rounds readings is.told in
     let lawful : refusal_at k readings ≡ None =
-    ap (λ (r : StreamReading). option_and_then (λ t. refusal_of t k readings) r.table) is.told.has_main ∙ lawful_round table limit channels rounds readings is k below in
+    ap (λ (r : StreamReading). option_and_then (λ t. refusal_of t k readings) r.table) is.told.has_main
+    ∙ lawful_round table limit channels rounds readings is k below in
     rw (whole, hellos, lawful) refl
 
 no_faults : (k : ℕ) (sources : List Standing) → All (λ (s : Standing). s.status ≡ Clean) sources → first_some (map (failed_with_own k) sources) ≡ None
@@ -62,6 +62,7 @@ no_faults k (s ∷ sources) all =
     let here : fault_of s.status ≡ None = ap fault_of (All-head (λ (x : Standing). x.status ≡ Clean) s sources all) in
     rw here (no_faults k sources (All-tail (λ (x : Standing). x.status ≡ Clean) s sources all))
 
+-- after the last round of a sending the verdict is Done
 pub done_is : (table : RamTable) (limit channels : ℕ) (rounds : List DealtRound) (readings : Readings) → AreOfSending table limit channels rounds readings
     → verdict_at (length rounds) readings ≡ Done
 done_is table limit channels rounds readings is =
@@ -81,15 +82,18 @@ stops : (table : RamTable) (limit channels : ℕ) (rounds : List DealtRound) (re
     → IsFirstStop readings (length rounds)
 stops table limit channels rounds readings is =
     let main : (main_at (length rounds) readings).status ≡ Clean =
-    All-head (λ (s : Standing). s.status ≡ Clean) (main_at (length rounds) readings) (channels_at (length rounds) readings) (clean_at_end table channels rounds readings is.told) in
+    All-head (λ (s : Standing). s.status ≡ Clean) (main_at (length rounds) readings) (channels_at (length rounds) readings)
+    (clean_at_end table channels rounds readings is.told) in
     let not_whole : is_whole (main_at (length rounds) readings).status ≡ false = ap is_whole main in
     record { before = λ k below. passed table limit channels rounds readings is k below; here = rw not_whole refl }
 
 -- ---- the law
 
 -- what streams of a sending say, they say of its rounds
-pub of_told : (frame : Frame) (table : RamTable) (uuid : List ℕ) (limit : ℕ) (rounds : List DealtRound) (main : List ℕ) (channels : List (List ℕ)) (readings : Readings)
-    → (sent : IsReadAsSent frame table uuid limit rounds main channels) → AreToldOf table (length channels) rounds readings → AreOfSending table sent.batch_limit (length channels) rounds readings
+pub of_told : (frame : Frame) (table : RamTable) (uuid : List ℕ) (limit : ℕ) (rounds : List DealtRound) (main : List
+    ℕ) (channels : List (List ℕ)) (readings : Readings)
+    → (sent : IsReadAsSent frame table uuid limit rounds main channels) → AreToldOf table (length channels) rounds readings
+    → AreOfSending table sent.batch_limit (length channels) rounds readings
 of_told frame table uuid limit rounds main channels readings sent told = record {
   told = told;
   are_dealt = sent.is_sending.are_dealt;
@@ -99,14 +103,21 @@ of_told frame table uuid limit rounds main channels readings sent told = record 
       (All-get_or (IsDealtRound table sent.batch_limit (length channels)) rounds k (no_round table) below sent.is_sending.are_dealt);
 }
 
-pub of_read : (frame : Frame) (table : RamTable) (uuid : List ℕ) (limit : ℕ) (rounds : List DealtRound) (main : List ℕ) (channels : List (List ℕ)) (readings : Readings)
-    → (sent : IsReadAsSent frame table uuid limit rounds main channels) → AreReadings (framed frame table.page_size limit) uuid (ended_texts main channels) readings
+-- readings of streams that are read as they were sent, and have ended, are those of a sending of
+-- these rounds
+pub of_read : (frame : Frame) (table : RamTable) (uuid : List ℕ) (limit : ℕ) (rounds : List DealtRound) (main : List
+    ℕ) (channels : List (List ℕ)) (readings : Readings)
+    → (sent : IsReadAsSent frame table uuid limit rounds main channels)
+    → AreReadings (framed frame table.page_size limit) uuid (ended_texts main channels) readings
     → AreOfSending table sent.batch_limit (length channels) rounds readings
 of_read frame table uuid limit rounds main channels readings sent are =
     of_told frame table uuid limit rounds main channels readings sent (told_of frame table uuid limit rounds main channels readings sent are)
 
-pub read_law : (frame : Frame) (table : RamTable) (uuid : List ℕ) (limit : ℕ) (rounds : List DealtRound) (main : List ℕ) (channels : List (List ℕ)) (answer : Answer)
-    → IsReadAsSent frame table uuid limit rounds main channels → IsAnswer (framed frame table.page_size limit) uuid (ended_texts main channels) answer → answer ≡ sent_answer table rounds
+-- streams that are read as they were sent have the sending's answer alone
+pub read_law : (frame : Frame) (table : RamTable) (uuid : List ℕ) (limit : ℕ) (rounds : List DealtRound) (main : List
+    ℕ) (channels : List (List ℕ)) (answer : Answer)
+    → IsReadAsSent frame table uuid limit rounds main channels
+    → IsAnswer (framed frame table.page_size limit) uuid (ended_texts main channels) answer → answer ≡ sent_answer table rounds
 read_law frame table uuid limit rounds main channels answer sent answers =
     let size : IsPageSize table.page_size = sent.is_sending.is_set.has_table.has_page_size in
     let readings : Readings = answers.readings in
@@ -116,9 +127,11 @@ read_law frame table uuid limit rounds main channels answer sent answers =
     let memory : memory_at n readings ≡ Some (after table (sent_rounds rounds)) =
     ap (λ (r : StreamReading). option_map (λ t. after t (map (λ i. pages_at t i readings) (range_with_len 0 n))) r.table) is.told.has_main
     ∙ ap (λ (m : Image). Some m) (memory_is table sent.batch_limit (length channels) rounds readings is) in
-    is_answer_at (framed frame table.page_size limit) uuid (ended_texts main channels) readings n answer size answers.are_readings (stops table sent.batch_limit (length channels) rounds readings is) answers
+    is_answer_at (framed frame table.page_size limit) uuid (ended_texts main channels) readings n answer size answers.are_readings
+    (stops table sent.batch_limit (length channels) rounds readings is) answers
     ∙ ap (λ (m : Option Image). record { memory = m; rounds = n; verdict = verdict_at n readings }) memory
-    ∙ ap (λ (v : Verdict). record { memory = Some (after table (sent_rounds rounds)); rounds = n; verdict = v }) (done_is table sent.batch_limit (length channels) rounds readings is)
+    ∙ ap (λ (v : Verdict). record { memory = Some (after table (sent_rounds rounds)); rounds = n; verdict = v })
+    (done_is table sent.batch_limit (length channels) rounds readings is)
 
 -- ---- a main stream of RAM's sections alone
 
@@ -136,19 +149,16 @@ as_sent back table uuid limit rounds main channels sent room =
       channels_are_read = read.channels_are_read;
     }
 
-pub of_sending : SendingsAreReadBack → (table : RamTable) (uuid : List ℕ) (limit : ℕ) (rounds : List DealtRound) (main : List ℕ) (channels : List (List ℕ)) (readings : Readings)
-    → (sent : IsSentInAnyOrder table uuid rounds main channels) → total_bytes table ≤ limit → AreReadings (ram_settings table.page_size limit) uuid (ended_texts main channels) readings
-    → AreOfSending table sent.batch_limit (length channels) rounds readings
-of_sending back table uuid limit rounds main channels readings sent room are =
-    of_read Ram table uuid limit rounds main channels readings (as_sent back table uuid limit rounds main channels sent room) are
-
+-- if sendings are read back, the streams that were sent, in any order of their channels, are
+-- loaded: done, with all rounds
 pub sendings_law : SendingsAreReadBack → SendingsAreLoaded
 sendings_law back = λ table uuid limit rounds main channels answer sent room answers.
     read_law Ram table uuid limit rounds main channels answer (as_sent back table uuid limit rounds main channels sent room) answers
 
 -- ---- a machine's main stream
 
-abbrev pub machine_as_sent : MachineSendingsAreReadBack → (table : RamTable) (uuid : List ℕ) (limit : ℕ) (rounds : List DealtRound) (main : List ℕ) (channels : List (List ℕ))
+abbrev pub machine_as_sent : MachineSendingsAreReadBack
+    → (table : RamTable) (uuid : List ℕ) (limit : ℕ) (rounds : List DealtRound) (main : List ℕ) (channels : List (List ℕ))
     → IsMachineSentInAnyOrder table uuid rounds main channels → total_bytes table ≤ limit → IsReadAsSent Machine table uuid limit rounds main channels
 machine_as_sent back table uuid limit rounds main channels sent room =
     let read = back sent.name table uuid sent.batch_limit (length channels) rounds sent.ram sent.in_order sent.has_name sent.is_sending in
@@ -158,7 +168,8 @@ machine_as_sent back table uuid limit rounds main channels sent room =
       in_order = sent.in_order;
       is_sending = sent.is_sending.is_sending;
       is_permutation = sent.is_permutation;
-      main_is_read = subst (λ (bytes : List ℕ). IsReading (in_frame Machine (settings Main table.page_size limit)) bytes (closed table (replicate (length rounds) [])))
+      main_is_read = subst (λ (bytes : List ℕ). IsReading (in_frame Machine (settings Main table.page_size limit)) bytes
+          (closed table (replicate (length rounds) [])))
           (sym sent.has_main) (read.0 limit sent.behind room);
       channels_are_read = read.1.channels_are_read;
     }
@@ -166,30 +177,37 @@ machine_as_sent back table uuid limit rounds main channels sent room =
 -- ---- beside the single stream
 
 -- what was dealt of a table are rounds of it
-dealt_rounds : (table : RamTable) (limit channels : ℕ) (rounds : List DealtRound) → All (IsDealtRound table limit channels) rounds → All (IsRound table) (sent_rounds rounds)
+dealt_rounds : (table : RamTable) (limit channels : ℕ) (rounds : List DealtRound) → All (IsDealtRound table limit channels) rounds
+    → All (IsRound table) (sent_rounds rounds)
 dealt_rounds table limit channels [] all = All-nil (IsRound table)
 dealt_rounds table limit channels (r ∷ rounds) all =
     let dealt : IsDealtRound table limit channels r = All-head (IsDealtRound table limit channels) r rounds all in
     let here : IsRound r.snapshot.image.table (round_of r.snapshot.image r.snapshot.dirty) =
-    image_round r.snapshot.image r.snapshot.dirty dealt.has_image (subst (λ (t : RamTable). All (IsPlace t) r.snapshot.dirty) (sym dealt.has_table) dealt.has_places.is_within) in
+    image_round r.snapshot.image r.snapshot.dirty dealt.has_image
+    (subst (λ (t : RamTable). All (IsPlace t) r.snapshot.dirty) (sym dealt.has_table) dealt.has_places.is_within) in
     All-cons (IsRound table) (round_of r.snapshot.image r.snapshot.dirty) (sent_rounds rounds)
     (subst (λ (t : RamTable). IsRound t (round_of r.snapshot.image r.snapshot.dirty)) dealt.has_table here)
     (dealt_rounds table limit channels rounds (All-tail (IsDealtRound table limit channels) r rounds all))
 
+-- if sendings are read back, their load has the memory and the verdict that the load of the
+-- single stream of these rounds has
 pub one_stream_law : {A : Type 0} → SendingsAreReadBack → ChannelsLoadAsOneStream A
 one_stream_law back = λ table uuid limit limit_alone rounds main channels answer alone sent room room_alone answers alone_answers.
     let is_table : IsTable table = sent.is_sending.is_set.has_table in
     let several : answer ≡ sent_answer table rounds = sendings_law back table uuid limit rounds main channels answer sent room answers in
     let all : All (IsRound table) (sent_rounds rounds) = dealt_rounds table sent.batch_limit (length channels) rounds sent.is_sending.are_dealt in
-    let one : alone ≡ loaded table (sent_rounds rounds) =
-    sent_answer_is table.page_size limit_alone (single table (sent_rounds rounds)) alone is_table.has_page_size alone_answers table (sent_rounds rounds) is_table refl room_alone all refl in
+    let one : HasLoadedRounds table (sent_rounds rounds) alone =
+    sent_answer_is table.page_size limit_alone
+    (single table (sent_rounds rounds)) alone is_table.has_page_size alone_answers table (sent_rounds rounds) is_table refl room_alone all refl in
     let snapshots = map (λ (r : DealtRound). r.snapshot) rounds in
-    let many : length (sent_rounds rounds) ≡ length rounds = length-map snapshots (λ s. round_of s.image s.dirty) ∙ length-map rounds (λ (r : DealtRound). r.snapshot) in (
-      ap (λ (a : Answer). a.memory) several ∙ sym (ap (λ (a : Loaded _). a.memory) one),
-      ap (λ (a : Answer). a.rounds + 2) several ∙ ap (λ n. n + 2) (sym many) ∙ sym (ap (λ (a : Loaded _). a.rounds) one),
+    let many : length (sent_rounds rounds) ≡ length rounds = length-map snapshots (λ s. round_of s.image s.dirty)
+    ∙ length-map rounds (λ (r : DealtRound). r.snapshot) in (
+      ap (λ (a : Answer). a.memory) several ∙ sym one.has_memory,
+      ap (λ (a : Answer). a.rounds + 2) several ∙ ap (λ n. n + 2) (sym many) ∙ sym one.has_rounds,
       ap (λ (a : Answer). a.verdict) several,
-      ap (λ (a : Loaded _). a.verdict) one,
+      one.has_verdict,
     )
 
+-- what the sender on several channels writes is loaded as it was sent
 pub sendings_are_loaded : SendingsAreLoaded
 sendings_are_loaded = sendings_law (sendings_are_read_back (λ limit table n is room. written_main table n limit is room) spelled_law)

@@ -9,7 +9,8 @@ use Rattle.mig_answer.specs.MultiLoad.{is_same_id, comes_again, repeated_hello}
 
 -- ---- the first number that passes
 
-find_there : (test : ℕ → Bool) (a n j : ℕ) → a ≤ j → j < a + n → ((i : ℕ) → a ≤ i → i < j → test i ≡ false) → test j ≡ true → find test (range_with_len a n) ≡ Some j
+find_there : (test : ℕ → Bool) (a n j : ℕ) → a ≤ j → j < a + n → ((i : ℕ) → a ≤ i → i < j → test i ≡ false) → test j ≡ true
+    → find test (range_with_len a n) ≡ Some j
 find_there test a zero j low high before here = absurd (omega (arith, low, high))
 find_there test a (suc n) j low high before here = elim (cases_eq a j) [
   | inl same ↦ cond-true (test a) (Some a) (find test (range_with_len (a + 1) n)) (ap test same ∙ here) ∙ ap (λ (i : ℕ). Some i) same
@@ -23,11 +24,13 @@ find_nowhere test a (suc n) none =
     cond-false (test a) (Some a) (find test (range_with_len (a + 1) n)) (none a (omega arith) (omega arith))
     ∙ find_nowhere test (a + 1) n (λ i from to. none i (omega (arith, from)) (omega (arith, to)))
 
-or_false : (b : Bool) → (b || false) ≡ b
+-- a test or false is the test
+pub or_false : (b : Bool) → (b || false) ≡ b
 or_false true = refl
 or_false false = refl
 
-or_true : (b : Bool) → (b || true) ≡ true
+-- a test or true is true
+pub or_true : (b : Bool) → (b || true) ≡ true
 or_true true = refl
 or_true false = refl
 
@@ -59,14 +62,18 @@ until j P before here i below = elim (cases_eq i j) [
   | inr differ ↦ before i (omega (arith, below, differ))
 ]
 
-pub seen_more_none : (j : ℕ) (ids : List (Option ℕ)) (seen : List Bool) → HaveSeen j ids seen → j < length ids → get_or ids j None ≡ None → HaveSeen (j + 1) ids seen
+-- a channel without a hello adds no id to those that were seen
+pub seen_more_none : (j : ℕ) (ids : List (Option ℕ)) (seen : List Bool) → HaveSeen j ids seen → j < length ids
+    → get_or ids j None ≡ None → HaveSeen (j + 1) ids seen
 seen_more_none j ids seen have below is = record {
   has_all = have.has_all;
   are_seen = λ id few. have.are_seen id few ∙ sym (one_more j ids None id below is ∙ or_false (list_any (is_same_id (Some id)) (take j ids)));
   none_again = until j (λ i. comes_again ids i ≡ false) have.none_again (again_is j ids None is ∙ no_id (take j ids));
 }
 
-pub seen_more : (j id : ℕ) (ids : List (Option ℕ)) (seen : List Bool) → HaveSeen j ids seen → j < length ids → get_or ids j None ≡ Some id → id < 256 → get_or seen id false ≡ false
+-- a hello whose id is new adds it to the ids that were seen
+pub seen_more : (j id : ℕ) (ids : List (Option ℕ)) (seen : List Bool) → HaveSeen j ids seen → j < length ids
+    → get_or ids j None ≡ Some id → id < 256 → get_or seen id false ≡ false
     → HaveSeen (j + 1) ids (set seen id true)
 seen_more j id ids seen have below is few not_seen = record {
   has_all = length-set seen id true ∙ have.has_all;
@@ -86,12 +93,14 @@ seen_more j id ids seen have below is few not_seen = record {
 }
 
 -- the first that comes again
-pub seen_again : (j id : ℕ) (ids : List (Option ℕ)) (seen : List Bool) → HaveSeen j ids seen → j < length ids → get_or ids j None ≡ Some id → id < 256 → get_or seen id false ≡ true
+pub seen_again : (j id : ℕ) (ids : List (Option ℕ)) (seen : List Bool) → HaveSeen j ids seen → j < length ids
+    → get_or ids j None ≡ Some id → id < 256 → get_or seen id false ≡ true
     → Some j ≡ repeated_hello ids
 seen_again j id ids seen have below is few was_seen =
     sym (find_there (comes_again ids) 0 (length ids) j (omega arith) (omega (arith, below)) (λ i from to. have.none_again i to)
     (again_is j ids (Some id) is ∙ sym (have.are_seen id few) ∙ was_seen))
 
+-- if all channels were seen without an id twice, no hello is repeated
 pub seen_none : (j : ℕ) (ids : List (Option ℕ)) (seen : List Bool) → HaveSeen j ids seen → length ids ≤ j → None ≡ repeated_hello ids
 seen_none j ids seen have all = sym (find_nowhere (comes_again ids) 0 (length ids) (λ i from to. have.none_again i (omega (arith, to, all))))
 

@@ -20,9 +20,10 @@ use Rattle.mig_answer.specs.declared.status.Status.{Status}
 use Rattle.mig_answer.specs.Status.{channel_status, is_whole, is_clean, is_pending, fault_of}
 use Rattle.mig_answer.specs.Texts.{Readings}
 use Rattle.mig_answer.specs.Rounds.{refusal_at}
-use Rattle.mig_answer.specs.MultiLoad.{Standing, main_at, channels_at, sources_at, hello_ids, repeated_hello, verdicts_told, verdicts_at, verdict_at, failed, failed_at_first, failed_with_own}
+use Rattle.mig_answer.specs.MultiLoad.{Standing, main_at, channels_at, sources_at, hello_ids, repeated_hello, sources_verdicts, verdicts_at, verdict_at, failed, failed_at_first, failed_with_own}
 use Rattle.mig_answer.proofs.Statuses.{first_is}
 
+-- equal failed verdicts have equal faults
 pub same_found : (a b : LoadFault) → Failed a ≡ Failed b → a ≡ b
 same_found a b e = cc
 
@@ -43,7 +44,8 @@ all_of_sources k readings = All-cons IsOfSource (main_at k readings) (channels_a
 
 -- no verdict at round k is this one, where neither running is it, nor a failure of a source, nor
 -- one with another fault than NoMemory
-module _ (that : Verdict) (k : ℕ) (running : Running ≢ that) (fails : (from : Origin) (f : Fault) → (from ≢ origin.Round) ⊎ (f ≢ fault.NoMemory) → failed k from f ≢ that) where
+module _ (that : Verdict) (k : ℕ) (running : Running ≢ that) (fails : (from : Origin) (f : Fault)
+    → (from ≢ origin.Round) ⊎ (f ≢ fault.NoMemory) → failed k from f ≢ that) where
   abbrev IsOther : Option Verdict → Type 0
   IsOther o = (v : Verdict) → o ≡ Some v → v ≢ that
 
@@ -69,13 +71,16 @@ module _ (that : Verdict) (k : ℕ) (running : Running ≢ that) (fails : (from 
   other_own [] of_sources = All-nil IsOther
   other_own (s ∷ sources) of_sources =
       All-cons IsOther (failed_with_own k s) (map (failed_with_own k) sources)
-      (other_map (failed k s.source) (fault_of s.status) (λ f. fails s.source f (inl (All-head IsOfSource s sources of_sources)))) (other_own sources (All-tail IsOfSource s sources of_sources))
+      (other_map (failed k s.source) (fault_of s.status) (λ f. fails s.source f (inl (All-head IsOfSource s sources of_sources))))
+      (other_own sources (All-tail IsOfSource s sources of_sources))
 
   other_first : (test : Status → Bool) (f : Fault) (sources : List Standing) → f ≢ fault.NoMemory → IsOther (failed_at_first k test f sources)
-  other_first test f sources other = other_map (λ (s : Standing). failed k s.source f) (find (λ (s : Standing). test s.status) sources) (λ s. fails s.source f (inr other))
+  other_first test f sources other = other_map (λ (s : Standing). failed k s.source f)
+      (find (λ (s : Standing). test s.status) sources) (λ s. fails s.source f (inr other))
 
-  others_told : (m : Standing) (cs : List Standing) (repeated : Option ℕ) → All IsOfSource (m ∷ cs) → (list_all (λ (s : Standing). is_clean s.status) (m ∷ cs) ≡ true → Done ≢ that)
-      → All IsOther (verdicts_told k m cs repeated)
+  others_told : (m : Standing) (cs : List Standing) (repeated : Option ℕ) → All IsOfSource (m ∷ cs)
+      → (list_all (λ (s : Standing). is_clean s.status) (m ∷ cs) ≡ true → Done ≢ that)
+      → All IsOther (sources_verdicts k m cs repeated)
   others_told m cs repeated of_sources done =
       let a1 : Option Verdict = then_some (list_any (λ (s : Standing). is_pending s.status) (m ∷ cs)) Running in
       let a2 : Option Verdict = first_some (map (failed_with_own k) (m ∷ cs)) in
@@ -84,11 +89,15 @@ module _ (that : Verdict) (k : ℕ) (running : Running ≢ that) (fails : (from 
       let a5 : Option Verdict = cond (is_clean m.status) (failed_at_first k is_whole fault.Extra cs) None in
       let a6 : Option Verdict = cond (is_whole m.status) (failed_at_first k is_clean fault.Short cs) None in
       All-cons IsOther a1 (a2 ∷ a3 ∷ a4 ∷ a5 ∷ a6 ∷ []) (other_then (list_any (λ (s : Standing). is_pending s.status) (m ∷ cs)) Running (λ _. running)) (
-      All-cons IsOther a2 (a3 ∷ a4 ∷ a5 ∷ a6 ∷ []) (λ v e. first_is (λ (x : Verdict). x ≢ that) (map (failed_with_own k) (m ∷ cs)) v (other_own (m ∷ cs) of_sources) e) (
-      All-cons IsOther a3 (a4 ∷ a5 ∷ a6 ∷ []) (other_map (λ j. failed k (origin.Channel j) fault.HelloTwice) repeated (λ j. fails (origin.Channel j) fault.HelloTwice (inr (λ e. absurd cc)))) (
+      All-cons IsOther a2 (a3 ∷ a4 ∷ a5 ∷ a6 ∷ [])
+      (λ v e. first_is (λ (x : Verdict). x ≢ that) (map (failed_with_own k) (m ∷ cs)) v (other_own (m ∷ cs) of_sources) e) (
+      All-cons IsOther a3 (a4 ∷ a5 ∷ a6 ∷ []) (other_map (λ j. failed k (origin.Channel j) fault.HelloTwice) repeated
+      (λ j. fails (origin.Channel j) fault.HelloTwice (inr (λ e. absurd cc)))) (
       All-cons IsOther a4 (a5 ∷ a6 ∷ []) (other_then (list_all (λ (s : Standing). is_clean s.status) (m ∷ cs)) Done done) (
-      All-cons IsOther a5 (a6 ∷ []) (other_if (is_clean m.status) (failed_at_first k is_whole fault.Extra cs) (other_first is_whole fault.Extra cs (λ e. absurd cc))) (
-      All-cons IsOther a6 [] (other_if (is_whole m.status) (failed_at_first k is_clean fault.Short cs) (other_first is_clean fault.Short cs (λ e. absurd cc))) (All-nil IsOther))))))
+      All-cons IsOther a5 (a6 ∷ []) (other_if (is_clean m.status) (failed_at_first k is_whole fault.Extra cs)
+      (other_first is_whole fault.Extra cs (λ e. absurd cc))) (
+      All-cons IsOther a6 [] (other_if (is_whole m.status) (failed_at_first k is_clean fault.Short cs)
+      (other_first is_clean fault.Short cs (λ e. absurd cc))) (All-nil IsOther))))))
 
   other_or_running : (o : Option Verdict) → IsOther o → unwrap_or o Running ≢ that
   other_or_running None other = running
@@ -96,11 +105,13 @@ module _ (that : Verdict) (k : ℕ) (running : Running ≢ that) (fails : (from 
 
   never : (readings : Readings) → (list_all (λ (s : Standing). is_clean s.status) (sources_at k readings) ≡ true → Done ≢ that) → verdict_at k readings ≢ that
   never readings done =
-      let told : List (Option Verdict) = verdicts_told k (main_at k readings) (channels_at k readings) (repeated_hello (hello_ids readings)) in
+      let told : List (Option Verdict) = sources_verdicts k (main_at k readings) (channels_at k readings) (repeated_hello (hello_ids readings)) in
       let last : Option Verdict = option_map (λ f. failed k origin.Round (fault.Round f)) (refusal_at k readings) in
       let all : All IsOther (verdicts_at k readings) =
-      All-append IsOther told (last ∷ []) (others_told (main_at k readings) (channels_at k readings) (repeated_hello (hello_ids readings)) (all_of_sources k readings) done)
-      (All-cons IsOther last [] (other_map (λ (f : RoundFault). failed k origin.Round (fault.Round f)) (refusal_at k readings) (λ f. fails origin.Round (fault.Round f) (inr (λ e. absurd cc)))) (All-nil IsOther)) in
+      All-append IsOther told (last ∷ []) (others_told (main_at k readings) (channels_at k readings)
+      (repeated_hello (hello_ids readings)) (all_of_sources k readings) done)
+      (All-cons IsOther last [] (other_map (λ (f : RoundFault). failed k origin.Round (fault.Round f)) (refusal_at k readings)
+      (λ f. fails origin.Round (fault.Round f) (inr (λ e. absurd cc)))) (All-nil IsOther)) in
       other_or_running (first_some (verdicts_at k readings)) (λ v e. first_is (λ (x : Verdict). x ≢ that) (verdicts_at k readings) v all e)
 
 -- it is done only where all sources are clean

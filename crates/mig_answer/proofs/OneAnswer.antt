@@ -21,6 +21,7 @@ use Rattle.mig_answer.proofs.Statuses.{status_end, stream_ends}
 
 -- ---- one reading of each stream
 
+-- a main stream has a reading
 pub main_reading : (given : LoadSettings) (text : Text) → IsPageSize given.page_size → (reading : StreamReading) × IsMainReading given text reading
 main_reading given text size =
     let one = stream_law (main_of given) text.bytes size in (
@@ -28,7 +29,9 @@ main_reading given text size =
       record { found = one.0; is_reading = one.1; has_end = refl },
     )
 
-pub same_main : (given : LoadSettings) (text : Text) (a b : StreamReading) → IsPageSize given.page_size → IsMainReading given text a → IsMainReading given text b → a ≡ b
+-- a main stream has one reading alone
+pub same_main : (given : LoadSettings) (text : Text) (a b : StreamReading) → IsPageSize given.page_size
+    → IsMainReading given text a → IsMainReading given text b → a ≡ b
 same_main given text a b size is_a is_b =
     let one = stream_law (main_of given) text.bytes size in
     let same : is_a.found ≡ is_b.found = one.2 is_a.found is_a.is_reading ∙ sym (one.2 is_b.found is_b.is_reading) in
@@ -45,7 +48,9 @@ channels_read : (given : Settings) (size : IsPageSize given.page_size) (texts : 
 channels_read given size [] = tt
 channels_read given size (text ∷ texts) = ((channel_law given text.bytes text.ended size).1, channels_read given size texts)
 
-pub channels_are : (given : Settings) (size : IsPageSize given.page_size) (texts : List Text) (readings : List ChannelReading) → AreChannels given texts readings
+-- the readings of channels are those of their streams, one by one
+pub channels_are : (given : Settings) (size : IsPageSize given.page_size) (texts : List Text) (readings : List ChannelReading)
+    → AreChannels given texts readings
     → readings ≡ map (channel_reading given size) texts
 channels_are given size [] [] zip = refl
 channels_are given size [] (reading ∷ readings) zip = absurd zip
@@ -55,7 +60,9 @@ channels_are given size (text ∷ texts) (reading ∷ readings) zip =
     ap (λ (r : ChannelReading). r ∷ readings) here
     ∙ ap (λ (rs : List ChannelReading). channel_reading given size text ∷ rs) (channels_are given size texts readings zip.1)
 
-pub some_readings : (given : LoadSettings) (uuid : List ℕ) (texts : Texts) → IsPageSize given.page_size → (readings : Readings) × AreReadings given uuid texts readings
+-- any streams have readings
+pub some_readings : (given : LoadSettings) (uuid : List ℕ) (texts : Texts) → IsPageSize given.page_size
+    → (readings : Readings) × AreReadings given uuid texts readings
 some_readings given uuid texts size =
     let channel_given = channel_of given uuid (length texts.channels) in
     let main = main_reading given texts.main size in (
@@ -63,13 +70,15 @@ some_readings given uuid texts size =
       record { has_main = main.1; has_channels = channels_read channel_given size texts.channels },
     )
 
+-- streams have one reading alone
 pub same_readings : (given : LoadSettings) (uuid : List ℕ) (texts : Texts) (a b : Readings) → IsPageSize given.page_size
     → AreReadings given uuid texts a → AreReadings given uuid texts b → a ≡ b
 same_readings given uuid texts a b size are_a are_b =
     let channel_given = channel_of given uuid (length texts.channels) in
     let main : a.main ≡ b.main = same_main given texts.main a.main b.main size are_a.has_main are_b.has_main in
     let channels : a.channels ≡ b.channels =
-    channels_are channel_given size texts.channels a.channels are_a.has_channels ∙ sym (channels_are channel_given size texts.channels b.channels are_b.has_channels) in
+    channels_are channel_given size texts.channels a.channels are_a.has_channels
+    ∙ sym (channels_are channel_given size texts.channels b.channels are_b.has_channels) in
     ap (λ (m : StreamReading). record { main = m; channels = a.channels }) main
     ∙ ap (λ (cs : List ChannelReading). record { main = b.main; channels = cs }) channels
 
@@ -96,6 +105,7 @@ scan test (suc n) = elim (scan test n) [
 least : (test : ℕ → Bool) (n : ℕ) → IsFalse (test n) → (k : ℕ) × Stops test k
 least test n f = elim (scan test n) [ inl found ↦ found | inr all ↦ (n, record { before = all; here = f }) ]
 
+-- the first round that stops is one alone
 pub same_stop : (readings : Readings) (j k : ℕ) → IsFirstStop readings j → IsFirstStop readings k → j ≡ k
 same_stop readings j k a b = elim (cases_order j k) [
   | inl e ↦ e
@@ -135,6 +145,7 @@ is_answer_at given uuid texts readings k answer size are stop is =
     (is.has_memory ∙ ap (λ (r : Readings). memory_at answer.rounds r) same)
     (is.has_verdict ∙ ap (λ (r : Readings). verdict_at answer.rounds r) same)
 
+-- streams have one answer alone
 pub one_answer_law : HasOneAnswer
 one_answer_law = λ given uuid texts size.
     let found = some_readings given uuid texts size in

@@ -42,6 +42,7 @@ channel_rounds : (k : ℕ) (main : StreamReading) (readings : List ChannelReadin
 channel_rounds k main [] some clean = absurd (omega (arith, some))
 channel_rounds k main (reading ∷ readings) some clean = (clean_at k (length reading.rounds) (channel_end reading.state) (and_parts _ _ clean).0).0
 
+-- streams that are done with one end of rounds aren't done with the other
 pub one_round_end_law : DoneByOneRoundEnd
 one_round_end_law given uuid texts by_flush by_eos size limit bytes some a a_done b b_done =
     let clean_a = and_parts _ _ (done_is_clean by_flush.rounds a.readings (sym a.has_verdict ∙ a_done)) in
@@ -53,7 +54,10 @@ one_round_end_law given uuid texts by_flush by_eos size limit bytes some a a_don
     let channels : Settings = channel_of given uuid (length texts.channels) in
     let R : Text → ChannelReading → Type 0 = λ text reading. IsReading channels text.bytes text.ended reading in
     let same : a.readings.channels ≡ b.readings.channels =
-    channels_are channels size texts.channels a.readings.channels a.are_readings.has_channels ∙ sym (channels_are channels size texts.channels b.readings.channels b.are_readings.has_channels) in
-    let few_a = channel_rounds by_flush.rounds a.readings.main a.readings.channels (omega (arith, some, AllZip-long R texts.channels a.readings.channels a.are_readings.has_channels)) clean_a.1 in
-    let few_b = channel_rounds by_eos.rounds b.readings.main b.readings.channels (omega (arith, some, AllZip-long R texts.channels b.readings.channels b.are_readings.has_channels)) clean_b.1 in
+    channels_are channels size texts.channels a.readings.channels a.are_readings.has_channels
+    ∙ sym (channels_are channels size texts.channels b.readings.channels b.are_readings.has_channels) in
+    let few_a = channel_rounds by_flush.rounds a.readings.main a.readings.channels
+    (omega (arith, some, AllZip-long R texts.channels a.readings.channels a.are_readings.has_channels)) clean_a.1 in
+    let few_b = channel_rounds by_eos.rounds b.readings.main b.readings.channels
+    (omega (arith, some, AllZip-long R texts.channels b.readings.channels b.are_readings.has_channels)) clean_b.1 in
     omega (arith, more, main_a.has_rounds, main_b.has_rounds, few_a, few_b, ap first_rounds same)

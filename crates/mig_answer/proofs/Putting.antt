@@ -12,6 +12,7 @@ use Rattle.mig_mem.specs.PlaceSet.{PlaceSet}
 use Rattle.mig_mem.specs.Image.{Page, Image, zero_image}
 use Rattle.mig_mem.specs.Round.{after, with_round}
 use Rattle.mig_mem.proofs.Rounds.{onto-push, onto-zeros, after-nil}
+use Rattle.mig_mem.proofs.Counts.{range-append}
 use Rattle.mig_stream.specs.PageRecord.{page_of}
 use Rattle.mig_stream.specs.Round.{RoundOfRecords}
 use Rattle.mig_stream.proofs.Limits.{limits_law}
@@ -26,7 +27,6 @@ use Rattle.mig_assemble.proofs.Naming.{named_by-push}
 use Rattle.mig_answer.specs.Texts.{Text, Readings, IsMainReading}
 use Rattle.mig_answer.specs.Rounds.{record_pages_at, channel_packets_at, packets_at, packet_count_at, base_at, refusal_of, refusal_at, pages_at, memory_at}
 use Rattle.mig_answer.specs.Putting.{HasLoaded}
-use Rattle.mig_answer.proofs.DealtBags.{range-append}
 
 -- ---- the memory's table
 
@@ -34,13 +34,15 @@ use Rattle.mig_answer.proofs.DealtBags.{range-append}
 pub table_is : (k : ℕ) (readings : Readings) (target : LoadTarget) → HasLoaded k readings target → readings.main.table ≡ Some target.memory.table
 table_is k readings target has = go readings.main.table has.has_memory
   where
-    go : (o : Option RamTable) → option_map (λ t. after t (map (λ i. pages_at t i readings) (range_with_len 0 k))) o ≡ Some target.memory → o ≡ Some target.memory.table
+    go : (o : Option RamTable) → option_map (λ t. after t (map (λ i. pages_at t i readings) (range_with_len 0 k))) o
+        ≡ Some target.memory → o ≡ Some target.memory.table
     go None e = absurd cc
     go (Some t) e =
         let same : after t (map (λ i. pages_at t i readings) (range_with_len 0 k)) ≡ target.memory = cc in ap (λ (m : Image). Some m.table) same
 
 -- the page size of the table
-pub size_of_table : (given : LoadSettings) (k : ℕ) (text : Text) (readings : Readings) (target : LoadTarget) → IsPageSize given.page_size → IsMainReading given text readings.main → HasLoaded k readings target
+pub size_of_table : (given : LoadSettings) (k : ℕ) (text : Text) (readings : Readings) (target : LoadTarget)
+    → IsPageSize given.page_size → IsMainReading given text readings.main → HasLoaded k readings target
     → target.memory.table.page_size ≡ given.page_size
 size_of_table given k text readings target size is has =
     let table : is.found.table ≡ Some target.memory.table = sym (ap (λ r. r.table) is.has_end) ∙ table_is k readings target has in
@@ -60,7 +62,8 @@ pages_are readings target round fits next =
 
 -- why it is refused
 pub refusal_of_round : (p : ℕ) (readings : Readings) (target : LoadTarget) (round : RoundOfRecords) (packets : List Fields) → target.memory.table.page_size ≡ p
-    → HasLoaded target.rounds readings target → FitsTable target.memory.table round → IsNext readings target round → packets ≡ packets_at p target.rounds readings
+    → HasLoaded target.rounds readings target → FitsTable target.memory.table round → IsNext readings target round
+    → packets ≡ packets_at p target.rounds readings
     → refusal_at target.rounds readings ≡ refusal target.memory.table target.base (pages_of_round round) packets
 refusal_of_round p readings target round packets size has fits next are =
     let table : RamTable = target.memory.table in
@@ -77,6 +80,7 @@ packets_counted page_size k readings =
     length-flat_map (channel_packets_at page_size k) readings.channels
     ∙ ap (λ (f : ChannelReading → ℕ). sum_by f readings.channels) (λ i reading. length-map (get_or reading.rounds k []) (fields_of page_size) i)
 
+-- the first packet number of a round is that of the round before and its count of packets
 pub base_more : (k : ℕ) (readings : Readings) → base_at k readings + packet_count_at k readings ≡ base_at (k + 1) readings
 base_more k readings =
     let count : ℕ → ℕ = λ i. packet_count_at i readings in
@@ -91,7 +95,8 @@ one_round_more table rounds round =
 
 -- with it one round more is loaded
 pub round_is_put : (p : ℕ) (readings : Readings) (target new : LoadTarget) (round : RoundOfRecords) (packets : List Fields) → target.memory.table.page_size ≡ p
-    → HasLoaded target.rounds readings target → FitsTable target.memory.table round → IsNext readings target round → packets ≡ packets_at p target.rounds readings
+    → HasLoaded target.rounds readings target → FitsTable target.memory.table round → IsNext readings target round
+    → packets ≡ packets_at p target.rounds readings
     → new ≡ after_round target round packets → HasLoaded (target.rounds + 1) readings new
 round_is_put p readings target new round packets size has fits next are is =
     let table : RamTable = target.memory.table in
@@ -112,11 +117,13 @@ round_is_put p readings target new round packets size has fits next are is =
     let e : Some (named_by table pages) ≡ Some target.named =
     sym (ap (option_map (λ t. named_by t (map (λ i. pages_at t i readings) (range_with_len 0 k)))) is_table) ∙ has.has_named in cc in
     let names : named_by table (map (λ i. pages_at table i readings) (range_with_len 0 (k + 1))) ≡ new.named =
-    ap (named_by table) (map-range_with_len_more (λ i. pages_at table i readings) 0 k k (omega arith)) ∙ sym (named_by-push table pages (pages_at table k readings) target.named named)
+    ap (named_by table) (map-range_with_len_more (λ i. pages_at table i readings) 0 k k (omega arith))
+    ∙ sym (named_by-push table pages (pages_at table k readings) target.named named)
     ∙ ap (λ (ps : List Page). with_places target.named (places_of ps)) here ∙ ap (λ (t : LoadTarget). t.named) (sym is) in
     record {
       has_memory = ap (option_map (λ t. after t (map (λ i. pages_at t i readings) (range_with_len 0 (k + 1))))) is_table ∙ ap (λ (m : Image). Some m) memory;
-      has_named = ap (option_map (λ t. named_by t (map (λ i. pages_at t i readings) (range_with_len 0 (k + 1))))) is_table ∙ ap (λ (s : PlaceSet). Some s) names;
+      has_named = ap (option_map (λ t. named_by t (map (λ i. pages_at t i readings) (range_with_len 0 (k + 1))))) is_table
+          ∙ ap (λ (s : PlaceSet). Some s) names;
       has_rounds = ap (λ (t : LoadTarget). t.rounds) is;
       has_base = ap (λ (t : LoadTarget). t.base) is
           ∙ ap (λ (n : ℕ). n + length packets) has.has_base

@@ -33,9 +33,12 @@ length_before packet (round ∷ rounds) = refl
 pub with_sync : (packet : Fields) (pieces : List ChannelItem) → packet.sync ≡ true → rounds_in (Page packet ∷ pieces) ≡ (packet ∷ []) ∷ rounds_in pieces
 with_sync packet pieces t = cond-true packet.sync ((packet ∷ []) ∷ rounds_in pieces) (before_rounds packet (rounds_in pieces)) t
 
-pub without_sync : (packet : Fields) (pieces : List ChannelItem) → packet.sync ≡ false → rounds_in (Page packet ∷ pieces) ≡ before_rounds packet (rounds_in pieces)
+-- a packet without SYNC belongs to the round that goes on after it
+pub without_sync : (packet : Fields) (pieces : List ChannelItem) → packet.sync ≡ false
+    → rounds_in (Page packet ∷ pieces) ≡ before_rounds packet (rounds_in pieces)
 without_sync packet pieces f = cond-false packet.sync ((packet ∷ []) ∷ rounds_in pieces) (before_rounds packet (rounds_in pieces)) f
 
+-- the rounds of a channel are counted by its sync packets
 pub counted_law : RoundsAreCounted
 counted_law = is_count_by (λ pieces. length (rounds_in pieces)) ends_round refl step
   where
@@ -55,7 +58,8 @@ counted_law = is_count_by (λ pieces. length (rounds_in pieces)) ends_round refl
 
 -- ---- a front's rounds are the first
 
-before_more : (packet : Fields) (rounds more : List (List Fields)) → (rest : List (List Fields)) × (before_rounds packet (rounds ++ more) ≡ before_rounds packet rounds ++ rest)
+before_more : (packet : Fields) (rounds more : List (List Fields))
+    → (rest : List (List Fields)) × (before_rounds packet (rounds ++ more) ≡ before_rounds packet rounds ++ rest)
 before_more packet [] more = (before_rounds packet more, refl)
 before_more packet (round ∷ rounds) more = (more, refl)
 
@@ -97,7 +101,8 @@ rounds_of_stop Reading = refl
 rounds_of_stop Closed = refl
 rounds_of_stop (Bad f) = refl
 
-rounds_of_open : (page_size : ℕ) (packets : List (List ℕ)) (more : List ChannelItem) → All IsOpen packets → rounds_in more ≡ [] → rounds_in (pages page_size packets ++ more) ≡ []
+rounds_of_open : (page_size : ℕ) (packets : List (List ℕ)) (more : List ChannelItem) → All IsOpen packets → rounds_in more ≡ []
+    → rounds_in (pages page_size packets ++ more) ≡ []
 rounds_of_open page_size [] more all none = none
 rounds_of_open page_size (packet ∷ packets) more all none =
     without_sync (fields_of page_size packet) (pages page_size packets ++ more) (All-head IsOpen packet packets all)
@@ -110,7 +115,8 @@ rounds_of_round page_size (packet ∷ before) last more all sync =
     without_sync (fields_of page_size packet) (pages page_size (before ++ last ∷ []) ++ more) (All-head IsOpen packet before all)
     ∙ ap (before_rounds (fields_of page_size packet)) (rounds_of_round page_size before last more (All-tail IsOpen packet before all) sync)
 
-rounds_of_all : (page_size : ℕ) (rounds : List (List (List ℕ))) (packets : List (List ℕ)) (more : List ChannelItem) → All EndsWithSync rounds → All IsOpen packets → rounds_in more ≡ []
+rounds_of_all : (page_size : ℕ) (rounds : List (List (List ℕ))) (packets : List (List ℕ)) (more : List ChannelItem)
+    → All EndsWithSync rounds → All IsOpen packets → rounds_in more ≡ []
     → rounds_in (pages page_size (flat_map (λ round. round) rounds ++ packets) ++ more) ≡ map (map (fields_of page_size)) rounds
 rounds_of_all page_size [] packets more ends opens none = rounds_of_open page_size packets more opens none
 rounds_of_all page_size (round ∷ rounds) packets more ends opens none =
@@ -131,7 +137,8 @@ rounds_of_all page_size (round ∷ rounds) packets more ends opens none =
     (rounds_of_all page_size rounds packets more (All-tail EndsWithSync round rounds ends) opens none)
 
 -- the hello, and what is after it
-behind_hello : (c : ChannelProgress) (state : ChannelState) → items_of c state ≡ item_of_hello c.hello ++ (pages c.page_size (all_packets c) ++ item_of_stop state)
+behind_hello : (c : ChannelProgress) (state : ChannelState)
+    → items_of c state ≡ item_of_hello c.hello ++ (pages c.page_size (all_packets c) ++ item_of_stop state)
 behind_hello c state = append_assoc (item_of_hello c.hello) (pages c.page_size (all_packets c)) (item_of_stop state)
 
 rounds_of_hello : (hello : Option ℕ) (more : List ChannelItem) → rounds_in (item_of_hello hello ++ more) ≡ rounds_in more
@@ -166,7 +173,8 @@ end_of_hello (Some id) more = refl
 -- ---- the packets of the round that isn't whole have no SYNC
 
 open_packet : (c : ChannelProgress) (packet : List ℕ) (sync : Bool) → is_sync packet ≡ sync → All IsOpen c.packets
-    → All IsOpen (cond sync (record c { packets = []; rounds = c.rounds ++ (c.packets ++ packet ∷ []) ∷ [] }) (record c { packets = c.packets ++ packet ∷ [] })).packets
+    → All IsOpen (cond sync (record c { packets = []; rounds = c.rounds ++ (c.packets ++ packet ∷ []) ∷ [] })
+    (record c { packets = c.packets ++ packet ∷ [] })).packets
 open_packet c packet true sync all = All-nil IsOpen
 open_packet c packet false sync all = All-push IsOpen c.packets packet all sync
 
@@ -224,7 +232,8 @@ tell_all given text pieces reading size are is =
 -- ---- the law
 
 -- if all was received
-tells_all : (page_size k : ℕ) (pieces : List ChannelItem) (reading : ChannelReading) → TellAll page_size pieces reading → TellsChannel page_size k pieces reading
+tells_all : (page_size k : ℕ) (pieces : List ChannelItem) (reading : ChannelReading) → TellAll page_size pieces reading
+    → TellsChannel page_size k pieces reading
 tells_all page_size k pieces reading all =
     let says : List (List ℕ) → List Fields = map (fields_of page_size) in
     let count : round_count pieces ≡ length reading.rounds =
@@ -244,7 +253,8 @@ tells_front page_size k front rest reading whole all =
     let told = tells_all page_size k (front ++ rest) reading all in
     let count : length (rounds_in front) ≡ round_count front = counted_law front in
     let more : length reading.rounds ≡ length (rounds_in front) + length later.0 =
-    sym (length-map reading.rounds says) ∙ ap (λ (rs : List (List Fields)). length rs) (sym all.has_rounds ∙ later.1) ∙ length-append (rounds_in front) later.0 in
+    sym (length-map reading.rounds says) ∙ ap (λ (rs : List (List Fields)). length rs) (sym all.has_rounds ∙ later.1)
+    ∙ length-append (rounds_in front) later.0 in
     record {
       has_hello = hello_first front rest (omega (arith, whole)) ∙ told.has_hello;
       has_status = status_whole k (round_count front) (end_in front) whole
@@ -253,6 +263,7 @@ tells_front page_size k front rest reading whole all =
           ∙ ap (λ (rs : List (List Fields)). get_or rs i []) (sym later.1) ∙ told.has_packets i few;
     }
 
+-- enough items of a channel agree with the complete channel on a round
 pub received_law : FrontTellsChannel
 received_law = λ given k text pieces received reading size are is front settles.
     let p : ℕ = given.page_size in
@@ -282,7 +293,8 @@ stop_last Closed = one_left (Stop None)
 stop_last (Bad f) = one_left (Stop (Some f))
 
 -- an item in front that isn't the stop
-stop_behind : (piece : ChannelItem) (pieces : List ChannelItem) → ((front : List ChannelItem) → end_in (piece ∷ front) ≡ end_in front) → HasStopLast pieces → HasStopLast (piece ∷ pieces)
+stop_behind : (piece : ChannelItem) (pieces : List ChannelItem)
+    → ((front : List ChannelItem) → end_in (piece ∷ front) ≡ end_in front) → HasStopLast pieces → HasStopLast (piece ∷ pieces)
 stop_behind piece pieces passed last [] rest e stop = absurd (stop refl)
 stop_behind piece pieces passed last (first ∷ front) rest e stop =
     let same : first ≡ piece = cc in
@@ -313,6 +325,7 @@ end_of_all given text pieces size are =
     not_pending Closed settled = λ pending. absurd cc
     not_pending (Bad f) settled = λ pending. absurd cc
 
+-- received items have the channel's end exactly if they are all of its items
 pub stop_law : StopIsLast
 stop_law = λ given text pieces received size are front.
     let c : ChannelProgress = are.to in

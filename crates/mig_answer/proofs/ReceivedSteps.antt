@@ -1,12 +1,12 @@
 -- One item more: what was received of a channel says more with each item, for a loader that takes
 -- them one after another.
-use Rattle.std.proofs.Common.{ℕ, ◌≡◌, ◌≢◌, true, false, List, [], ◌∷◌, ◌++◌, length, refl, sym, ap, ◌∙◌, Option, Some, None, append_assoc}
+use Rattle.std.proofs.Common.{ℕ, ◌≡◌, true, false, List, [], ◌∷◌, ◌++◌, length, refl, sym, ap, ◌∙◌, Option, Some, None, append_assoc}
 use Rattle.std.proofs.lemmas.List.{append-nil}
 use Rattle.mig_packet.specs.declared.fault.ChannelFault.{ChannelFault}
 use Rattle.mig_packet.specs.Packet.{Fields}
 use Rattle.mig_packet.specs.ChannelItems.{ChannelItem, Hello, Page, Stop}
 use Rattle.mig_answer.specs.declared.status.Status.TheVariants.{Pending}
-use Rattle.mig_answer.specs.Received.{round_count, before_rounds, rounds_in, hello_in, end_in}
+use Rattle.mig_answer.specs.Received.{round_count, before_rounds, rounds_in, end_in}
 use Rattle.mig_answer.proofs.Received.{with_sync, without_sync, counted_law}
 
 -- some packets in front of the first round
@@ -21,14 +21,14 @@ HoldsRounds received rounds packets = (more : List ChannelItem) → rounds_in (r
 
 -- ---- the steps
 
-pub holds_none : HoldsRounds [] [] []
-holds_none = λ more. refl
-
+-- a hello changes no round
 pub holds_hello : (received : List ChannelItem) (rounds : List (List Fields)) (packets : List Fields) (id : ℕ) → HoldsRounds received rounds packets
     → HoldsRounds (received ++ Hello id ∷ []) rounds packets
 holds_hello received rounds packets id holds = λ more. ap rounds_in (append_assoc received (Hello id ∷ []) more) ∙ holds (Hello id ∷ more)
 
-pub holds_stop : (received : List ChannelItem) (rounds : List (List Fields)) (packets : List Fields) (end : Option ChannelFault) → HoldsRounds received rounds packets
+-- the end of a channel changes no round
+pub holds_stop : (received : List ChannelItem) (rounds : List (List Fields)) (packets : List Fields) (end : Option ChannelFault)
+    → HoldsRounds received rounds packets
     → HoldsRounds (received ++ Stop end ∷ []) rounds packets
 holds_stop received rounds packets end holds = λ more. ap rounds_in (append_assoc received (Stop end ∷ []) more) ∙ holds (Stop end ∷ more)
 
@@ -59,7 +59,9 @@ holds_sync received rounds packets packet t holds = λ more.
 
 -- ---- what is held
 
-pub holds_are : (received : List ChannelItem) (rounds : List (List Fields)) (packets : List Fields) → HoldsRounds received rounds packets → rounds_in received ≡ rounds
+-- the rounds that were received are those of the items
+pub holds_are : (received : List ChannelItem) (rounds : List (List Fields)) (packets : List Fields)
+    → HoldsRounds received rounds packets → rounds_in received ≡ rounds
 holds_are received rounds packets holds =
     ap rounds_in (sym (append-nil received)) ∙ holds [] ∙ ap (λ (rs : List (List Fields)). rounds ++ rs) (none packets) ∙ append-nil rounds
   where
@@ -67,18 +69,15 @@ holds_are received rounds packets holds =
     none [] = refl
     none (p ∷ ps) = ap (before_rounds p) (none ps)
 
-pub holds_count : (received : List ChannelItem) (rounds : List (List Fields)) (packets : List Fields) → HoldsRounds received rounds packets → round_count received ≡ length rounds
+-- as many rounds are counted as were received
+pub holds_count : (received : List ChannelItem) (rounds : List (List Fields)) (packets : List Fields)
+    → HoldsRounds received rounds packets → round_count received ≡ length rounds
 holds_count received rounds packets holds =
     sym (counted_law received) ∙ ap (λ (rs : List (List Fields)). length rs) (holds_are received rounds packets holds)
 
 -- ---- the hello stays, and the stop is what comes last
 
-pub hello_stays : (received more : List ChannelItem) → received ≢ [] → hello_in (received ++ more) ≡ hello_in received
-hello_stays [] more some = absurd (some refl)
-hello_stays (Hello id ∷ received) more some = refl
-hello_stays (Page packet ∷ received) more some = refl
-hello_stays (Stop end ∷ received) more some = refl
-
+-- if no end has come, the end is the one that comes later
 pub end_comes : (received more : List ChannelItem) → end_in received ≡ Pending → end_in (received ++ more) ≡ end_in more
 end_comes [] more open_still = refl
 end_comes (Hello id ∷ received) more open_still = end_comes received more open_still

@@ -40,7 +40,8 @@ all_tell given k (text ∷ texts) (items ∷ received) (reading ∷ readings) si
     )
 
 -- what is the same of each channel is so of all
-same_each : {X : Type 0} (f : List ChannelItem → X) (g : ChannelReading → X) (page_size k : ℕ) → ((items : List ChannelItem) (reading : ChannelReading) → TellsChannel page_size k items reading → f items ≡ g reading)
+same_each : {X : Type 0} (f : List ChannelItem → X) (g : ChannelReading → X) (page_size k : ℕ)
+    → ((items : List ChannelItem) (reading : ChannelReading) → TellsChannel page_size k items reading → f items ≡ g reading)
     → (received : List (List ChannelItem)) (readings : List ChannelReading) → TellChannels page_size k received readings → map f received ≡ map g readings
 same_each f g page_size k same [] [] tell = refl
 same_each f g page_size k same [] (reading ∷ readings) tell = absurd tell
@@ -69,7 +70,8 @@ same_packets : (page_size k i : ℕ) (received : List (List ChannelItem)) (readi
 same_packets page_size k i received readings few tell =
     let all : List (List Fields) → List Fields = flat_map (λ (packets : List Fields). packets) in
     sym (flat_map-map (λ (packets : List Fields). packets) (channel_packets_in i) received)
-    ∙ ap all (same_each (channel_packets_in i) (channel_packets_at page_size i) page_size k (λ items reading tells. tells.has_packets i few) received readings tell)
+    ∙ ap all (same_each (channel_packets_in i) (channel_packets_at page_size i) page_size k
+    (λ items reading tells. tells.has_packets i few) received readings tell)
     ∙ flat_map-map (λ (packets : List Fields). packets) (channel_packets_at page_size i) readings
 
 same_count : (page_size k i : ℕ) (received : List (List ChannelItem)) (readings : List ChannelReading) → i ≤ k → TellChannels page_size k received readings
@@ -80,10 +82,13 @@ same_count page_size k i received readings few tell =
     length-flat_map (channel_packets_in i) received
     ∙ sym (sum_by-map (λ (n : ℕ). n) mine received)
     ∙ ap (sum_by (λ (n : ℕ). n)) (same_each mine theirs page_size k (λ items reading tells.
-    ap (λ (packets : List Fields). length packets) (tells.has_packets i few) ∙ length-map (get_or reading.rounds i []) (fields_of page_size)) received readings tell)
+    ap (λ (packets : List Fields). length packets) (tells.has_packets i few)
+    ∙ length-map (get_or reading.rounds i []) (fields_of page_size)) received readings tell)
     ∙ sum_by-map (λ (n : ℕ). n) theirs readings
 
-same_sums : (f g : ℕ → ℕ) (from count : ℕ) → ((i : ℕ) → i < from + count → f i ≡ g i) → sum_by f (range_with_len from count) ≡ sum_by g (range_with_len from count)
+-- functions that agree below the end of a range have one sum over it
+pub same_sums : (f g : ℕ → ℕ) (from count : ℕ) → ((i : ℕ) → i < from + count → f i ≡ g i)
+    → sum_by f (range_with_len from count) ≡ sum_by g (range_with_len from count)
 same_sums f g from zero same = refl
 same_sums f g from (suc count) same =
     let later : List ℕ = range_with_len (from + 1) count in
@@ -93,6 +98,7 @@ same_sums f g from (suc count) same =
 
 -- ---- the law
 
+-- enough items of each channel agree with the complete channels on a round
 pub together_law : FrontsTellAllChannels
 together_law = λ given uuid k main channels received readings size are have.
     let channel_given : Settings = channel_of given uuid (length channels) in
@@ -102,7 +108,8 @@ together_law = λ given uuid k main channels received readings size are have.
     let tell : TellChannels given.page_size k received readings.channels = all_tell channel_given k channels received readings.channels size read have in
     record {
       has_channels = same_standings given.page_size k 0 received readings.channels tell;
-      has_hellos = same_each hello_in (λ (reading : ChannelReading). reading.hello) given.page_size k (λ items reading tells. tells.has_hello) received readings.channels tell;
+      has_hellos = same_each hello_in (λ (reading : ChannelReading). reading.hello) given.page_size k
+          (λ items reading tells. tells.has_hello) received readings.channels tell;
       has_packets = λ i few. same_packets given.page_size k i received readings.channels few tell;
       has_base = same_sums (λ i. length (packets_in i received)) (λ i. packet_count_at i readings) 0 k
           (λ i below. same_count given.page_size k i received readings.channels (omega (arith, below)) tell);

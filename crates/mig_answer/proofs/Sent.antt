@@ -39,7 +39,8 @@ pub record AreToldOf (table : RamTable) (channels : ℕ) (rounds : List DealtRou
 -- streams that are read one by one are read so all together
 read_each : (given : Settings) (told : ℕ → ChannelReading) (n : ℕ) (texts : List (List ℕ))
     → ((i j : ℕ) → i < length texts → n + i ≡ j → IsReading given (get_or texts i []) true (told j))
-    → AllZip (λ (text : Text) (reading : ChannelReading). IsReading given text.bytes text.ended reading) (map ended_text texts) (map told (range_with_len n (length texts)))
+    → AllZip (λ (text : Text) (reading : ChannelReading). IsReading given text.bytes text.ended reading) (map ended_text texts)
+    (map told (range_with_len n (length texts)))
 read_each given told n [] each = tt
 read_each given told n (text ∷ texts) each =
     (each 0 n (omega arith) (omega arith), read_each given told (n + 1) texts (λ i j below is. each (suc i) j (omega (arith, below)) (omega (arith, is))))
@@ -50,7 +51,8 @@ framed frame page_size limit = record { page_size = page_size; limit = limit; fr
 
 -- The channels are those of a sending, in any order, and the main stream is read in a frame as what
 -- it has of RAM: the table, and as many rounds.
-pub record IsReadAsSent (frame : Frame) (table : RamTable) (uuid : List ℕ) (limit : ℕ) (rounds : List DealtRound) (main : List ℕ) (channels : List (List ℕ)) : Type 0 where
+pub record IsReadAsSent (frame : Frame) (table : RamTable) (uuid : List ℕ) (limit : ℕ) (rounds : List DealtRound) (main : List
+    ℕ) (channels : List (List ℕ)) : Type 0 where
   pub batch_limit : ℕ
   pub ram : List ℕ
   pub in_order : List (List ℕ)
@@ -60,7 +62,9 @@ pub record IsReadAsSent (frame : Frame) (table : RamTable) (uuid : List ℕ) (li
   pub channels_are_read : (channel : ℕ) → channel < length channels
       → IsReading (settings table.page_size uuid (length channels)) (get_or in_order channel []) true (channel_told rounds channel)
 
-pub told_of : (frame : Frame) (table : RamTable) (uuid : List ℕ) (limit : ℕ) (rounds : List DealtRound) (main : List ℕ) (channels : List (List ℕ)) (readings : Readings)
+-- streams that are read as they were sent have the rounds of the sending
+pub told_of : (frame : Frame) (table : RamTable) (uuid : List ℕ) (limit : ℕ) (rounds : List DealtRound) (main : List
+    ℕ) (channels : List (List ℕ)) (readings : Readings)
     → IsReadAsSent frame table uuid limit rounds main channels → AreReadings (framed frame table.page_size limit) uuid (ended_texts main channels) readings
     → AreToldOf table (length channels) rounds readings
 told_of frame table uuid limit rounds main channels readings sent are =
@@ -69,7 +73,8 @@ told_of frame table uuid limit rounds main channels readings sent are =
     let many : length (map ended_text channels) ≡ length channels = length-map channels ended_text in
     let long : length sent.in_order ≡ length channels =
     ap (λ (l : List (List ℕ)). length l) sent.is_sending.has_texts ∙ length-map-range_with_len (channel_text uuid rounds) 0 (length channels) in
-    let zip : AllZip (λ (text : Text) (reading : ChannelReading). IsReading given text.bytes text.ended reading) (map ended_text sent.in_order) (map (channel_told rounds) (range_with_len 0 (length sent.in_order))) =
+    let zip : AllZip (λ (text : Text) (reading : ChannelReading). IsReading given text.bytes text.ended reading)
+    (map ended_text sent.in_order) (map (channel_told rounds) (range_with_len 0 (length sent.in_order))) =
     read_each given (channel_told rounds) 0 sent.in_order (λ i j below is.
     subst (λ k. IsReading given (get_or sent.in_order i []) true (channel_told rounds k)) (omega (arith, is))
     (subst (λ n. IsReading (settings table.page_size uuid n) (get_or sent.in_order i []) true (channel_told rounds i)) (sym many)
@@ -77,7 +82,8 @@ told_of frame table uuid limit rounds main channels readings sent are =
     let told : map (channel_told rounds) (range_with_len 0 (length sent.in_order)) ≡ map (channel_reading given size) (map ended_text sent.in_order) =
     channels_are given size (map ended_text sent.in_order) (map (channel_told rounds) (range_with_len 0 (length sent.in_order))) zip in
     let perm : IsPermutation (map (channel_reading given size) (map ended_text sent.in_order)) (map (channel_reading given size) (map ended_text channels)) =
-    IsPermutation-map (channel_reading given size) (map ended_text sent.in_order) (map ended_text channels) (IsPermutation-map ended_text sent.in_order channels sent.is_permutation) in
+    IsPermutation-map (channel_reading given size) (map ended_text sent.in_order) (map ended_text channels)
+    (IsPermutation-map ended_text sent.in_order channels sent.is_permutation) in
     record {
       has_main = same_main (framed frame table.page_size limit) (ended_text main) readings.main (closed table (replicate (length rounds) [])) size are.has_main
           (record { found = closed table (replicate (length rounds) []); is_reading = sent.main_is_read; has_end = refl });
@@ -123,11 +129,13 @@ all_stand table channels k rounds readings status told e =
     (enumerate_from 0 readings.channels)
     (enumerated (λ c. channel_status k c ≡ status) 0 readings.channels each))
 
+-- each source has each round of the sending whole
 pub whole_below : (table : RamTable) (channels k : ℕ) (rounds : List DealtRound) (readings : Readings) → AreToldOf table channels rounds readings
     → k < length rounds → Stands k Whole readings
 whole_below table channels k rounds readings told below =
     all_stand table channels k rounds readings Whole told (status_whole k (length rounds) Clean below)
 
+-- after the last round of the sending each source ends cleanly
 pub clean_at_end : (table : RamTable) (channels : ℕ) (rounds : List DealtRound) (readings : Readings) → AreToldOf table channels rounds readings
     → Stands (length rounds) Clean readings
 clean_at_end table channels rounds readings told =
@@ -145,7 +153,8 @@ flips (Some a) (Some b) = elim (cases_Bool (a == b)) [
 ]
 
 -- an id isn't among those that differ from it
-not_before : (xs : List (Option ℕ)) (j : ℕ) (x : Option ℕ) → j < length xs → AllByRecursion (λ y. is_same_id x y ≡ false) xs → is_same_id (get_or xs j None) x ≡ false
+not_before : (xs : List (Option ℕ)) (j : ℕ) (x : Option ℕ) → j < length xs → AllByRecursion (λ y. is_same_id x y ≡ false) xs
+    → is_same_id (get_or xs j None) x ≡ false
 not_before [] j x below all = absurd (omega (arith, below))
 not_before (y ∷ xs) zero x below all = flips y x ∙ all.0
 not_before (y ∷ xs) (suc j) x below all = not_before xs j x (omega (arith, below)) all.1
@@ -165,7 +174,8 @@ none_repeated ids distinct = finds_none (comes_again ids) (range_with_len 0 (len
     every : (a n : ℕ) → a + n ≤ length ids → All (λ j. comes_again ids j ≡ false) (range_with_len a n)
     every a zero few = All-nil (λ j. comes_again ids j ≡ false)
     every a (suc n) few =
-        All-cons (λ j. comes_again ids j ≡ false) a (range_with_len (a + 1) n) (apart ids a (omega (arith, few)) distinct) (every (a + 1) n (omega (arith, few)))
+        All-cons (λ j. comes_again ids j ≡ false) a (range_with_len (a + 1) n) (apart ids a (omega (arith, few)) distinct)
+        (every (a + 1) n (omega (arith, few)))
 
 above : (a b n : ℕ) → a < b → AllByRecursion (λ y. is_same_id (Some a) y ≡ false) (map (λ i. Some i) (range_with_len b n))
 above a b zero lt = tt
@@ -176,12 +186,14 @@ unfolding IsDistinct
 run_distinct a zero = tt
 run_distinct a (suc n) = (above a (a + 1) n (omega arith), run_distinct (a + 1) n)
 
+-- the hellos of a sending have ids of their own
 pub hellos_differ : (table : RamTable) (channels : ℕ) (rounds : List DealtRound) (readings : Readings) → AreToldOf table channels rounds readings
     → repeated_hello (hello_ids readings) ≡ None
 hellos_differ table channels rounds readings told =
     let ids : List (Option ℕ) = map (λ (c : ChannelReading). c.hello) (map (channel_told rounds) (range_with_len 0 channels)) in
     let perm : IsPermutation ids (hello_ids readings) =
     IsPermutation-map (λ (c : ChannelReading). c.hello) (map (channel_told rounds) (range_with_len 0 channels)) readings.channels told.has_channels in
-    let run : ids ≡ map (λ i. Some i) (range_with_len 0 channels) = map-map (λ (c : ChannelReading). c.hello) (channel_told rounds) (range_with_len 0 channels) in
+    let run : ids ≡ map (λ i. Some i) (range_with_len 0 channels) =
+    map-map (λ (c : ChannelReading). c.hello) (channel_told rounds) (range_with_len 0 channels) in
     none_repeated (hello_ids readings) (IsDistinct-IsPermutation is_same_id flips ids (hello_ids readings) perm
     (subst (λ (l : List (Option ℕ)). IsDistinct is_same_id l) (sym run) (run_distinct 0 channels)))

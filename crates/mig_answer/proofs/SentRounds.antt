@@ -105,7 +105,8 @@ packets_bag table limit channels rounds readings is k below =
 
 -- ---- its numbers
 
-counted : (page_size k : ℕ) (cs : List ChannelReading) → sum_by (λ (c : ChannelReading). length (get_or c.rounds k [])) cs ≡ length (flat_map (channel_packets_at page_size k) cs)
+counted : (page_size k : ℕ) (cs : List ChannelReading)
+    → sum_by (λ (c : ChannelReading). length (get_or c.rounds k [])) cs ≡ length (flat_map (channel_packets_at page_size k) cs)
 counted page_size k [] = refl
 counted page_size k (c ∷ cs) =
     sum_by-cons (λ (x : ChannelReading). length (get_or x.rounds k [])) c cs
@@ -140,7 +141,8 @@ bases table limit channels rounds readings is (suc k) few =
     sum_more : (f : ℕ → ℕ) (n : ℕ) → sum_by f (range_with_len 0 (n + 1)) ≡ sum_by f (range_with_len 0 n) + f n
     sum_more f n =
         let e : range_with_len 0 (n + 1) ≡ range_with_len 0 n ++ n ∷ [] =
-        sym (map-id (range_with_len 0 (n + 1))) ∙ map-range_with_len_more (λ i. i) 0 n n (omega arith) ∙ ap (λ (l : List ℕ). l ++ n ∷ []) (map-id (range_with_len 0 n)) in
+        sym (map-id (range_with_len 0 (n + 1))) ∙ map-range_with_len_more (λ i. i) 0 n n (omega arith)
+        ∙ ap (λ (l : List ℕ). l ++ n ∷ []) (map-id (range_with_len 0 n)) in
         let one : sum_by f (range_with_len 0 n) + (0 + f n) ≡ sum_by f (range_with_len 0 n) + f n = omega arith in
         ap (λ (l : List ℕ). sum_by f l) e ∙ sum_by-append f (range_with_len 0 n) (n ∷ []) ∙ one
 
@@ -152,6 +154,7 @@ no_records table limit channels rounds readings is k below =
     ap (λ (r : StreamReading). map (page_of table.page_size) (get_or r.rounds k [])) is.told.has_main
     ∙ ap (λ (l : List PageRecord). map (page_of table.page_size) l) (get_or-replicate (length rounds) k [] [] below)
 
+-- no round of a sending is refused
 pub lawful_round : (table : RamTable) (limit channels : ℕ) (rounds : List DealtRound) (readings : Readings) → AreOfSending table limit channels rounds readings
     → (k : ℕ) → k < length rounds → refusal_of table k readings ≡ None
 lawful_round table limit channels rounds readings is k below =
@@ -161,11 +164,13 @@ lawful_round table limit channels rounds readings is k below =
     let base : base_at k readings ≡ round.base = omega (arith, counted, first) in
     ap (λ b. refusal table b (record_pages_at table.page_size k readings) (packets_at table.page_size k readings)) base
     ∙ ap (λ (l : List Page). refusal table round.base l (packets_at table.page_size k readings)) (no_records table limit channels rounds readings is k below)
-    ∙ sym (refusal_bag table round.base [] (dealt_fields round) (packets_at table.page_size k readings) (packets_bag table limit channels rounds readings is k below))
+    ∙ sym (refusal_bag table round.base [] (dealt_fields round) (packets_at table.page_size k readings)
+    (packets_bag table limit channels rounds readings is k below))
     ∙ (is.are_brought k below).bring.are_lawful
 
 -- ---- and it brings what was sent
 
+-- a round of a sending writes the dirty pages of its snapshot
 pub brings : (table : RamTable) (limit channels : ℕ) (rounds : List DealtRound) (readings : Readings) → AreOfSending table limit channels rounds readings
     → (k : ℕ) → k < length rounds → (m : Image)
     → with_round m (pages_at table k readings) ≡ with_round m (round_of (round_at table rounds k).snapshot.image (round_at table rounds k).snapshot.dirty)
@@ -175,7 +180,8 @@ brings table limit channels rounds readings is k below m =
     let pages : List Page = all_round_pages table [] packets in
     let own : List Page = round_of round.snapshot.image round.snapshot.dirty in
     let order : SameBag pages (dealt_pages table round) =
-    bag_flat_map (packet_pages table) packets (dealt_fields round) (bag_sym (dealt_fields round) packets (packets_bag table limit channels rounds readings is k below)) in
+    bag_flat_map (packet_pages table) packets (dealt_fields round)
+    (bag_sym (dealt_fields round) packets (packets_bag table limit channels rounds readings is k below)) in
     let brought : SameBag pages own = bag_trans pages (dealt_pages table round) own order (is.are_brought k below).has_pages in
     ap (λ (l : List Page). with_round m (all_round_pages table l packets)) (no_records table limit channels rounds readings is k below)
     ∙ same_memory m pages own (same_last round.snapshot.image round.snapshot.dirty pages brought)
@@ -199,7 +205,8 @@ memories table limit channels rounds readings is (suc k) few =
     let at : get_or sent k [] ≡ own =
     get_or-map (λ (s : Snapshot). round_of s.image s.dirty) snapshots k (no_round table).snapshot [] (omega (arith, below, many))
     ∙ ap (λ (s : Snapshot). round_of s.image s.dirty) (get_or-map (λ (r : DealtRound). r.snapshot) rounds k (no_round table) (no_round table).snapshot below) in
-    let theirs : take (k + 1) sent ≡ take k sent ++ own ∷ [] = take_more sent k [] (omega (arith, below, many, long)) ∙ ap (λ (l : List Page). take k sent ++ l ∷ []) at in
+    let theirs : take (k + 1) sent ≡ take k sent ++ own ∷ [] = take_more sent k [] (omega (arith, below, many, long))
+    ∙ ap (λ (l : List Page). take k sent ++ l ∷ []) at in
     ap (λ n. after table (map pages (range_with_len 0 n))) next
     ∙ ap (λ (l : List (List Page)). after table l) mine ∙ after-push table before (pages k)
     ∙ ap (λ (m : Image). with_round (record m { table = table }) (pages k)) (memories table limit channels rounds readings is k (omega (arith, few)))
@@ -207,6 +214,7 @@ memories table limit channels rounds readings is (suc k) few =
     ∙ sym (after-push table (take k sent) own) ∙ ap (λ (l : List (List Page)). after table l) (sym theirs)
     ∙ ap (λ n. after table (take n sent)) (sym next)
 
+-- the memory after the rounds that were read is the one after those that were sent
 pub memory_is : (table : RamTable) (limit channels : ℕ) (rounds : List DealtRound) (readings : Readings) → AreOfSending table limit channels rounds readings
     → after table (map (λ i. pages_at table i readings) (range_with_len 0 (length rounds))) ≡ after table (sent_rounds rounds)
 memory_is table limit channels rounds readings is =

@@ -16,19 +16,23 @@ use Rattle.mig_answer.specs.Status.{status_at, stream_end, channel_end, is_whole
 
 -- ---- one source
 
+-- a round that a source has completely is whole
 pub status_whole : (k rounds : ℕ) (end : Status) → k < rounds → status_at k rounds end ≡ Whole
 status_whole k rounds end below = cond-true (nat_lt k rounds) Whole (cond (k == rounds) end Pending) (lt-ltb k rounds below)
 
+-- at the round after its complete ones a source stands as its stream does
 pub status_end : (k rounds : ℕ) (end : Status) → k ≡ rounds → status_at k rounds end ≡ end
 status_end k rounds end same =
     cond-false (nat_lt k rounds) Whole (cond (k == rounds) end Pending) (le-ltb k rounds (omega (arith, same)))
     ∙ cond-true (k == rounds) end Pending (eq-eqb k rounds same)
 
+-- the end of a main stream is never a whole round
 pub stream_ends : (state : StreamState) → is_whole (stream_end state) ≡ false
 stream_ends stream.Reading = refl
 stream_ends stream.Closed = refl
 stream_ends (stream.Bad f) = refl
 
+-- the end of a channel is never a whole round
 pub channel_ends : (state : ChannelState) → is_whole (channel_end state) ≡ false
 channel_ends channel.Reading = refl
 channel_ends channel.Closed = refl
@@ -43,6 +47,7 @@ sound Pending p f = absurd cc
 
 -- ---- a source that is clean
 
+-- a round after the one that a source has come to is pending
 pub status_behind : (k rounds : ℕ) (end : Status) → rounds < k → status_at k rounds end ≡ Pending
 status_behind k rounds end below = elim (cases_Bool (k == rounds)) [
   | inl e ↦ absurd (let same : k ≡ rounds = eqb-true k rounds e in omega (arith, same, below))
@@ -51,6 +56,7 @@ status_behind k rounds end below = elim (cases_Bool (k == rounds)) [
       ∙ cond-false (k == rounds) end Pending ne
 ]
 
+-- a source is clean at a round only if it has come to it and its stream ends cleanly
 pub clean_at : (k n : ℕ) (end : Status) → is_clean (status_at k n end) ≡ true → (k ≡ n) × (is_clean end ≡ true)
 clean_at k n end clean = elim (cases_order k n) [
   | inl e ↦ (e, sym (ap is_clean (status_end k n end e)) ∙ clean)
@@ -60,6 +66,7 @@ clean_at k n end clean = elim (cases_order k n) [
   ]
 ]
 
+-- a main stream that ends cleanly is closed
 pub stream_closed : (ended : Bool) (s : StreamState) → is_clean (stream_end (state_at ended s)) ≡ true → s ≡ stream.Closed
 stream_closed true stream.Reading clean = absurd cc
 stream_closed false stream.Reading clean = absurd cc
@@ -68,6 +75,7 @@ stream_closed false stream.Closed clean = refl
 stream_closed true (stream.Bad f) clean = absurd cc
 stream_closed false (stream.Bad f) clean = absurd cc
 
+-- a channel that ends cleanly is closed
 pub channel_closed : (s : ChannelState) → is_clean (channel_end s) ≡ true → s ≡ channel.Closed
 channel_closed channel.Reading clean = absurd cc
 channel_closed channel.Closed clean = refl
@@ -75,17 +83,20 @@ channel_closed (channel.Bad f) clean = absurd cc
 
 -- ---- tests of lists
 
+-- a test that each element passes is passed by the list
 pub all_pass : {X : Type 0} (test : X → Bool) (xs : List X) → All (λ x. test x ≡ true) xs → list_all test xs ≡ true
 all_pass test [] all = refl
 all_pass test (x ∷ xs) all =
     rw (All-head (λ y. test y ≡ true) x xs all, all_pass test xs (All-tail (λ y. test y ≡ true) x xs all)) refl
 
+-- a test that a whole list passes is passed by each element
 pub passes_all : {X : Type 0} (test : X → Bool) (xs : List X) → list_all test xs ≡ true → All (λ x. test x ≡ true) xs
 passes_all test [] e = All-nil (λ y. test y ≡ true)
 passes_all test (x ∷ xs) e =
     let parts = and_parts (test x) (list_all test xs) e in
     All-cons (λ y. test y ≡ true) x xs parts.0 (passes_all test xs parts.1)
 
+-- if no element is found, each one fails the test
 pub find_none : {X : Type 0} (test : X → Bool) (xs : List X) → find test xs ≡ None → All (λ x. test x ≡ false) xs
 find_none test [] e = All-nil (λ y. test y ≡ false)
 find_none test (x ∷ xs) e = elim (cases_Bool (test x)) [
@@ -93,6 +104,7 @@ find_none test (x ∷ xs) e = elim (cases_Bool (test x)) [
   | inr f ↦ All-cons (λ y. test y ≡ false) x xs f (find_none test xs (sym (cond-false (test x) (Some x) (find test xs) f) ∙ e))
 ]
 
+-- if each element fails the test, none is found
 pub finds_none : {X : Type 0} (test : X → Bool) (xs : List X) → All (λ x. test x ≡ false) xs → find test xs ≡ None
 finds_none test [] all = refl
 finds_none test (x ∷ xs) all =

@@ -11,6 +11,7 @@ use Rattle.std.proofs.lemmas.Bool.{cases_Bool, and_parts, cond-true, ltb-true}
 use Rattle.std.proofs.lemmas.List.Elements.{All-nil, All-cons, All-head, All-tail}
 use Rattle.mig_mem.specs.PageSize.{IsPageSize}
 use Rattle.mig_mem.specs.First.{first_some}
+use Rattle.mig_mem.proofs.Lists.{map_none, then_none}
 use Rattle.mig_assemble.specs.declared.fault.RoundFault.{RoundFault}
 use Rattle.mig_stream.specs.Reading.{StreamReading}
 use Rattle.mig_single_load.specs.Settings.{channel_of}
@@ -25,10 +26,10 @@ use Rattle.mig_answer.specs.declared.status.Status.TheVariants.{Whole, Clean, Ba
 use Rattle.mig_answer.specs.Status.{main_status, stream_end, is_whole, is_clean, is_pending, fault_of}
 use Rattle.mig_answer.specs.Texts.{Text, Readings, AreReadings, ended_text, ended_texts}
 use Rattle.mig_answer.specs.Rounds.{refusal_at}
-use Rattle.mig_answer.specs.MultiLoad.{Standing, main_standing, main_at, channels_at, sources_at, hello_ids, repeated_hello, passes, IsFirstStop, failed, failed_at_first, failed_with_own, verdicts_told, verdicts_at, verdict_at}
+use Rattle.mig_answer.specs.MultiLoad.{Standing, main_standing, main_at, channels_at, sources_at, hello_ids, repeated_hello, passes, IsFirstStop, failed, failed_at_first, failed_with_own, sources_verdicts, verdicts_at, verdict_at}
 use Rattle.mig_answer.specs.Told.{standings}
 use Rattle.mig_answer.proofs.Statuses.{stream_ends, sound, passes_all, finds_none, first_none, first_is}
-use Rattle.mig_answer.proofs.Judged.{IsWhole, IsSettled, reached, has_round, over_settles, whole_at, channels_settled, no_fault, all_clean, all_whole, none_found, then_none, map_none, all_told}
+use Rattle.mig_answer.proofs.Judged.{IsWhole, IsFinal, reached, has_round, over_settles, whole_at, channels_settled, no_fault, all_clean, all_whole, none_found, all_told}
 
 -- These say how the sources stand at round k, and which hello comes again.
 pub record TellsSources (k : ℕ) (readings : Readings) (main : Status) (channels : List Status) (repeated : Option ℕ) : Type 0 where
@@ -43,6 +44,7 @@ first_more [] more x e = absurd cc
 first_more (None ∷ os) more x e = first_more os more x e
 first_more (Some y ∷ os) more x e = e
 
+-- if the front of a list has no answer, the first one is that of the rest
 pub first_behind : {X : Type 0} (os more : List (Option X)) → first_some os ≡ None → first_some (os ++ more) ≡ first_some more
 first_behind [] more e = refl
 first_behind (None ∷ os) more e = first_behind os more e
@@ -58,7 +60,7 @@ abbrev HavePassed : ℕ → Readings → Type 0
 HavePassed k readings = (j : ℕ) → j < k → IsTrue (passes j readings)
 
 settled_at : (given : LoadSettings) (uuid : List ℕ) (main : List ℕ) (channels : List (List ℕ)) (readings : Readings) (k : ℕ) → IsPageSize given.page_size
-    → AreReadings given uuid (ended_texts main channels) readings → HavePassed k readings → All IsSettled (sources_at k readings)
+    → AreReadings given uuid (ended_texts main channels) readings → HavePassed k readings → All IsFinal (sources_at k readings)
 settled_at given uuid main channels readings k size are before =
     let texts : List Text = map ended_text channels in
     let end = stream_end readings.main.state in
@@ -66,7 +68,7 @@ settled_at given uuid main channels readings k size are before =
     ap (λ (r : StreamReading). is_pending (stream_end r.state)) are.has_main.has_end ∙ over_settles are.has_main.found.state true refl in
     let few : k ≤ length readings.main.rounds = has_round k (length readings.main.rounds) end (stream_ends readings.main.state)
     (λ j below. All-head IsWhole (main_at j readings) (channels_at j readings) (whole_at readings j (before j below))) in
-    All-cons IsSettled (main_at k readings) (channels_at k readings) (reached k (length readings.main.rounds) end few settled)
+    All-cons IsFinal (main_at k readings) (channels_at k readings) (reached k (length readings.main.rounds) end few settled)
     (channels_settled (channel_of given uuid (length texts)) k 0 texts readings.channels size are.has_channels (have_ended channels)
     (λ j below. All-tail IsWhole (main_at j readings) (channels_at j readings) (whole_at readings j (before j below))))
 
@@ -80,14 +82,14 @@ none_pending_at given uuid main channels readings k size are before =
 
 -- the readings' verdicts of sources at a round
 abbrev pub told_at : ℕ → Readings → List (Option Verdict)
-told_at k readings = verdicts_told k (main_at k readings) (channels_at k readings) (repeated_hello (hello_ids readings))
+told_at k readings = sources_verdicts k (main_at k readings) (channels_at k readings) (repeated_hello (hello_ids readings))
 
 same_told : (k : ℕ) (readings : Readings) (status : Status) (statuses : List Status) (repeated : Option ℕ) → TellsSources k readings status statuses repeated
-    → verdicts_told k (main_standing status) (standings statuses) repeated ≡ told_at k readings
+    → sources_verdicts k (main_standing status) (standings statuses) repeated ≡ told_at k readings
 same_told k readings status statuses repeated tells =
-    ap (λ (s : Status). verdicts_told k (main_standing s) (standings statuses) repeated) tells.has_main
-    ∙ ap (λ (ss : List Standing). verdicts_told k (main_at k readings) ss repeated) tells.has_channels
-    ∙ ap (λ (o : Option ℕ). verdicts_told k (main_at k readings) (channels_at k readings) o) tells.has_repeated
+    ap (λ (s : Status). sources_verdicts k (main_standing s) (standings statuses) repeated) tells.has_main
+    ∙ ap (λ (ss : List Standing). sources_verdicts k (main_at k readings) ss repeated) tells.has_channels
+    ∙ ap (λ (o : Option ℕ). sources_verdicts k (main_at k readings) (channels_at k readings) o) tells.has_repeated
 
 is_whole_status : (s : Status) → is_whole s ≡ true → s ≡ Whole
 is_whole_status Whole e = refl
@@ -119,10 +121,11 @@ none_waits (s ∷ sources) all =
     All-cons (λ (x : Standing). is_pending x.status ≡ false) s sources (ap is_pending whole) (none_waits sources (All-tail IsWhole s sources all))
 
 whole_tells_none : (k : ℕ) (m : Standing) (cs : List Standing) (repeated : Option ℕ) → AreWhole (m ∷ cs) → repeated ≡ None
-    → first_some (verdicts_told k m cs repeated) ≡ None
+    → first_some (sources_verdicts k m cs repeated) ≡ None
 whole_tells_none k m cs repeated all once =
     let whole : m.status ≡ Whole = is_whole_status m.status (All-head IsWhole m cs all) in
-    let waits : list_any (λ (s : Standing). is_pending s.status) (m ∷ cs) ≡ false = list_any_none (λ (s : Standing). is_pending s.status) (m ∷ cs) (none_waits (m ∷ cs) all) in
+    let waits : list_any (λ (s : Standing). is_pending s.status) (m ∷ cs) ≡ false =
+    list_any_none (λ (s : Standing). is_pending s.status) (m ∷ cs) (none_waits (m ∷ cs) all) in
     let own : first_some (map (failed_with_own k) (m ∷ cs)) ≡ None = none_own k (m ∷ cs) all in
     let clean : is_clean m.status ≡ false = ap is_clean whole in
     let short : failed_at_first k is_clean fault.Short cs ≡ None =
@@ -131,8 +134,8 @@ whole_tells_none k m cs repeated all once =
     rw (waits, own, once, clean, whole, short) refl
 
 -- if there is no verdict, of sources that don't wait, all have the round, and no hello is repeated
-pub none_told : (k : ℕ) (m : Standing) (cs : List Standing) (repeated : Option ℕ) → All IsSettled (m ∷ cs)
-    → first_some (verdicts_told k m cs repeated) ≡ None
+pub none_told : (k : ℕ) (m : Standing) (cs : List Standing) (repeated : Option ℕ) → All IsFinal (m ∷ cs)
+    → first_some (sources_verdicts k m cs repeated) ≡ None
     → (list_all (λ (s : Standing). is_whole s.status) (m ∷ cs) ≡ true) × (repeated ≡ None)
 none_told k m cs repeated settled none =
     let a2 : Option Verdict = first_some (map (failed_with_own k) (m ∷ cs)) in
@@ -149,17 +152,19 @@ none_told k m cs repeated settled none =
     let faultless = no_fault k (m ∷ cs) n2.0 in
     let not_all_clean : list_all (λ (s : Standing). is_clean s.status) (m ∷ cs) ≡ false =
     then_none (list_all (λ (s : Standing). is_clean s.status) (m ∷ cs)) Done n4.0 in
-    elim (sound m.status (All-head IsSettled m cs settled) (All-head (λ (s : Standing). fault_of s.status ≡ None) m cs faultless)) [
+    elim (sound m.status (All-head IsFinal m cs settled) (All-head (λ (s : Standing). fault_of s.status ≡ None) m cs faultless)) [
       | inr clean ↦
           let c : is_clean m.status ≡ true = ap is_clean clean in
           let w : is_whole m.status ≡ false = ap is_whole clean in
-          let none_whole = none_found k is_whole fault.Extra cs (sym (cond-true (is_clean m.status) (failed_at_first k is_whole fault.Extra cs) None c) ∙ n5.0) in
+          let none_whole = none_found k is_whole fault.Extra cs
+          (sym (cond-true (is_clean m.status) (failed_at_first k is_whole fault.Extra cs) None c) ∙ n5.0) in
           let t : list_all (λ (s : Standing). is_clean s.status) (m ∷ cs) ≡ true =
           all_clean (m ∷ cs) settled faultless (All-cons (λ (s : Standing). is_whole s.status ≡ false) m cs w none_whole) in absurd cc
       | inl whole ↦
           let w : is_whole m.status ≡ true = ap is_whole whole in
           let c : is_clean m.status ≡ false = ap is_clean whole in
-          let none_clean = none_found k is_clean fault.Short cs (sym (cond-true (is_whole m.status) (failed_at_first k is_clean fault.Short cs) None w) ∙ n6.0) in (
+          let none_clean = none_found k is_clean fault.Short cs
+          (sym (cond-true (is_whole m.status) (failed_at_first k is_clean fault.Short cs) None w) ∙ n6.0) in (
             all_whole (m ∷ cs) settled faultless (All-cons (λ (s : Standing). is_clean s.status ≡ false) m cs c none_clean),
             map_none (λ j. failed k (origin.Channel j) fault.HelloTwice) repeated n3.0,
           )
@@ -183,6 +188,7 @@ passed_parts k readings t =
 abbrev pub round_told : ℕ → Readings → List (Option Verdict)
 round_told k readings = option_map (λ (f : RoundFault). failed k origin.Round (fault.Round f)) (refusal_at k readings) ∷ []
 
+-- if the sources have a verdict at a round, the round doesn't pass, and this is its verdict
 pub told_first_some : (k : ℕ) (readings : Readings) (v : Verdict) → first_some (told_at k readings) ≡ Some v
     → (passes k readings ≡ false) × (first_some (verdicts_at k readings) ≡ Some v)
 told_first_some k readings v e =
@@ -196,9 +202,11 @@ told_first_some k readings v e =
     (stops, first_more (told_at k readings) (round_told k readings) v e)
 
 -- a verdict of the sources is that of the first round that doesn't pass
-pub told_stops : (given : LoadSettings) (uuid : List ℕ) (main : List ℕ) (channels : List (List ℕ)) (readings : Readings) (k : ℕ) (status : Status) (statuses : List Status)
-    (repeated : Option ℕ) (v : Verdict) → IsPageSize given.page_size → AreReadings given uuid (ended_texts main channels) readings → ((j : ℕ) → j < k → IsTrue (passes j readings))
-    → TellsSources k readings status statuses repeated → first_some (verdicts_told k (main_standing status) (standings statuses) repeated) ≡ Some v
+pub told_stops : (given : LoadSettings) (uuid : List ℕ) (main : List ℕ) (channels : List
+    (List ℕ)) (readings : Readings) (k : ℕ) (status : Status) (statuses : List Status)
+    (repeated : Option ℕ) (v : Verdict) → IsPageSize given.page_size → AreReadings given uuid (ended_texts main channels) readings
+    → ((j : ℕ) → j < k → IsTrue (passes j readings))
+    → TellsSources k readings status statuses repeated → first_some (sources_verdicts k (main_standing status) (standings statuses) repeated) ≡ Some v
     → IsFirstStop readings k × (verdict_at k readings ≡ v) × (v ≢ Running)
 told_stops given uuid main channels readings k status statuses repeated v size are before tells e =
     let told : first_some (told_at k readings) ≡ Some v = sym (ap first_some (same_told k readings status statuses repeated tells)) ∙ e in
@@ -210,9 +218,11 @@ told_stops given uuid main channels readings k status statuses repeated v size a
     )
 
 -- where they give none, it is that of the round, if it is refused
-pub told_refused : (given : LoadSettings) (uuid : List ℕ) (main : List ℕ) (channels : List (List ℕ)) (readings : Readings) (k : ℕ) (status : Status) (statuses : List Status)
-    (repeated : Option ℕ) (f : RoundFault) → IsPageSize given.page_size → AreReadings given uuid (ended_texts main channels) readings → ((j : ℕ) → j < k → IsTrue (passes j readings))
-    → TellsSources k readings status statuses repeated → first_some (verdicts_told k (main_standing status) (standings statuses) repeated) ≡ None
+pub told_refused : (given : LoadSettings) (uuid : List ℕ) (main : List ℕ) (channels : List
+    (List ℕ)) (readings : Readings) (k : ℕ) (status : Status) (statuses : List Status)
+    (repeated : Option ℕ) (f : RoundFault) → IsPageSize given.page_size
+    → AreReadings given uuid (ended_texts main channels) readings → ((j : ℕ) → j < k → IsTrue (passes j readings))
+    → TellsSources k readings status statuses repeated → first_some (sources_verdicts k (main_standing status) (standings statuses) repeated) ≡ None
     → refusal_at k readings ≡ Some f
     → IsFirstStop readings k × (verdict_at k readings ≡ failed k origin.Round (fault.Round f))
 told_refused given uuid main channels readings k status statuses repeated f size are before tells e refused =
@@ -233,9 +243,11 @@ told_refused given uuid main channels readings k status statuses repeated f size
     )
 
 -- and the round passes where it isn't
-pub told_passes : (given : LoadSettings) (uuid : List ℕ) (main : List ℕ) (channels : List (List ℕ)) (readings : Readings) (k : ℕ) (status : Status) (statuses : List Status)
-    (repeated : Option ℕ) → IsPageSize given.page_size → AreReadings given uuid (ended_texts main channels) readings → ((j : ℕ) → j < k → IsTrue (passes j readings))
-    → TellsSources k readings status statuses repeated → first_some (verdicts_told k (main_standing status) (standings statuses) repeated) ≡ None
+pub told_passes : (given : LoadSettings) (uuid : List ℕ) (main : List ℕ) (channels : List
+    (List ℕ)) (readings : Readings) (k : ℕ) (status : Status) (statuses : List Status)
+    (repeated : Option ℕ) → IsPageSize given.page_size → AreReadings given uuid (ended_texts main channels) readings
+    → ((j : ℕ) → j < k → IsTrue (passes j readings))
+    → TellsSources k readings status statuses repeated → first_some (sources_verdicts k (main_standing status) (standings statuses) repeated) ≡ None
     → refusal_at k readings ≡ None → IsTrue (passes k readings)
 told_passes given uuid main channels readings k status statuses repeated size are before tells e lawful =
     let told : first_some (told_at k readings) ≡ None = sym (ap first_some (same_told k readings status statuses repeated tells)) ∙ e in
@@ -244,7 +256,8 @@ told_passes given uuid main channels readings k status statuses repeated size ar
     rw (parts.0, parts.1, lawful) refl
 
 -- the statuses that represent channels, of which each is whole
-whole_statuses : (n : ℕ) (statuses : List Status) → AreWhole (map (λ (s : ℕ × Status). record { source = origin.Channel s.0; status = s.1 }) (enumerate_from n statuses))
+whole_statuses : (n : ℕ) (statuses : List Status)
+    → AreWhole (map (λ (s : ℕ × Status). record { source = origin.Channel s.0; status = s.1 }) (enumerate_from n statuses))
     → All (λ s. s ≡ Whole) statuses
 whole_statuses n [] all = All-nil (λ s. s ≡ Whole)
 whole_statuses n (s ∷ statuses) all =
@@ -254,9 +267,11 @@ whole_statuses n (s ∷ statuses) all =
     (whole_statuses (n + 1) statuses (All-tail IsWhole (record { source = origin.Channel n; status = s }) rest all))
 
 -- all sources have a round at which they give no verdict
-pub told_whole : (given : LoadSettings) (uuid : List ℕ) (main : List ℕ) (channels : List (List ℕ)) (readings : Readings) (k : ℕ) (status : Status) (statuses : List Status)
-    (repeated : Option ℕ) → IsPageSize given.page_size → AreReadings given uuid (ended_texts main channels) readings → ((j : ℕ) → j < k → IsTrue (passes j readings))
-    → TellsSources k readings status statuses repeated → first_some (verdicts_told k (main_standing status) (standings statuses) repeated) ≡ None
+pub told_whole : (given : LoadSettings) (uuid : List ℕ) (main : List ℕ) (channels : List
+    (List ℕ)) (readings : Readings) (k : ℕ) (status : Status) (statuses : List Status)
+    (repeated : Option ℕ) → IsPageSize given.page_size → AreReadings given uuid (ended_texts main channels) readings
+    → ((j : ℕ) → j < k → IsTrue (passes j readings))
+    → TellsSources k readings status statuses repeated → first_some (sources_verdicts k (main_standing status) (standings statuses) repeated) ≡ None
     → (status ≡ Whole) × All (λ s. s ≡ Whole) statuses
 told_whole given uuid main channels readings k status statuses repeated size are before tells e =
     let told : first_some (told_at k readings) ≡ None = sym (ap first_some (same_told k readings status statuses repeated tells)) ∙ e in
@@ -289,11 +304,15 @@ told_bad_main given uuid main channels readings k f size are before bad =
 abbrev pub standings_from : ℕ → List Status → List Standing
 standings_from n statuses = map (λ (s : ℕ × Status). record { source = origin.Channel s.0; status = s.1 }) (enumerate_from n statuses)
 
-pub any_standings : (test : Status → Bool) (n : ℕ) (statuses : List Status) → list_any test statuses ≡ list_any (λ (s : Standing). test s.status) (standings_from n statuses)
+-- some source passes a test of statuses if some status does
+pub any_standings : (test : Status → Bool) (n : ℕ) (statuses : List Status)
+    → list_any test statuses ≡ list_any (λ (s : Standing). test s.status) (standings_from n statuses)
 any_standings test n [] = refl
 any_standings test n (s ∷ statuses) = rw (any_standings test (n + 1) statuses) refl
 
-pub all_standings : (test : Status → Bool) (n : ℕ) (statuses : List Status) → list_all test statuses ≡ list_all (λ (s : Standing). test s.status) (standings_from n statuses)
+-- all sources pass a test of statuses if all statuses do
+pub all_standings : (test : Status → Bool) (n : ℕ) (statuses : List Status)
+    → list_all test statuses ≡ list_all (λ (s : Standing). test s.status) (standings_from n statuses)
 all_standings test n [] = refl
 all_standings test n (s ∷ statuses) = rw (all_standings test (n + 1) statuses) refl
 
@@ -320,7 +339,8 @@ own_told k (Some j) (Some s) = option_map (failed k (origin.Channel j)) (fault_o
 abbrev pub is_bad : Status → Bool
 is_bad s = is_some (fault_of s)
 
-own_from : (k n : ℕ) (statuses : List Status) → own_told k (position_from is_bad n statuses) (find is_bad statuses) ≡ first_some (map (failed_with_own k) (standings_from n statuses))
+own_from : (k n : ℕ) (statuses : List Status)
+    → own_told k (position_from is_bad n statuses) (find is_bad statuses) ≡ first_some (map (failed_with_own k) (standings_from n statuses))
 own_from k n [] = refl
 own_from k n (Whole ∷ statuses) = own_from k (n + 1) statuses
 own_from k n (Clean ∷ statuses) = own_from k (n + 1) statuses
@@ -334,6 +354,7 @@ own_standings k statuses =
     ap (λ (o : Option Status). own_told k (position is_bad statuses) o) (sym (find_at is_bad statuses))
     ∙ ap (λ (o : Option ℕ). own_told k o (find is_bad statuses)) (position_from-zero is_bad statuses) ∙ own_from k 0 statuses
 
+-- the first answer of one is it
 pub or_none : {X : Type 0} (o : Option X) → first_some (o ∷ []) ≡ o
 or_none None = refl
 or_none (Some x) = refl
@@ -349,6 +370,7 @@ own_at : (k j : ℕ) (statuses : List Status) (below : Bool) → nat_lt j (lengt
 own_at k j statuses true e = ap (own_told k (Some j)) (sym (slice_get-get_or statuses j Whole (ltb-true j (length statuses) e)))
 own_at k j statuses false e = refl
 
+-- the fault of the first channel that is bad is the first verdict with a channel's own fault
 pub own_first : (k : ℕ) (statuses : List Status) → own_found k statuses (position is_bad statuses) ≡ first_some (map (failed_with_own k) (standings statuses))
 own_first k statuses =
     let j = position_or_len is_bad statuses in

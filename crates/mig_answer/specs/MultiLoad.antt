@@ -2,9 +2,11 @@
 use Rattle.std.specs.Prelude.{ℕ, ◌≡◌, ◌⊎◌, ◌<◌, Bool, false, ◌&&◌, ◌==◌, if◌then◌else◌, List, [], ◌∷◌, ◌++◌, length, map, take, get_or, find, Option, Some, None, is_none, IsTrue, IsFalse, Result, Ok, Err, ⊤, Vec}
 use Rattle.std.specs.Bool.{then_some}
 use Rattle.std.specs.List.{list_any, list_all, range_with_len, enumerate_from}
-use Rattle.std.specs.Option.{option_map, unwrap_or}
+use Rattle.std.specs.Option.{option_map, unwrap_or, IsSomeAnd}
 use Rattle.mig_mem.specs.First.{first_some}
 use Rattle.mig_mem.specs.Image.{Image}
+use Rattle.mig_stream.specs.Reader.{HasClosedAt, IsValidUpTo}
+use Rattle.mig_single_load.specs.Settings.{main_of}
 use Rattle.mig_single_load.specs.declared.settings.LoadSettings.{LoadSettings}
 use Rattle.mig_single_load.specs.declared.fault.Origin.{Origin}
 use Rattle.mig_single_load.specs.declared.fault.Origin.TheVariants as origin
@@ -12,12 +14,13 @@ use Rattle.mig_single_load.specs.declared.fault.Fault.{Fault}
 use Rattle.mig_single_load.specs.declared.fault.Fault.TheVariants as fault
 use Rattle.mig_single_load.specs.declared.fault.LoadFault.{LoadFault}
 use Rattle.mig_single_load.specs.declared.loaded.Loaded.{Loaded}
+use Rattle.mig_single_load.specs.SingleLoad.{unloaded}
 use Rattle.mig_answer.specs.declared.verdict.Verdict.{Verdict}
 use Rattle.mig_answer.specs.declared.verdict.Verdict.TheVariants.{Running, Done, Failed}
 use Rattle.mig_answer.specs.declared.status.Status.{Status}
 use Rattle.mig_answer.specs.Status.{main_status, channel_status, is_whole, is_clean, is_pending, fault_of}
 use Rattle.mig_answer.specs.Texts.{Texts, Readings, AreReadings}
-use Rattle.mig_answer.specs.Rounds.{refusal_at, memory_at}
+use Rattle.mig_answer.specs.Rounds.{refusal_at, memory_at, missing_at}
 
 -- ---- the sources at a round
 
@@ -91,8 +94,8 @@ failed_with_own k s = option_map (failed k s.source) (fault_of s.status)
 --   done, if all sources are clean;
 --   Extra, at the least channel that has the round, if the main stream is clean;
 --   Short, at the least channel that is clean, if the main stream has the round.
-abbrev pub verdicts_told : ℕ → Standing → List Standing → Option ℕ → List (Option Verdict)
-verdicts_told k main channels repeated =
+abbrev pub sources_verdicts : ℕ → Standing → List Standing → Option ℕ → List (Option Verdict)
+sources_verdicts k main channels repeated =
     then_some (list_any (λ s. is_pending s.status) (main ∷ channels)) Running ∷
     first_some (map (failed_with_own k) (main ∷ channels)) ∷
     option_map (λ j. failed k (origin.Channel j) fault.HelloTwice) repeated ∷
@@ -104,7 +107,7 @@ verdicts_told k main channels repeated =
 -- then why the round isn't lawful.
 abbrev pub verdicts_at : ℕ → Readings → List (Option Verdict)
 verdicts_at k readings =
-    verdicts_told k (main_at k readings) (channels_at k readings) (repeated_hello (hello_ids readings))
+    sources_verdicts k (main_at k readings) (channels_at k readings) (repeated_hello (hello_ids readings))
     ++ option_map (λ f. failed k origin.Round (fault.Round f)) (refusal_at k readings) ∷ []
 
 -- The first that applies. At a round that doesn't pass one of them does.
@@ -151,6 +154,20 @@ as_verdict (Err fault) = Failed fault
 
 abbrev pub answer_of : {A : Type 0} → Loaded A → Answer
 answer_of loaded = record { memory = loaded.memory; rounds = loaded.rounds; verdict = as_verdict loaded.verdict }
+
+-- What a load says of its streams beside the answer: how many pages of the table the rounds counted
+-- don't name, where the main stream is closed, and how long its valid prefix is.
+pub record SaysOfStreams {A : Type 0} (given : LoadSettings) (uuid : List ℕ) (texts : Texts) (a : Loaded A) : Type 0 where
+  pub readings : Readings
+  pub are_readings : AreReadings given uuid texts readings
+  pub has_missing : a.missing ≡ missing_at a.rounds readings
+  pub has_closed_at : HasClosedAt (main_of given) texts.main.bytes a.closed_at
+  pub has_valid_up_to : IsSomeAnd a.valid_up_to (IsValidUpTo (main_of given) texts.main.bytes)
+
+-- It says so, or an allocation was refused before the first round.
+abbrev pub SaysOfStreamsOrNothing : {A : Type 0} → LoadSettings → List ℕ → Texts → Loaded A → Type 0
+SaysOfStreamsOrNothing given uuid texts a =
+    SaysOfStreams given uuid texts a ⊎ (a ≡ unloaded)
 
 -- the bytes of streams that a caller holds
 abbrev pub bytes_of : {B : Type 0} → List (Vec ℕ B) → List (List ℕ)

@@ -65,3 +65,7 @@ named_at k readings = option_map (λ table. named_by table (map (λ i. pages_at 
 -- how many pages of the table the first k rounds don't name
 abbrev pub missing_after : RamTable → ℕ → Readings → ℕ
 missing_after table k readings = missing_of table (map (λ i. pages_at table i readings) (range_with_len 0 k))
+
+-- how many pages of the main stream's table they don't name, None if the size list isn't complete
+abbrev pub missing_at : ℕ → Readings → Option ℕ
+missing_at k readings = option_map (λ table. missing_after table k readings) readings.main.table

@@ -8,8 +8,9 @@
 //! other than `Running` stays when more bytes follow. A sender's streams load completely. The laws
 //! hold for each load whose answer is `IsAnswer`, as those of `mig_relay` and `mig_session`.
 //!
-//! Relays and sessions share the calls beside the laws: `verdict_told` returns the verdict of the
-//! sources at a round. `put` applies a round to memory, and `put_by` has several threads write it.
+//! Relays and sessions share the calls beside the laws: `sources_verdict` returns the verdict of
+//! the sources at a round. `apply` applies a round to memory, and `apply_by` has several threads
+//! write it.
 //!
 //! Definitions, in reading order: `Status`, `Texts`, `Rounds`, `MultiLoad`, then `Received`,
 //! `Dealt`, `Sent`, `Law`, `Growing` (`specs/`). `Told` and `Putting` are for the shared calls
@@ -19,14 +20,14 @@
 mod laws;
 mod round;
 mod status;
-mod told;
 mod verdict;
+mod verdicts;
 
 pub use laws::{
     answers_stay, dealt_rounds_are_lawful, done_by_one_round_end, machine_sendings_are_loaded,
     received_tells_status, sendings_are_loaded, texts_have_one_answer,
 };
-pub use round::{put, put_by};
+pub use round::{apply, apply_by};
 pub use status::{Status, channel_end, stream_end};
-pub use told::{repeated_id, verdict_told};
 pub use verdict::Verdict;
+pub use verdicts::{repeated_id, sources_verdict};

@@ -34,7 +34,7 @@ fn has_room<A: Allocator>(target: &Target<A>, gathered: &Gathered<'_, A>) -> boo
 /// # Errors
 ///
 /// `Fault::Round` with the refusal of the round, or `NoMemory`. Nothing changes.
-pub fn put<A: Allocator + Copy>(
+pub fn apply<A: Allocator + Copy>(
     target: &mut Target<A>,
     round: &StreamRound<'_, A>,
     gathered: &Gathered<'_, A>,
@@ -58,13 +58,13 @@ pub fn put<A: Allocator + Copy>(
     }
 }
 
-/// Applies a round to memory, if it is lawful, as `put` does. At most `threads` threads write the
+/// Applies a round to memory, if it is lawful, as `apply` does. At most `threads` threads write the
 /// pages, the caller's thread among them.
 ///
 /// # Errors
 ///
 /// `Fault::Round` with the refusal of the round, or `NoMemory`. Nothing changes.
-pub fn put_by<R: Threads + Sync, A: Allocator + Copy + Send>(
+pub fn apply_by<R: Threads + Sync, A: Allocator + Copy + Send>(
     rt: &R,
     threads: u64,
     target: &mut Target<A>,

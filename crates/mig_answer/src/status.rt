@@ -1,5 +1,5 @@
 //! The status of a source, the main stream or a channel, at a round. Relays and sessions find it,
-//! and the module `told` turns the statuses into a verdict.
+//! and the module `verdicts` turns the statuses into a verdict.
 
 ghost use Rattle.std.specs.Prelude.{◌≡◌};
 ghost use Rattle.mig_answer.specs.Status.{stream_end, channel_end};

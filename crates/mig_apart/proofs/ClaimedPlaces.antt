@@ -46,16 +46,6 @@ pub record HasFreed (table : RamTable) (f : ℕ → Place) (i : ℕ) (old now : 
   pub same_table : now.table ≡ table
   pub frees : ClaimsLess table (first_places f i) old now
 
-pub claimed_none : (table : RamTable) (f : ℕ → Place) (old : PlaceSet) → old.table ≡ table → HasClaimed table f 0 old old
-claimed_none table f old same = record { same_table = same; claims = λ p is. refl }
-
-pub freed_none : (table : RamTable) (f : ℕ → Place) (old : PlaceSet) → old.table ≡ table → HasFreed table f 0 old old
-freed_none table f old same = record { same_table = same; frees = λ p is. sym (and_true (has_place old.marked p)) }
-  where
-    and_true : (x : Bool) → (x && true) ≡ x
-    and_true true = refl
-    and_true false = refl
-
 or_order : (a b c : Bool) → (a || (b || c)) ≡ ((b || a) || c)
 or_order true true c = refl
 or_order true false c = refl
@@ -67,7 +57,9 @@ and_order true true c = refl
 and_order true false c = refl
 and_order false b c = refl
 
-pub claimed_more : (table : RamTable) (f : ℕ → Place) (i : ℕ) (old now new : PlaceSet) → new ≡ with_place now (f i) → HasClaimed table f i old now → HasClaimed table f (i + 1) old new
+-- if the first `i` places are claimed, and then place `i`, the first `i + 1` are claimed
+pub claimed_more : (table : RamTable) (f : ℕ → Place) (i : ℕ) (old now new : PlaceSet) → new ≡ with_place now (f i)
+    → HasClaimed table f i old now → HasClaimed table f (i + 1) old new
 claimed_more table f i old now new is at =
     let n : Place = f i in
     record {
@@ -82,7 +74,9 @@ claimed_more table f i old now new is at =
           ∙ ap (λ (x : Bool). x || has_place old.marked p) (sym (has_more f i p));
     }
 
-pub freed_more : (table : RamTable) (f : ℕ → Place) (i : ℕ) (old now new : PlaceSet) → new ≡ without_place now (f i) → HasFreed table f i old now → HasFreed table f (i + 1) old new
+-- if the first `i` places are freed, and then place `i`, the first `i + 1` are freed
+pub freed_more : (table : RamTable) (f : ℕ → Place) (i : ℕ) (old now new : PlaceSet) → new ≡ without_place now (f i)
+    → HasFreed table f i old now → HasFreed table f (i + 1) old new
 freed_more table f i old now new is at =
     let n : Place = f i in
     record {

@@ -74,15 +74,15 @@ impl<A: Allocator> Debug for ApartSession<A> {
 }
 
 impl<A: Allocator + Copy> ApartSession<A> {
-    /// Creates a load as `InPlaceSession::new_in` does. Nothing is claimed.
+    /// Creates a load as `InPlaceSession::new` does. Nothing is claimed.
     ///
     /// # Errors
     ///
     /// `NoMemory`: an allocation was refused.
-    pub fn new_in<B: Allocator>(
+    pub fn new<B: Allocator>(
         alloc: A,
-        table: &Table<B>,
         settings: LoadSettings,
+        table: &Table<B>,
         uuid: &Uuid,
         channels: usize,
     ) -> Result<ApartSession<A>, NoMemory>
@@ -94,7 +94,7 @@ impl<A: Allocator + Copy> ApartSession<A> {
         ensures none { IfOk result (λ s. s.claimed.marked ≡ []) }
     {
         Ok(ApartSession {
-            load: InPlaceSession::new_in(alloc, table, settings, uuid, channels)?,
+            load: InPlaceSession::new(alloc, settings, table, uuid, channels)?,
             claimed: Dirty::none(alloc, table)?,
         })
     }

@@ -1,13 +1,13 @@
 -- Places that are added to a set, one after another, and those of a round.
 use Rattle.std.proofs.Common.{ℕ, ◌≡◌, ◌<◌, ◌≤◌, ◌+◌, List, [], ◌∷◌, ◌++◌, length, take, refl, sym, ap, subst, ◌∙◌, append_assoc, Some, None, Bool, false, not, ◌||◌, arith}
 use Rattle.std.specs.List.{find}
-use Rattle.std.proofs.lemmas.List.{append-nil, length-take, take_all, length_push}
+use Rattle.std.proofs.lemmas.List.{length-take, length_push}
 use Rattle.std.proofs.lemmas.List.Folds.{list_any-append}
 use Rattle.mig_mem.specs.declared.place.Place.{Place}
 use Rattle.mig_mem.specs.Place.{place_at, place_eq, place_lt, has_place}
 use Rattle.mig_mem.specs.PlaceSet.{PlaceSet, IsPlaceSet, places_where, with_place}
 use Rattle.mig_mem.proofs.Sets.{where_agree, has_place-where}
-use Rattle.mig_mem.proofs.Walks.{HasListed, listed_none, listed_more, listed_all}
+use Rattle.mig_mem.proofs.Walks.{HasListed, listed_more, listed_all}
 use Rattle.mig_assemble.specs.Judging.{places_of}
 use Rattle.mig_assemble.specs.Arrivals.{RoundSoFar, pages_that_came}
 use Rattle.mig_assemble.specs.NamedPlaces.{HasPlaces, AddsPlaces, AddsArrivals}
@@ -20,14 +20,7 @@ pub record HasAdded (more old now : PlaceSet) (from : Place) (i : ℕ) : Type 0 
   pub adds : AddsPlaces (take i more.marked) old now
   pub same_table : now.table ≡ old.table
 
-pub added_none : (more old : PlaceSet) → HasAdded more old old (place_at 0 0) 0
-added_none more old = record {
-  few = omega arith;
-  listed = listed_none more;
-  adds = λ table places has. subst (λ (l : List Place). HasPlaces table l old) (sym (append-nil places)) has;
-  same_table = refl;
-}
-
+-- the next place of the set is added to those before it
 pub added_more : (more old mid now : PlaceSet) (from p : Place) (i : ℕ) → IsPlaceSet more → HasAdded more old mid from i
     → find (λ q. not (place_lt q from)) more.marked ≡ Some p → now ≡ with_place mid p → HasAdded more old now (place_at p.block (p.page + 1)) (i + 1)
 added_more more old mid now from p i is h some put =
@@ -46,16 +39,15 @@ added_more more old mid now from p i is h some put =
       same_table = ap (λ (s : PlaceSet). s.table) put ∙ h.same_table;
     }
 
-pub added_all : (more old now : PlaceSet) (from : Place) (i : ℕ) → HasAdded more old now from i → find (λ q. not (place_lt q from)) more.marked ≡ None → AddsPlaces more.marked old now
+-- if no place of the set is left, all were added
+pub added_all : (more old now : PlaceSet) (from : Place) (i : ℕ) → HasAdded more old now from i
+    → find (λ q. not (place_lt q from)) more.marked ≡ None → AddsPlaces more.marked old now
 added_all more old now from i h none = subst (λ (ps : List Place). AddsPlaces ps old now) (listed_all more from (take i more.marked) h.listed none) h.adds
-
-pub added_count : (more old now : PlaceSet) (from : Place) (i : ℕ) → HasAdded more old now from i → length more.marked ≤ i → AddsPlaces more.marked old now
-added_count more old now from i h all = subst (λ (ps : List Place). AddsPlaces ps old now) (take_all i more.marked all) h.adds
 
 -- ---- the places of a round
 
 -- a place is among those of two lists if it is among those of one
-has_place-append : (xs ys : List Place) (p : Place) → has_place (xs ++ ys) p ≡ (has_place xs p || has_place ys p)
+pub has_place-append : (xs ys : List Place) (p : Place) → has_place (xs ++ ys) p ≡ (has_place xs p || has_place ys p)
 has_place-append xs ys p = list_any-append (λ q. place_eq q p) xs ys
 
 -- the places of a round are added to an empty set by taking its set of them
@@ -66,7 +58,8 @@ taken_over r old none = λ table places came has is.
     has.has_seen.marks
     ∙ ap (λ (ps : List Place). record { table = table; marked = ps })
     (where_agree table (has_place names) (has_place (places ++ names)) (λ p here.
-    let lacks : has_place places p ≡ false = sym (has_place-where table (has_place places) p here) ∙ ap (λ (s : PlaceSet). has_place s.marked p) (sym is) ∙ ap (λ (ps : List Place). has_place ps p) empty in
+    let lacks : has_place places p ≡ false = sym (has_place-where table (has_place places) p here)
+    ∙ ap (λ (s : PlaceSet). has_place s.marked p) (sym is) ∙ ap (λ (ps : List Place). has_place ps p) empty in
     sym (has_place-append places names p ∙ ap (λ (b : Bool). b || has_place names p) lacks)))
   where
     no_elements : {X : Type 0} (xs : List X) → length xs ≡ 0 → xs ≡ []

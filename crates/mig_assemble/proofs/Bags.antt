@@ -6,7 +6,8 @@ use Rattle.std.proofs.lemmas.Bool.{cases_Bool, lt-ltb}
 use Rattle.std.proofs.lemmas.List.Elements.{Contains-append_left, Contains-append_right, Contains-append_cases}
 use Rattle.std.proofs.lemmas.List.Sums.{sum_by-cons, sum_by-append}
 use Rattle.std.proofs.lemmas.List.Sorted.{IsPermutation-sym, Contains-permutation, sum_by-IsPermutation}
-use Rattle.mig_assemble.proofs.Elements.{contains_map, map_contains, contains_flat_map, flat_map_contains, sum_by-map, sum_by-flat_map}
+use Rattle.mig_mem.proofs.Counts.{sum_by-flat_map}
+use Rattle.mig_assemble.proofs.Elements.{contains_map, map_contains, contains_flat_map, flat_map_contains, sum_by-map}
 
 -- Each element of the one is in the other, and each sum over them is the same. What is made of the
 -- elements one by one keeps this, which is why it is easier to handle than a list of exchanges.
@@ -15,6 +16,7 @@ pub record SameBag {X : Type 0} (xs ys : List X) : Type 0 where
   pub back : (x : X) → Contains ys x → Contains xs x
   pub sums : (f : X → ℕ) → sum_by f xs ≡ sum_by f ys
 
+-- a list has the same elements as each of its permutations, each as often
 pub bag_permutation : {X : Type 0} (xs ys : List X) → IsPermutation xs ys → SameBag xs ys
 bag_permutation xs ys perm = record {
   there = λ x h. Contains-permutation xs ys x perm h;
@@ -22,9 +24,11 @@ bag_permutation xs ys perm = record {
   sums = λ f. sym (sum_by-IsPermutation f xs ys perm);
 }
 
+-- lists that have the same elements as a third, each as often, have them as each other
 pub bag_trans : {X : Type 0} (xs ys zs : List X) → SameBag xs ys → SameBag ys zs → SameBag xs zs
 bag_trans xs ys zs a b = record { there = λ x h. b.there x (a.there x h); back = λ x h. a.back x (b.back x h); sums = λ f. a.sums f ∙ b.sums f }
 
+-- lists with the same elements, each as often, are mapped to such lists
 pub bag_map : {X Y : Type 0} (f : X → Y) (xs ys : List X) → SameBag xs ys → SameBag (map f xs) (map f ys)
 bag_map {X} {Y} f xs ys bag = record {
   there = λ y h. (let k = map_contains f xs y h in subst (λ (z : Y). Contains (map f ys) z) k.2 (contains_map f ys k.0 (bag.there k.0 k.1)));
@@ -32,6 +36,7 @@ bag_map {X} {Y} f xs ys bag = record {
   sums = λ g. sum_by-map g f xs ∙ bag.sums (λ x. g (f x)) ∙ sym (sum_by-map g f ys);
 }
 
+-- lists with the same elements, each as often, give such lists of what a function lists of each
 pub bag_flat_map : {X Y : Type 0} (f : X → List Y) (xs ys : List X) → SameBag xs ys → SameBag (flat_map f xs) (flat_map f ys)
 bag_flat_map f xs ys bag = record {
   there = λ y h. (let k = flat_map_contains f xs y h in contains_flat_map f ys k.0 y (bag.there k.0 k.1) k.2);
@@ -47,6 +52,7 @@ bag_behind zs xs ys bag = record {
   sums = λ f. sum_by-append f zs xs ∙ ap (λ (n : ℕ). sum_by f zs + n) (bag.sums f) ∙ sym (sum_by-append f zs ys);
 }
 
+-- lists with the same elements, each as often, are of one length
 pub bag_length : {X : Type 0} (xs ys : List X) → SameBag xs ys → length xs ≡ length ys
 bag_length xs ys bag = length_counted xs ∙ bag.sums (λ _. 1) ∙ sym (length_counted ys)
   where
@@ -56,6 +62,7 @@ bag_length xs ys bag = length_counted xs ∙ bag.sums (λ _. 1) ∙ sym (length_
         let ih = length_counted xs in
         let more : sum_by (λ (x : X). 1) (x ∷ xs) ≡ 1 + sum_by (λ (x : X). 1) xs = sum_by-cons (λ (x : X). 1) x xs in omega arith
 
+-- of lists with the same elements, one has an element that passes if the other has
 pub bag_any : {X : Type 0} (p : X → Bool) (xs ys : List X) → SameBag xs ys → list_any p xs ≡ list_any p ys
 bag_any p xs ys bag = any_counted p xs ∙ ap (nat_lt 0) (bag.sums (λ x. cond (p x) 1 0)) ∙ sym (any_counted p ys)
   where

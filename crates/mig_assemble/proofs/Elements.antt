@@ -10,23 +10,29 @@ contains_at : {X : Type 0} (x : X) (xs : List X) (y : X) (k : ℕ) → k < lengt
 contains_at x xs y zero h e = inl e
 contains_at x xs y (suc k) h e = inr (k, omega arith, e)
 
+-- what a list has is its first element, or its tail has it
 pub contains_cases : {X : Type 0} (x : X) (xs : List X) (y : X) → Contains (x ∷ xs) y → (x ≡ y) ⊎ Contains xs y
 contains_cases x xs y h = contains_at x xs y h.0 h.1 h.2
 
+-- a list has its first element
 pub contains_here : {X : Type 0} (x : X) (xs : List X) → Contains (x ∷ xs) x
 contains_here x xs = (0, omega arith, refl)
 
+-- a list has what its tail has
 pub contains_later : {X : Type 0} (x : X) (xs : List X) (y : X) → Contains xs y → Contains (x ∷ xs) y
 contains_later x xs y h = (suc h.0, let l : h.0 < length xs = h.1 in omega arith, h.2)
 
+-- an empty list has nothing
 pub contains_none : {X : Type 0} {P : Type 0} (y : X) → Contains [] y → P
 contains_none y h = let l : h.0 < 0 = h.1 in absurd (omega arith)
 
+-- what holds of whatever a list has holds of all its elements
 pub all_from : {X : Type 0} (xs : List X) (P : X → Type 0) → ((x : X) → Contains xs x → P x) → All P xs
 all_from xs P each k d h = each (get_or xs k d) (Contains-get_or xs k d h)
 
 -- ---- of lists that are made of others
 
+-- a filter leaves what is in the list and passes
 pub contains_filter : {X : Type 0} (p : X → Bool) (xs : List X) (y : X) → Contains xs y → p y ≡ true → Contains (filter p xs) y
 contains_filter p [] y h t = contains_none y h
 contains_filter {X} p (x ∷ xs) y h t = elim (contains_cases x xs y h) [
@@ -35,6 +41,7 @@ contains_filter {X} p (x ∷ xs) y h t = elim (contains_cases x xs y h) [
       cond_both (p x) (x ∷ filter p xs) (filter p xs) (λ (r : List X). Contains r y) (λ _. contains_later x (filter p xs) y ih) (λ _. ih)
 ]
 
+-- what a filter leaves was in the list, and passes
 pub filter_contains : {X : Type 0} (p : X → Bool) (xs : List X) (y : X) → Contains (filter p xs) y → Contains xs y × (p y ≡ true)
 filter_contains p [] y h = contains_none y h
 filter_contains {X} p (x ∷ xs) y h = elim (cases_Bool (p x)) [
@@ -47,6 +54,7 @@ filter_contains {X} p (x ∷ xs) y h = elim (cases_Bool (p x)) [
       let ih = filter_contains p xs y h' in (contains_later x xs y ih.0, ih.1)
 ]
 
+-- the mapped list has the image of each element
 pub contains_map : {X Y : Type 0} (f : X → Y) (xs : List X) (x : X) → Contains xs x → Contains (map f xs) (f x)
 contains_map f [] x h = contains_none x h
 contains_map {X} {Y} f (z ∷ zs) x h = elim (contains_cases z zs x h) [
@@ -54,6 +62,7 @@ contains_map {X} {Y} f (z ∷ zs) x h = elim (contains_cases z zs x h) [
   | inr later ↦ contains_later (f z) (map f zs) (f x) (contains_map f zs x later)
 ]
 
+-- what a mapped list has is the image of an element
 pub map_contains : {X Y : Type 0} (f : X → Y) (xs : List X) (y : Y) → Contains (map f xs) y → (x : X) × Contains xs x × (f x ≡ y)
 map_contains f [] y h = contains_none y h
 map_contains f (z ∷ zs) y h = elim (contains_cases (f z) (map f zs) y h) [
@@ -61,6 +70,7 @@ map_contains f (z ∷ zs) y h = elim (contains_cases (f z) (map f zs) y h) [
   | inr later ↦ let ih = map_contains f zs y later in (ih.0, contains_later z zs ih.0 ih.1, ih.2)
 ]
 
+-- what is listed of an element is listed of all of them together
 pub contains_flat_map : {X Y : Type 0} (f : X → List Y) (xs : List X) (x : X) (y : Y) → Contains xs x → Contains (f x) y → Contains (flat_map f xs) y
 contains_flat_map f [] x y h k = contains_none x h
 contains_flat_map {X} f (z ∷ zs) x y h k = elim (contains_cases z zs x h) [
@@ -68,6 +78,7 @@ contains_flat_map {X} f (z ∷ zs) x y h k = elim (contains_cases z zs x h) [
   | inr later ↦ Contains-append_right (f z) (flat_map f zs) y (contains_flat_map f zs x y later k)
 ]
 
+-- what is listed of all elements together is listed of one of them
 pub flat_map_contains : {X Y : Type 0} (f : X → List Y) (xs : List X) (y : Y) → Contains (flat_map f xs) y → (x : X) × Contains xs x × Contains (f x) y
 flat_map_contains f [] y h = contains_none y h
 flat_map_contains f (z ∷ zs) y h = elim (Contains-append_cases (f z) (flat_map f zs) y h) [
@@ -77,6 +88,7 @@ flat_map_contains f (z ∷ zs) y h = elim (Contains-append_cases (f z) (flat_map
 
 -- ---- what is kept
 
+-- a filter that no element passes leaves nothing
 pub filter_none : {X : Type 0} (p : X → Bool) (xs : List X) → ((x : X) → Contains xs x → p x ≡ false) → filter p xs ≡ []
 filter_none p [] none = refl
 filter_none p (x ∷ xs) none =
@@ -84,14 +96,17 @@ filter_none p (x ∷ xs) none =
 
 -- ---- how often
 
+-- the first element counts one if it passes, and then the tail is counted
 pub count-cons : {X : Type 0} (p : X → Bool) (x : X) (xs : List X) → count_by p (x ∷ xs) ≡ cond (p x) 1 0 + count_by p xs
 count-cons {X} p x xs = sum_by-cons (λ (y : X). cond (p y) 1 0) x xs
 
+-- the last element counts one if it passes, after those before it
 pub count-push : {X : Type 0} (p : X → Bool) (xs : List X) (x : X) → count_by p (xs ++ x ∷ []) ≡ count_by p xs + cond (p x) 1 0
 count-push {X} p xs x =
     let parts = sum_by-append (λ (y : X). cond (p y) 1 0) xs (x ∷ []) in
     let one : count_by p (x ∷ []) ≡ cond (p x) 1 0 + 0 = count-cons p x [] in omega arith
 
+-- if no element passes, 0 are counted
 pub count_zero : {X : Type 0} (p : X → Bool) (xs : List X) → ((x : X) → Contains xs x → p x ≡ false) → count_by p xs ≡ 0
 count_zero p [] none = refl
 count_zero {X} p (x ∷ xs) none =
@@ -100,6 +115,7 @@ count_zero {X} p (x ∷ xs) none =
     let ih : count_by p xs ≡ 0 = count_zero p xs (λ y h. none y (contains_later x xs y h)) in
     omega arith
 
+-- if an element passes, at least 1 is counted
 pub count_some : {X : Type 0} (p : X → Bool) (xs : List X) (x : X) → Contains xs x → p x ≡ true → 1 ≤ count_by p xs
 count_some p [] x h t = contains_none x h
 count_some {X} p (z ∷ zs) x h t =
@@ -109,11 +125,7 @@ count_some {X} p (z ∷ zs) x h t =
       | inr later ↦ let ih : 1 ≤ count_by p zs = count_some p zs x later t in omega arith
     ]
 
+-- to sum over a mapped list is to sum the function of each image over the list
 pub sum_by-map : {X Y : Type 0} (g : Y → ℕ) (f : X → Y) (xs : List X) → sum_by g (map f xs) ≡ sum_by (λ x. g (f x)) xs
 sum_by-map g f [] = refl
 sum_by-map {X} {Y} g f (x ∷ xs) = sum_by-cons g (f x) (map f xs) ∙ ap (λ (n : ℕ). g (f x) + n) (sum_by-map g f xs) ∙ sym (sum_by-cons (λ (x : X). g (f x)) x xs)
-
-pub sum_by-flat_map : {X Y : Type 0} (g : Y → ℕ) (f : X → List Y) (xs : List X) → sum_by g (flat_map f xs) ≡ sum_by (λ x. sum_by g (f x)) xs
-sum_by-flat_map g f [] = refl
-sum_by-flat_map {X} {Y} g f (x ∷ xs) =
-    sum_by-append g (f x) (flat_map f xs) ∙ ap (λ (n : ℕ). sum_by g (f x) + n) (sum_by-flat_map g f xs) ∙ sym (sum_by-cons (λ (x : X). sum_by g (f x)) x xs)

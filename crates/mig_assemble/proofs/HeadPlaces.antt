@@ -33,6 +33,7 @@ of_head p head is =
       same_offsets = ap (λ (q : Fields). q.zero) same ∙ sym (offsets_are p);
     }
 
+-- a packet's head lists the offsets of the packet
 pub head_offsets : (p : Packet) (head : List ℕ) → head ≡ take (head_len p.page_size) p.bytes.now → offsets_in head ≡ offsets (fields p)
 head_offsets p head is = (of_head p head is).same_offsets
 
@@ -42,7 +43,9 @@ pub head_places : (table : RamTable) (p : Packet) (head : List ℕ) (at : ℕ) �
 head_places table p head at is =
     places-in table (as_zeros head) at ∙ ap (λ (os : List ℕ). map (place_of table at) os) (head_offsets p head is) ∙ sym (places-in table (fields p) at)
 
-pub head_fault : (table : RamTable) (p : Packet) (head : List ℕ) → head ≡ take (head_len p.page_size) p.bytes.now → place_fault table (as_zeros head) ≡ place_fault table (fields p)
+-- the head of a packet, all pages taken as zeros, has the packet's fault of places
+pub head_fault : (table : RamTable) (p : Packet) (head : List ℕ) → head ≡ take (head_len p.page_size) p.bytes.now
+    → place_fault table (as_zeros head) ≡ place_fault table (fields p)
 head_fault table p head is = same_fault table (as_zeros head) (fields p) (of_head p head is)
 
 -- the fault of the places, where they are known
@@ -51,13 +54,15 @@ fault_in Nowhere = None
 fault_in (In b) = None
 fault_in (Misplaced fault) = Some fault
 
+-- the fault of a head's places is the one that its pages have, all taken as zeros
 pub lie_fault : (table : RamTable) (head : List ℕ) (pages : Pages) → Lie table head pages → place_fault table (as_zeros head) ≡ fault_in pages
 lie_fault table head Nowhere lie = fault_none table (as_zeros head) lie
 lie_fault table head (In b) lie = lie.1.are_right
 lie_fault table head (Misplaced fault) lie = lie
 
 -- pages that are in a block lie inside it
-pub lie_inside : (table : RamTable) (b : ℕ) (head : List ℕ) → LieIn table b head → All (λ offset. is_outside table.page_size (block table.blocks b).pages offset ≡ false) (offsets_in head)
+pub lie_inside : (table : RamTable) (b : ℕ) (head : List ℕ) → LieIn table b head
+    → All (λ offset. is_outside table.page_size (block table.blocks b).pages offset ≡ false) (offsets_in head)
 lie_inside table b head lie = lawful_inside table (as_zeros head) b lie.are_right lie.has_block
 
 -- a packet without pages has no place
@@ -70,5 +75,6 @@ nowhere_sees table head seen double none = λ places has.
     subst (λ (ps : List Place). HasSeen seen.table ps seen double) (sym (append-nil places) ∙ ap (λ (l : List Place). places ++ l) (sym nothing)) has
 
 -- the pages of a packet that is in a block are those of its head there
-pub in_sees : (table : RamTable) (b : ℕ) (head : List ℕ) → LieIn table b head → places_of (pages_in table (as_zeros head) b) ≡ places_of (packet_pages table (as_zeros head))
+pub in_sees : (table : RamTable) (b : ℕ) (head : List ℕ) → LieIn table b head
+    → places_of (pages_in table (as_zeros head) b) ≡ places_of (packet_pages table (as_zeros head))
 in_sees table b head lie = ap (λ (l : List Page). places_of l) (sym (packet_places table (as_zeros head) b lie.has_block))

@@ -35,6 +35,7 @@ head_fault table n id os = if length os == 0 then None else fault_by table n os 
 place_by : (table : RamTable) (p : Fields) → place_fault table p ≡ head_fault table p.number p.id (offsets p)
 place_by table p = ap (λ (f : Option RoundFault). if length (offsets p) == 0 then None else f) (offset_by table p (block_of table.blocks p.id))
 
+-- packets with one head have the same fault of places
 pub same_fault : (table : RamTable) (p q : Fields) → SameHead p q → place_fault table p ≡ place_fault table q
 same_fault table p q same =
     place_by table p
@@ -43,6 +44,7 @@ same_fault table p q same =
     ∙ ap (λ (os : List ℕ). head_fault table q.number q.id os) same.same_offsets
     ∙ sym (place_by table q)
 
+-- packets with one head name the same places
 pub same_places : (table : RamTable) (p q : Fields) → SameHead p q → places_of (packet_pages table p) ≡ places_of (packet_pages table q)
 same_places table p q same =
     places-in table p (unwrap_or (block_of table.blocks p.id) 0)
@@ -58,7 +60,8 @@ same_numbers [] (q ∷ qs) same = absurd same
 same_numbers (p ∷ ps) [] same = absurd same
 same_numbers (p ∷ ps) (q ∷ qs) same = ap (λ (n : ℕ). n ∷ numbers ps) same.0.same_number ∙ ap (λ (ns : List ℕ). q.number ∷ ns) (same_numbers ps qs same.1)
 
-same_page_places : (table : RamTable) (ps qs : List Fields) → AllZip SameHead ps qs → places_of (flat_map (packet_pages table) ps) ≡ places_of (flat_map (packet_pages table) qs)
+same_page_places : (table : RamTable) (ps qs : List Fields) → AllZip SameHead ps qs
+    → places_of (flat_map (packet_pages table) ps) ≡ places_of (flat_map (packet_pages table) qs)
 same_page_places table [] [] same = refl
 same_page_places table [] (q ∷ qs) same = absurd same
 same_page_places table (p ∷ ps) [] same = absurd same
@@ -121,10 +124,12 @@ same_told table (Some x) None both = absurd both
 same_told table (Some x) (Some y) both = same_fault table x y both
 
 same_least_fault : (table : RamTable) (ps qs : List Fields) → AllZip SameHead ps qs → least_place_fault table ps ≡ least_place_fault table qs
-same_least_fault table ps qs same = same_told table (least_misplaced table ps) (least_misplaced table qs) (same_least (filter (is_bad table) ps) (filter (is_bad table) qs) (same_bad table ps qs same))
+same_least_fault table ps qs same = same_told table (least_misplaced table ps) (least_misplaced table qs)
+    (same_least (filter (is_bad table) ps) (filter (is_bad table) qs) (same_bad table ps qs same))
 
 -- ---- the law
 
+-- a round is judged by the heads of its packets alone
 pub heads_judged : HeadsAreJudged
 heads_judged table base records ps qs same =
     let n = ap (number_refusal base) (same_numbers ps qs same) in

@@ -1,7 +1,7 @@
 -- A round that isn't refused: where its pages lie, and what it leaves.
 use Rattle.std.proofs.Common.{ℕ, ◌≡◌, ◌+◌, ◌/◌, ◌∙◌, List, [], ◌∷◌, ◌++◌, length, map, refl, sym, ap, subst, inl, inr, Option, Some, None, Bool, true, false}
 use Rattle.std.specs.Prelude.{nat_lt, nat_eq}
-use Rattle.std.specs.Option.{option_or, option_and_then, option_map, is_some, unwrap_or}
+use Rattle.std.specs.Option.{option_and_then, option_map, is_some, unwrap_or}
 use Rattle.std.specs.List.{All, filter, flat_map}
 use Rattle.std.proofs.lemmas.Bool.{cases_Bool, cond_both, cond-true, cond-false}
 use Rattle.std.proofs.lemmas.Option.{same_Some}
@@ -15,7 +15,9 @@ use Rattle.mig_mem.specs.Image.{Page, Image, zero_page}
 use Rattle.mig_mem.specs.Round.{with_round}
 use Rattle.mig_mem.specs.PlaceSet.{PlaceSet}
 use Rattle.mig_mem.proofs.Members.{All-flat_map, map-map}
+use Rattle.mig_mem.proofs.Lists.{or_none}
 use Rattle.mig_stream.specs.Round.{RoundOfRecords}
+use Rattle.mig_stream.proofs.FoundList.{no_some}
 use Rattle.mig_packet.specs.declared.packet.Packet.{Packet}
 use Rattle.mig_packet.specs.Packet.{NormalPage, Fields}
 use Rattle.mig_packet.specs.Lent.{fields}
@@ -28,6 +30,7 @@ use Rattle.mig_assemble.specs.NamedPlaces.{with_places}
 use Rattle.mig_assemble.proofs.Putting.{put_after}
 use Rattle.mig_assemble.proofs.Naming.{round_named}
 use Rattle.mig_assemble.proofs.PacketParts.{right_offsets, unknown_has_none}
+use Rattle.mig_assemble.proofs.Least.{least_none}
 
 -- ---- what a lawful round says of each packet
 
@@ -41,10 +44,6 @@ least_has {X} lt P (x ∷ xs) m all e =
     subst P (same_Some (lesser lt x (least lt xs)) m e)
     (lesser_has lt P x (least lt xs) (All-head P x xs all) (λ y is. least_has lt P xs y (All-tail P x xs all) is))
 
-none_least : {X : Type 0} (lt : X → X → Bool) (xs : List X) → least lt xs ≡ None → xs ≡ []
-none_least lt [] e = refl
-none_least lt (x ∷ xs) e = absurd cc
-
 none_kept : {X : Type 0} (p : X → Bool) (xs : List X) → filter p xs ≡ [] → All (λ x. p x ≡ false) xs
 none_kept p [] e = All-nil (λ x. p x ≡ false)
 none_kept {X} p (x ∷ xs) e = elim (cases_Bool (p x)) [
@@ -52,25 +51,17 @@ none_kept {X} p (x ∷ xs) e = elim (cases_Bool (p x)) [
   | inr f ↦ All-cons (λ x. p x ≡ false) x xs f (none_kept p xs (sym (cond-false (p x) (x ∷ filter p xs) (filter p xs) f) ∙ e))
 ]
 
-none_from : {X : Type 0} (o : Option X) → is_some o ≡ false → o ≡ None
-none_from None e = refl
-none_from (Some x) e = absurd cc
-
-both_none : {X : Type 0} (a b : Option X) → option_or a b ≡ None → (a ≡ None) × (b ≡ None)
-both_none None b e = (refl, e)
-both_none (Some x) b e = absurd cc
-
 abbrev lies_wrong : RamTable → Fields → Bool
 lies_wrong table packet = is_some (place_fault table packet)
 
 none_wrong : (table : RamTable) (packets : List Fields) → least_place_fault table packets ≡ None → All (λ p. place_fault table p ≡ None) packets
 none_wrong table packets e =
-    All-weaker (λ p. lies_wrong table p ≡ false) (λ p. place_fault table p ≡ None) (λ p f. none_from (place_fault table p) f) packets
+    All-weaker (λ p. lies_wrong table p ≡ false) (λ p. place_fault table p ≡ None) (λ p f. no_some (place_fault table p) f) packets
     (none_kept (lies_wrong table) packets (go (least (λ p q. nat_lt p.number q.number) (filter (lies_wrong table) packets)) refl e))
   where
     go : (o : Option Fields) → least (λ p q. nat_lt p.number q.number) (filter (lies_wrong table) packets) ≡ o
         → option_and_then (place_fault table) o ≡ None → filter (lies_wrong table) packets ≡ []
-    go None is none = none_least (λ p q. nat_lt p.number q.number) (filter (lies_wrong table) packets) is
+    go None is none = least_none (λ p q. nat_lt p.number q.number) (filter (lies_wrong table) packets) is
     go (Some q) is none =
         let wrong : is_some (place_fault table q) ≡ true =
         least_has (λ p q. nat_lt p.number q.number) (λ p. lies_wrong table p ≡ true) (filter (lies_wrong table) packets) q
@@ -85,10 +76,10 @@ lawful_lies_right table base records packets e =
     let doubled : Option RoundFault = option_map Doubled (least nat_lt (twice nat_eq (numbers packets))) in
     let missing : Option RoundFault = option_map Missing (least nat_lt (absent base (numbers packets))) in
     let last : Option RoundFault = option_map DoublePage (least place_lt (twice place_eq (places_of (all_round_pages table records packets)))) in
-    let after_foreign = both_none foreign (first_some (doubled ∷ (missing ∷ (least_place_fault table packets ∷ (last ∷ []))))) e in
-    let after_doubled = both_none doubled (first_some (missing ∷ (least_place_fault table packets ∷ (last ∷ [])))) after_foreign.1 in
-    let after_missing = both_none missing (first_some (least_place_fault table packets ∷ (last ∷ []))) after_doubled.1 in
-    none_wrong table packets (both_none (least_place_fault table packets) (first_some (last ∷ [])) after_missing.1).0
+    let after_foreign = or_none foreign (first_some (doubled ∷ (missing ∷ (least_place_fault table packets ∷ (last ∷ []))))) e in
+    let after_doubled = or_none doubled (first_some (missing ∷ (least_place_fault table packets ∷ (last ∷ [])))) after_foreign.1 in
+    let after_missing = or_none missing (first_some (least_place_fault table packets ∷ (last ∷ []))) after_doubled.1 in
+    none_wrong table packets (or_none (least_place_fault table packets) (first_some (last ∷ [])) after_missing.1).0
 
 all_of_map : {X Y : Type 0} (P : Y → Type 0) (f : X → Y) (xs : List X) → All P (map f xs) → All (λ x. P (f x)) xs
 all_of_map P f xs all k d lt = subst P (get_or-map f xs k d (f d) lt) (all k (f d) (rw (length-map xs f) lt))
@@ -141,6 +132,8 @@ lawful_in_table table base records packets first lawful =
 
 -- ---- what it leaves
 
+-- a target whose records and then packets were put into its memory and its named places,
+-- with one round more and as many packets more, is the target after that round
 pub applied : (t s : LoadTarget) (m : Image) (n : PlaceSet) (round : RoundOfRecords) (packets gathered : List Packet) → packets ≡ gathered
     → s.memory ≡ with_round t.memory (pages_of_round round) → s.named ≡ with_places t.named (places_of (pages_of_round round)) → s.named.table ≡ s.memory.table
     → s.rounds ≡ t.rounds + 1 → s.base ≡ t.base

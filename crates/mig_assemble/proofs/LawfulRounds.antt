@@ -2,7 +2,7 @@
 use Rattle.std.proofs.Common.{ℕ, ◌≡◌, ◌<◌, ◌/◌, ◌%◌, List, [], ◌∷◌, length, get_or, refl, sym, ap, ◌∙◌}
 use Rattle.std.proofs.Common.{inl, inr, arith, subst, suc, zero, Option, Some, None, Bool, true, false}
 use Rattle.std.specs.Prelude.{◌==◌, ◌↔◌, not, nat_lt, nat_le, nat_eq, position, All, filter, bytes_eq}
-use Rattle.std.specs.Option.{option_map, option_or, option_and_then, is_some}
+use Rattle.std.specs.Option.{option_map, option_and_then, is_some}
 use Rattle.std.proofs.lemmas.Bool.{cases_Bool, cond-true, cond-false, eqb-true, ne_eqb, eq-eqb, or_parts, or_from, lt-leb}
 use Rattle.std.proofs.lemmas.List.Elements.{All-weaker, All-contains}
 use Rattle.std.proofs.lemmas.List.Quantifiers.{position-Some}
@@ -12,7 +12,7 @@ use Rattle.mig_mem.specs.First.{first_some}
 use Rattle.mig_mem.specs.RamTable.{RamTable, Block, block, block_of}
 use Rattle.mig_mem.specs.Place.{IsPlace, place_at, place_lt, place_eq}
 use Rattle.mig_mem.specs.Image.{Page}
-use Rattle.mig_mem.proofs.Lists.{position_past}
+use Rattle.mig_mem.proofs.Lists.{position_past, or_none}
 use Rattle.mig_mem.proofs.PlaceOrder.{place_eq-true, place_eq-from}
 use Rattle.mig_packet.specs.Packet.{Fields}
 use Rattle.mig_assemble.specs.declared.fault.RoundFault.{RoundFault}
@@ -100,10 +100,6 @@ no_place_fault table packets all =
 
 -- ---- the five tests
 
-both_none : {X : Type 0} (a b : Option X) → option_or a b ≡ None → (a ≡ None) × (b ≡ None)
-both_none None b e = (refl, e)
-both_none (Some x) b e = absurd cc
-
 no_double : (o : Option Place) → option_map DoublePage o ≡ None → o ≡ None
 no_double None e = refl
 no_double (Some p) e = absurd cc
@@ -121,14 +117,14 @@ parts_of table base records packets e =
     let doubled : Option RoundFault = option_map Doubled (least nat_lt (twice nat_eq (numbers packets))) in
     let missing : Option RoundFault = option_map Missing (least nat_lt (absent base (numbers packets))) in
     let last : Option RoundFault = option_map DoublePage (least place_lt (twice place_eq (places_of (all_round_pages table records packets)))) in
-    let a = both_none foreign (first_some (doubled ∷ (missing ∷ (least_place_fault table packets ∷ (last ∷ []))))) e in
-    let b = both_none doubled (first_some (missing ∷ (least_place_fault table packets ∷ (last ∷ [])))) a.1 in
-    let c = both_none missing (first_some (least_place_fault table packets ∷ (last ∷ []))) b.1 in
-    let d = both_none (least_place_fault table packets) (first_some (last ∷ [])) c.1 in
+    let a = or_none foreign (first_some (doubled ∷ (missing ∷ (least_place_fault table packets ∷ (last ∷ []))))) e in
+    let b = or_none doubled (first_some (missing ∷ (least_place_fault table packets ∷ (last ∷ [])))) a.1 in
+    let c = or_none missing (first_some (least_place_fault table packets ∷ (last ∷ []))) b.1 in
+    let d = or_none (least_place_fault table packets) (first_some (last ∷ [])) c.1 in
     record {
       of_numbers = rw (a.0, b.0, c.0) refl;
       of_places = d.0;
-      of_doubles = (both_none last None d.1).0;
+      of_doubles = (or_none last None d.1).0;
     }
 
 from_parts : (table : RamTable) (base : ℕ) (records : List Page) (packets : List Fields) → Parts table base records packets
@@ -137,13 +133,14 @@ from_parts table base records packets p =
     let foreign : Option RoundFault = option_map Foreign (least nat_lt (filter (λ n. nat_lt n base) (numbers packets))) in
     let doubled : Option RoundFault = option_map Doubled (least nat_lt (twice nat_eq (numbers packets))) in
     let missing : Option RoundFault = option_map Missing (least nat_lt (absent base (numbers packets))) in
-    let a = both_none foreign (first_some (doubled ∷ (missing ∷ []))) p.of_numbers in
-    let b = both_none doubled (first_some (missing ∷ [])) a.1 in
-    let c = both_none missing None b.1 in
+    let a = or_none foreign (first_some (doubled ∷ (missing ∷ []))) p.of_numbers in
+    let b = or_none doubled (first_some (missing ∷ [])) a.1 in
+    let c = or_none missing None b.1 in
     rw (a.0, b.0, c.0, p.of_places, p.of_doubles) refl
 
 -- ---- the law
 
+-- a round is refused nothing if, and only if, it is lawful
 pub round_is_lawful : (table : RamTable) (base : ℕ) (records : List Page) (packets : List Fields)
     → (refusal table base records packets ≡ None) ↔ IsLawful table base records packets
 round_is_lawful table base records packets = (

@@ -11,12 +11,15 @@ use Rattle.mig_assemble.specs.Judging.{least, lesser, twice}
 use Rattle.mig_assemble.proofs.Elements.{contains_cases, contains_here, contains_later, contains_none, all_from, contains_filter}
 use Rattle.mig_assemble.proofs.Elements.{filter_contains, contains_map, count-cons, count-push, count_zero, count_some}
 
+-- numbers stand in a strict weak order
 pub nat_order : IsStrictWeakOrder nat_lt
 nat_order = IsStrictWeakOrder-by_number (λ (n : ℕ). n)
 
+-- of two numbers of which neither is below the other, both are one
 pub numbers_apart : (x y : ℕ) → nat_lt x y ≡ false → nat_lt y x ≡ false → x ≡ y
 numbers_apart x y h k = let a : y ≤ x = ltb-false x y h in let b : x ≤ y = ltb-false y x k in omega arith
 
+-- a list that has no least element is empty
 pub least_none : {X : Type 0} (lt : X → X → Bool) (xs : List X) → least lt xs ≡ None → xs ≡ []
 least_none lt [] e = refl
 least_none lt (x ∷ xs) e = absurd cc

@@ -16,7 +16,7 @@ pub mod Runs
 pub mod Once
 pub mod LawfulRounds
 pub mod Arriving
-mod AddingPlaces
+pub mod AddingPlaces
 pub mod Naming
 pub mod Heads
 pub mod HeadPlaces

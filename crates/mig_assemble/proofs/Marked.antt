@@ -3,7 +3,7 @@ use Rattle.std.proofs.Common.{ℕ, ◌≡◌, ◌<◌, ◌+◌, List, [], ◌∷
 use Rattle.std.proofs.Common.{inr, arith, Option, Some, None, Bool, true, false, subst, append_assoc, ◌||◌}
 use Rattle.std.specs.Prelude.{Contains, flat_map}
 use Rattle.std.specs.List.{All}
-use Rattle.std.proofs.lemmas.Bool.{cases_Bool, or_cases, or_parts}
+use Rattle.std.proofs.lemmas.Bool.{cases_Bool, or_parts}
 use Rattle.std.proofs.lemmas.List.{map-append, map_more, flat_map_more, get_or-map, length-map}
 use Rattle.std.proofs.lemmas.List.Folds.{list_any-append}
 use Rattle.mig_mem.specs.declared.place.Place.{Place}
@@ -13,21 +13,15 @@ use Rattle.mig_mem.specs.Image.{Page}
 use Rattle.mig_mem.specs.PlaceSet.{PlaceSet, with_place, without_place}
 use Rattle.mig_mem.proofs.PlaceOrder.{place_order, places_apart, place_eq-true, place_eq-from, place_eq-flip}
 use Rattle.mig_mem.proofs.Sets.{where_agree, where_none, where_with, where_without, has_place-where}
+use Rattle.mig_mem.proofs.Tracked.{contains_from_has}
 use Rattle.mig_packet.specs.Packet.{Fields}
 use Rattle.mig_packet.specs.declared.packet.Packet.{Packet}
 use Rattle.mig_packet.specs.Lent.{fields}
 use Rattle.mig_assemble.specs.Judging.{lesser, place_fault, packet_pages, all_round_pages, places_of}
 use Rattle.mig_assemble.specs.Seen.{HasSeen, HasLeft, SeesLess}
 use Rattle.mig_assemble.specs.NamedPlaces.{HasPlaces}
-use Rattle.mig_assemble.proofs.Elements.{contains_cases, contains_here, contains_later, contains_none}
+use Rattle.mig_assemble.proofs.Elements.{contains_cases, contains_none}
 use Rattle.mig_assemble.proofs.Least.{least_twice-new, least_twice-again}
-
-has_contains : (ps : List Place) (p : Place) → has_place ps p ≡ true → Contains ps p
-has_contains [] p h = absurd cc
-has_contains (q ∷ qs) p h = elim (or_cases (place_eq q p) (has_place qs p) h) [
-  | inl t ↦ subst (λ (r : Place). Contains (q ∷ qs) r) (place_eq-true q p t) (contains_here q qs)
-  | inr later ↦ contains_later q qs p (has_contains qs p later)
-]
 
 lacks_each : (ps : List Place) (p : Place) → has_place ps p ≡ false → (q : Place) → Contains ps q → place_eq q p ≡ false
 lacks_each [] p h q k = contains_none q k
@@ -50,12 +44,14 @@ has_place-push ps p q =
     turned false e false = let f : place_eq p q ≡ false = place_eq-flip q p e in rw f refl
 
 -- and so it is in the set of these places
-pub place_added : (table : RamTable) (places : List Place) (s new : PlaceSet) (p : Place) → HasPlaces table places s → new ≡ with_place s p → HasPlaces table (places ++ p ∷ []) new
+pub place_added : (table : RamTable) (places : List Place) (s new : PlaceSet) (p : Place) → HasPlaces table places s
+    → new ≡ with_place s p → HasPlaces table (places ++ p ∷ []) new
 place_added table places s new p has put =
     put ∙ ap (λ (x : PlaceSet). with_place x p) has ∙ where_with table (has_place places) p
     ∙ ap (λ (ps : List Place). record { table = table; marked = ps })
     (where_agree table (λ q. place_eq q p || has_place places q) (has_place (places ++ p ∷ [])) (λ q _. has_place-push places p q))
 
+-- before the first page no place was seen
 pub seen_nothing : (seen : PlaceSet) → seen.marked ≡ [] → HasSeen seen.table [] seen None
 seen_nothing seen none = record {
   marks = ap (λ (ps : List Place). record { table = seen.table; marked = ps }) (none ∙ sym (where_none seen.table (has_place []) (λ p is. refl)));
@@ -83,7 +79,7 @@ module _ (table : RamTable) (places : List Place) (seen new : PlaceSet) (double 
     marks = marks_more;
     least = ap (λ (o : Option Place). Some (lesser place_lt place o)) so_far.least
         ∙ sym (least_twice-again place_lt place_order place_eq places_apart (λ a b. place_eq-true a b) (λ a. place_eq-from a a refl) places place
-        (has_contains places place (sym marked_is ∙ h)));
+        (contains_from_has places place (sym marked_is ∙ h)));
   }
 
 -- a step that marks more places, whatever was marked before
@@ -105,30 +101,37 @@ neither true true false = refl
 neither true true true = refl
 
 -- one place less
-pub left_less : (table : RamTable) (places gone : List Place) (seen new : PlaceSet) (p : Place) → HasLeft table places gone seen → new ≡ without_place seen p → HasLeft table places (gone ++ p ∷ []) new
+pub left_less : (table : RamTable) (places gone : List Place) (seen new : PlaceSet) (p : Place) → HasLeft table places gone seen
+    → new ≡ without_place seen p → HasLeft table places (gone ++ p ∷ []) new
 left_less table places gone seen new p has put =
     put ∙ ap (λ (s : PlaceSet). without_place s p) has ∙ where_without table (λ q. has_place places q && not (has_place gone q)) p
     ∙ ap (λ (ps : List Place). record { table = table; marked = ps })
-    (where_agree table (λ q. (has_place places q && not (has_place gone q)) && not (place_eq q p)) (λ q. has_place places q && not (has_place (gone ++ p ∷ []) q))
+    (where_agree table (λ q. (has_place places q && not (has_place gone q)) && not (place_eq q p))
+    (λ q. has_place places q && not (has_place (gone ++ p ∷ []) q))
     (λ q _. neither (has_place places q) (has_place gone q) (place_eq q p) ∙ ap (λ (b : Bool). has_place places q && not b) (has_place-push gone p q)))
 
 -- none is gone at first
-pub left_all : (table : RamTable) (places : List Place) (seen : PlaceSet) (double : Option Place) → HasSeen table places seen double → HasLeft table places [] seen
+pub left_all : (table : RamTable) (places : List Place) (seen : PlaceSet) (double : Option Place)
+    → HasSeen table places seen double → HasLeft table places [] seen
 left_all table places seen double so_far =
     so_far.marks ∙ ap (λ (ps : List Place). record { table = table; marked = ps })
-    (where_agree table (has_place places) (λ q. has_place places q && not (has_place [] q)) (λ q _. elim (cases_Bool (has_place places q)) [ inl t ↦ rw t refl | inr n ↦ rw n refl ]))
+    (where_agree table (has_place places) (λ q. has_place places q && not (has_place [] q))
+    (λ q _. elim (cases_Bool (has_place places q)) [ inl t ↦ rw t refl | inr n ↦ rw n refl ]))
 
 -- and none is left at last
 pub left_none : (start seen : PlaceSet) (places : List Place) → start.marked ≡ [] → HasLeft start.table places places seen → seen ≡ start
 left_none start seen places none has =
     has ∙ ap (λ (ps : List Place). record { table = start.table; marked = ps })
-    (where_none start.table (λ q. has_place places q && not (has_place places q)) (λ q _. elim (cases_Bool (has_place places q)) [ inl t ↦ rw t refl | inr n ↦ rw n refl ]) ∙ sym none)
+    (where_none start.table (λ q. has_place places q && not (has_place places q))
+    (λ q _. elim (cases_Bool (has_place places q)) [ inl t ↦ rw t refl | inr n ↦ rw n refl ]) ∙ sym none)
 
 -- a step that takes more marks away
-less_step : (old seen new : PlaceSet) (before more after : List Place) → seen.table ≡ old.table → SeesLess more seen new → SeesLess before old seen → before ++ more ≡ after → SeesLess after old new
+less_step : (old seen new : PlaceSet) (before more after : List Place) → seen.table ≡ old.table → SeesLess more seen new
+    → SeesLess before old seen → before ++ more ≡ after → SeesLess after old new
 less_step old seen new before more after t step so_far is = λ places gone has.
     let left : HasLeft old.table places (gone ++ before) seen = so_far places gone has in
-    let next : HasLeft seen.table places ((gone ++ before) ++ more) new = step places (gone ++ before) (subst (λ (u : RamTable). HasLeft u places (gone ++ before) seen) (sym t) left) in
+    let next : HasLeft seen.table places ((gone ++ before) ++ more) new =
+    step places (gone ++ before) (subst (λ (u : RamTable). HasLeft u places (gone ++ before) seen) (sym t) left) in
     subst (λ (ps : List Place). HasLeft old.table places ps new) (append_assoc gone before more ∙ ap (λ (ps : List Place). gone ++ ps) is)
     (subst (λ (u : RamTable). HasLeft u places ((gone ++ before) ++ more) new) t next)
 
@@ -170,8 +173,11 @@ packet_step table now same records packets i q lt is seen new double result step
 
 -- ---- and taken away again
 
+-- if the marks of the first `i` packets' places are removed, and then those of packet `i`,
+-- the marks of the first `i + 1` packets' places are removed
 pub less_packet : (old seen new : PlaceSet) (packets : List Packet) (i : ℕ) (q : Packet) → i < length packets → q ≡ get_or packets i q → seen.table ≡ old.table
-    → SeesLess (places_of (packet_pages seen.table (fields q))) seen new → SeesLess (places_of (all_round_pages old.table [] (map fields (take i packets)))) old seen
+    → SeesLess (places_of (packet_pages seen.table (fields q))) seen new
+    → SeesLess (places_of (all_round_pages old.table [] (map fields (take i packets)))) old seen
     → SeesLess (places_of (all_round_pages old.table [] (map fields (take (i + 1) packets)))) old new
 less_packet old seen new packets i q lt is same step so_far =
     less_step old seen new (places_of (all_round_pages old.table [] (map fields (take i packets)))) (places_of (packet_pages seen.table (fields q)))
@@ -188,9 +194,11 @@ all_gone start marked between last records packets double none so_far same first
     let t : marked.table ≡ start.table = ap (λ (s : PlaceSet). s.table) so_far.marks in
     let u : between.table ≡ start.table = same ∙ t in
     let one : HasLeft start.table all (places_of records) between =
-    subst (λ (w : RamTable). HasLeft w all (places_of records) between) t (first all [] (subst (λ (w : RamTable). HasLeft w all [] marked) (sym t) (left_all start.table all marked double so_far))) in
+    subst (λ (w : RamTable). HasLeft w all (places_of records) between) t
+    (first all [] (subst (λ (w : RamTable). HasLeft w all [] marked) (sym t) (left_all start.table all marked double so_far))) in
     let two : HasLeft start.table all (places_of records ++ places_of (all_round_pages start.table [] packets)) last =
     subst (λ (w : RamTable). HasLeft w all (places_of records ++ places_of (all_round_pages w [] packets)) last) u
     (second all (places_of records) (subst (λ (w : RamTable). HasLeft w all (places_of records) between) (sym u) one)) in
-    let both : places_of records ++ places_of (all_round_pages start.table [] packets) ≡ all = sym (map-append (λ (x : Page). x.place) records (flat_map (packet_pages start.table) packets)) in
+    let both : places_of records ++ places_of (all_round_pages start.table [] packets) ≡ all =
+    sym (map-append (λ (x : Page). x.place) records (flat_map (packet_pages start.table) packets)) in
     left_none start last all none (subst (λ (ps : List Place). HasLeft start.table all ps last) both two)

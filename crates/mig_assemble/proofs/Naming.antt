@@ -19,10 +19,12 @@ use Rattle.mig_assemble.specs.NamedPlaces.{HasPlaces, places_in, named_by, left_
 use Rattle.mig_assemble.specs.Target.{none_named}
 use Rattle.mig_assemble.proofs.Marked.{place_added, places_step}
 
+-- to add a list of places is to add its front and then the rest
 pub with_places-append : (s : PlaceSet) (xs ys : List Place) → with_places s (xs ++ ys) ≡ with_places (with_places s xs) ys
 with_places-append s [] ys = refl
 with_places-append s (x ∷ xs) ys = with_places-append (with_place s x) xs ys
 
+-- the table stays
 pub with_places-table : (s : PlaceSet) (xs : List Place) → (with_places s xs).table ≡ s.table
 with_places-table s [] = refl
 with_places-table s (x ∷ xs) = with_places-table (with_place s x) xs
@@ -37,8 +39,10 @@ names_more table places (p ∷ ps) s has =
 -- ---- one more
 
 -- the place of one record more
-pub record_named : (old now new : PlaceSet) (size : ℕ) (records : List PageRecord) (i : ℕ) (place : Place) → now ≡ with_places old (places_of (map (page_of size) (take i records)))
-    → i < length records → place ≡ (record_at records i).place → new ≡ with_place now place → new ≡ with_places old (places_of (map (page_of size) (take (i + 1) records)))
+pub record_named : (old now new : PlaceSet) (size : ℕ) (records : List PageRecord) (i : ℕ) (place : Place)
+    → now ≡ with_places old (places_of (map (page_of size) (take i records)))
+    → i < length records → place ≡ (record_at records i).place → new ≡ with_place now place
+    → new ≡ with_places old (places_of (map (page_of size) (take (i + 1) records)))
 record_named old now new size records i place so_far lt there put =
     let r : PageRecord = record_at records i in
     let before : List Place = places_of (map (page_of size) (take i records)) in
@@ -65,7 +69,8 @@ offset_named old now new f offsets i place so_far lt there put =
 
 -- the places of one packet more
 pub packet_named : (old now new : PlaceSet) (packets : List Packet) (i : ℕ) (q : Packet) → i < length packets → q ≡ get_or packets i q → now.table ≡ old.table
-    → new ≡ with_places now (places_of (packet_pages now.table (fields q))) → now ≡ with_places old (places_of (all_round_pages old.table [] (map fields (take i packets))))
+    → new ≡ with_places now (places_of (packet_pages now.table (fields q)))
+    → now ≡ with_places old (places_of (all_round_pages old.table [] (map fields (take i packets))))
     → new ≡ with_places old (places_of (all_round_pages old.table [] (map fields (take (i + 1) packets))))
 packet_named old now new packets i q lt is same step so_far =
     let before : List Place = places_of (all_round_pages old.table [] (map fields (take i packets))) in

@@ -5,10 +5,11 @@ use Rattle.std.specs.Prelude.{Contains, AllPairs, count_by, nat_le}
 use Rattle.std.proofs.lemmas.Bool.{cases_Bool, cond-true, cond-false, le-leb, lt-leb, leb-true}
 use Rattle.std.proofs.lemmas.List.Kept.{AllPairs-cons}
 use Rattle.std.proofs.lemmas.List.Elements.{All-contains}
+use Rattle.mig_mem.proofs.Lists.{pairs_tail}
 use Rattle.mig_assemble.specs.Judging.{twice}
 use Rattle.mig_assemble.proofs.Elements.{contains_here, contains_later, contains_none, contains_filter}
 use Rattle.mig_assemble.proofs.Elements.{filter_contains, all_from, filter_none, count-cons, count_zero, count_some}
-use Rattle.mig_assemble.proofs.Rising.{pairs_head, pairs_tail}
+use Rattle.mig_assemble.proofs.Rising.{pairs_head}
 
 module _ {X : Type 0} (eq : X → X → Bool) (sound : (x y : X) → eq x y ≡ true → x ≡ y) (own : (x : X) → eq x x ≡ true) where
   abbrev times : X → List X → ℕ

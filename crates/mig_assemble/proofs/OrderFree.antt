@@ -42,6 +42,7 @@ same_missing base ns ms bag =
     (λ n. ap not (bag_any (λ m. m == n) ns ms bag)) (range_with_len base (length ns))
     ∙ ap (λ (k : ℕ). filter (λ n. not (list_any (λ m. m == n) ms)) (range_with_len base k)) (bag_length ns ms bag)
 
+-- the numbers of a round are judged the same in whatever order they came
 pub number_refusal_bag : (base : ℕ) (ns ms : List ℕ) → SameBag ns ms → number_refusal base ns ≡ number_refusal base ms
 number_refusal_bag base ns ms bag = rw (same_foreign base ns ms bag, same_doubled ns ms bag, same_missing base ns ms bag) refl
 
@@ -64,6 +65,7 @@ same_pages : (table : RamTable) (records : List Page) (ps qs : List Fields) → 
 same_pages table records ps qs bag =
     bag_behind records (flat_map (packet_pages table) ps) (flat_map (packet_pages table) qs) (bag_flat_map (packet_pages table) ps qs bag)
 
+-- pages in another order have the same lowest place that is named twice
 pub same_double : (xs ys : List Page) → SameBag xs ys → least place_lt (twice place_eq (places_of xs)) ≡ least place_lt (twice place_eq (places_of ys))
 same_double xs ys bag =
     let places : SameBag (places_of xs) (places_of ys) = bag_map (λ (x : Page). x.place) xs ys bag in
@@ -72,6 +74,7 @@ same_double xs ys bag =
 
 -- ---- the refusal
 
+-- a round is judged the same in whatever order its packets came
 pub refusal_bag : (table : RamTable) (base : ℕ) (records : List Page) (ps qs : List Fields) → SameBag ps qs
     → refusal table base records ps ≡ refusal table base records qs
 refusal_bag table base records ps qs bag =
@@ -157,6 +160,7 @@ pub lawful_once : (table : RamTable) (base : ℕ) (records : List Page) (ps : Li
 lawful_once table base records ps lawful =
     least_none place_lt (twice place_eq (places_of (all_round_pages table records ps))) (lawful_parts table base records ps lawful).2
 
+-- a round is the same in whatever order its packets come
 pub any_order : PacketsComeInAnyOrder
 any_order table base records ps qs perm =
     let bag : SameBag ps qs = bag_permutation ps qs perm in

@@ -23,6 +23,7 @@ use Rattle.mig_assemble.proofs.Putting.{put_after}
 
 -- ---- the offsets
 
+-- a packet has an offset for each page, with contents or of zeros
 pub count_of_offsets : (packet : Fields) → length (offsets packet) ≡ length packet.normal + length packet.zero
 count_of_offsets packet =
     length-append (map (λ (page : NormalPage). page.offset) packet.normal) packet.zero
@@ -31,6 +32,7 @@ count_of_offsets packet =
 normal_at : ℕ → List ℕ → ℕ → NormalPage
 normal_at size bytes i = record { offset = offset_at bytes i; content = content_at size bytes i }
 
+-- the fields of a packet have as many offsets as its bytes say
 pub count_in_bytes : (size : ℕ) (bytes : List ℕ) → length (offsets (fields_of size bytes)) ≡ normal_count bytes + zero_count bytes
 unfolding normal_at
 count_in_bytes size bytes =
@@ -40,6 +42,7 @@ count_in_bytes size bytes =
     ∙ ap (λ (n : ℕ). normal_count bytes + n)
     (length-map (range_with_len (normal_count bytes) (zero_count bytes)) (offset_at bytes) ∙ length-range_with_len (normal_count bytes) (zero_count bytes))
 
+-- an offset of the fields is the number at its place in the bytes
 pub offset_in_bytes : (size : ℕ) (bytes : List ℕ) (i : ℕ) → i < normal_count bytes + zero_count bytes
     → get_or (offsets (fields_of size bytes)) i 0 ≡ offset_at bytes i
 unfolding normal_at
@@ -59,6 +62,7 @@ offset_in_bytes size bytes i lt =
 
 -- ---- no page
 
+-- a packet without offsets has no pages
 pub no_pages : (table : RamTable) (packet : Fields) → length (offsets packet) ≡ 0 → packet_pages table packet ≡ []
 no_pages table packet none =
     let count : length packet.normal + length packet.zero ≡ 0 = sym (count_of_offsets packet) ∙ none in
@@ -80,12 +84,14 @@ unknown_has_none table packet right unknown =
 
 -- ---- pages that lie right
 
+-- an offset that isn't outside of its block is a place of the table
 pub not_outside : (table : RamTable) (b offset : ℕ) → b < length table.blocks → is_outside table.page_size (block table.blocks b).pages offset ≡ false
     → IsPlace table (place_at b (offset / table.page_size))
 not_outside table b offset known inside =
     let parts = or_parts (not (offset % table.page_size == 0)) (nat_le (block table.blocks b).pages (offset / table.page_size)) inside in
     record { has_block = known; has_page = leb-false (block table.blocks b).pages (offset / table.page_size) parts.1 }
 
+-- if there is no number of a first element that passes, none passes
 pub position_none : {X : Type 0} (p : X → Bool) (xs : List X) → position p xs ≡ None → All (λ x. p x ≡ false) xs
 position_none p xs none k d lt =
     fails_before_first p xs k d (elim (cases_Bool (nat_lt (position_or_len p xs) (length xs))) [
@@ -93,6 +99,7 @@ position_none p xs none k d lt =
       | inr f ↦ let past : length xs ≤ position_or_len p xs = ltb-false (position_or_len p xs) (length xs) f in omega (arith, past, lt)
     ])
 
+-- a packet without a fault of offsets has none outside of its block
 pub offset_fault_none : (table : RamTable) (packet : Fields) (b : ℕ) → offset_fault table packet (Some b) ≡ None
     → position (is_outside table.page_size (block table.blocks b).pages) (offsets packet) ≡ None
 offset_fault_none table packet b right = go (position (is_outside table.page_size (block table.blocks b).pages) (offsets packet)) right
@@ -113,6 +120,7 @@ right_offsets table packet b right names k d lt =
     not_outside table b (get_or (offsets packet) k d) known
     (position_none (is_outside table.page_size (block table.blocks b).pages) (offsets packet) (offset_fault_none table packet b fault) k d lt)
 
+-- a packet without a fault of places lies in the block that it names
 pub lies : (table : RamTable) (size : ℕ) (bytes : List ℕ) (b : ℕ) → place_fault table (fields_of size bytes) ≡ None
     → block_of table.blocks (fields_of size bytes).id ≡ Some b → LiesIn table b bytes
 lies table size bytes b right names i lt =
@@ -127,6 +135,7 @@ pub place_there : (table here : RamTable) (b : ℕ) (bytes : List ℕ) (i offset
     → offset ≡ offset_at bytes i → size ≡ table.page_size → IsPlace here (place_at b (offset / size))
 place_there table here b bytes i offset size same all lt is_offset is_size = rw (same, is_offset, is_size) (all i lt)
 
+-- the place of a page is computed of its offset and the page size alone
 pub place_is : (table : RamTable) (b : ℕ) (bytes : List ℕ) (i offset size : ℕ) → offset ≡ offset_at bytes i → size ≡ table.page_size
     → place_at b (offset / size) ≡ place_at b (offset_at bytes i / table.page_size)
 place_is table b bytes i offset size is_offset is_size = rw (is_offset, is_size) refl
@@ -140,12 +149,14 @@ normal_page_at table b size bytes i = page_in table b (offset_at bytes i) (conte
 abbrev pub zero_page_at : RamTable → ℕ → List ℕ → ℕ → Page
 zero_page_at table b bytes i = page_in table b (offset_at bytes i) (zero_page table.page_size)
 
+-- the pages of a packet with contents, by their numbers in it, are those of its fields
 pub normal_by_number : (table : RamTable) (b size : ℕ) (bytes : List ℕ)
     → map (normal_page_at table b size bytes) (range_with_len 0 (normal_count bytes)) ≡ normal_pages table b (fields_of size bytes)
 unfolding normal_at
 normal_by_number table b size bytes =
     sym (map-map (λ (page : NormalPage). page_in table b page.offset page.content) (normal_at size bytes) (range_with_len 0 (normal_count bytes)))
 
+-- the pages of zeros of a packet, by their numbers in it, are those of its fields
 pub zero_by_number : (table : RamTable) (b size : ℕ) (bytes : List ℕ)
     → map (zero_page_at table b bytes) (range_with_len (normal_count bytes) (zero_count bytes)) ≡ zero_pages table b (fields_of size bytes)
 zero_by_number table b size bytes =

@@ -1,33 +1,26 @@
 -- The pages of a packet: their offsets, their places, and what is wrong with them.
-use Rattle.std.proofs.Common.{ℕ, ◌≡◌, ◌<◌, ◌≤◌, ◌+◌, ◌/◌, ◌%◌, suc, zero, List, [], ◌∷◌, ◌++◌, length, map}
-use Rattle.std.proofs.Common.{get_or, sym, ap, ◌∙◌, inl, inr, arith, Option, Some, None, Bool, false, not}
-use Rattle.std.specs.Prelude.{◌==◌, position, nat_le, nat_lt}
-use Rattle.std.specs.List.{range_with_len, position_or_len, All}
+use Rattle.std.proofs.Common.{ℕ, ◌≡◌, ◌<◌, ◌+◌, ◌/◌, ◌%◌, zero, List, [], ◌++◌, length, map}
+use Rattle.std.proofs.Common.{sym, ap, ◌∙◌, inl, inr, arith, Option, Some, None, false, not}
+use Rattle.std.specs.Prelude.{◌==◌, position, nat_le}
+use Rattle.std.specs.List.{range_with_len, All}
 use Rattle.std.specs.Option.{option_map, unwrap_or}
-use Rattle.std.proofs.lemmas.Bool.{cases_Bool, cases_eq, cond-true, cond-false, eq-eqb, ne_eqb, ltb-false, or_parts, leb-false}
+use Rattle.std.proofs.lemmas.Bool.{cases_eq, cond-true, cond-false, eq-eqb, ne_eqb, or_parts, leb-false}
 use Rattle.std.proofs.lemmas.List.{map-append, nil_from_length}
-use Rattle.std.proofs.lemmas.List.FromFn.{length-map-range_with_len, get_or-map-range_with_len}
-use Rattle.std.proofs.lemmas.List.Sums.{fails_before_first}
 use Rattle.mig_mem.specs.declared.place.Place.{Place}
 use Rattle.mig_mem.specs.RamTable.{RamTable, block, block_of}
 use Rattle.mig_mem.specs.Place.{place_at, IsPlace}
 use Rattle.mig_mem.specs.Image.{Page, zero_page}
 use Rattle.mig_mem.proofs.Members.{map-map}
+use Rattle.mig_mem.proofs.Counts.{range-append}
+use Rattle.mig_mem.proofs.Lists.{map_none}
 use Rattle.mig_packet.specs.declared.packet.Packet.{Packet}
 use Rattle.mig_packet.specs.Packet.{NormalPage, Fields, offset_at, content_at, normal_count, zero_count}
 use Rattle.mig_packet.specs.Lent.{fields}
 use Rattle.mig_assemble.specs.declared.fault.RoundFault.TheVariants.{UnknownBlock, Offset}
-use Rattle.mig_assemble.proofs.Parts.{map_none}
 use Rattle.mig_assemble.specs.Judging.{offsets, is_outside, offset_fault, place_fault, page_in, pages_in, packet_pages, places_of}
+use Rattle.mig_assemble.proofs.PacketParts.{position_none}
 
 -- ---- offsets
-
-pub range-append : (a m n : ℕ) → range_with_len a (m + n) ≡ range_with_len a m ++ range_with_len (a + m) n
-range-append a zero n = let e : 0 + n ≡ n = omega arith in let f : a ≡ a + 0 = omega arith in ap (range_with_len a) e ∙ ap (λ (k : ℕ). range_with_len k n) f
-range-append a (suc m) n =
-    let e : suc m + n ≡ suc (m + n) = omega arith in
-    let f : (a + 1) + m ≡ a + suc m = omega arith in
-    ap (range_with_len a) e ∙ ap (λ (l : List ℕ). a ∷ l) (range-append (a + 1) m n) ∙ ap (λ (k : ℕ). a ∷ (range_with_len (a + 1) m ++ range_with_len k n)) f
 
 -- a packet's offsets are the first ones that it has
 pub offsets_are : (p : Packet) → offsets (fields p) ≡ map (offset_at p.bytes.now) (range_with_len 0 (normal_count p.bytes.now + zero_count p.bytes.now))
@@ -41,19 +34,9 @@ offsets_are p =
     ∙ sym (ap (λ (l : List ℕ). map (offset_at bytes) l) (range-append 0 n z ∙ ap (λ (k : ℕ). range_with_len 0 n ++ range_with_len k z) (omega arith))
     ∙ map-append (offset_at bytes) (range_with_len 0 n) (range_with_len n z))
 
-pub offsets_len : (p : Packet) → normal_count p.bytes.now + zero_count p.bytes.now ≡ length (offsets (fields p))
-offsets_len p =
-    let n : ℕ = normal_count p.bytes.now + zero_count p.bytes.now in
-    sym (ap (λ (l : List ℕ). length l) (offsets_are p) ∙ length-map-range_with_len (offset_at p.bytes.now) 0 n)
-
-pub offset_is : (p : Packet) (i : ℕ) → i < length (offsets (fields p)) → offset_at p.bytes.now i ≡ get_or (offsets (fields p)) i 0
-offset_is p i lt =
-    let n : ℕ = normal_count p.bytes.now + zero_count p.bytes.now in
-    let within : i < n = (let e = offsets_len p in omega arith) in
-    sym (ap (λ (l : List ℕ). get_or l i 0) (offsets_are p) ∙ get_or-map-range_with_len (offset_at p.bytes.now) 0 n i i 0 within (omega arith))
-
 -- ---- what is wrong
 
+-- a packet without pages has no fault of places
 pub fault_none : (table : RamTable) (q : Fields) → length (offsets q) ≡ 0 → place_fault table q ≡ None
 fault_none table q e = cond-true (length (offsets q) == 0) None (offset_fault table q (block_of table.blocks q.id)) (eq-eqb (length (offsets q)) 0 e)
 
@@ -63,34 +46,24 @@ fault_some table q at some e =
     cond-false (length (offsets q) == 0) None (offset_fault table q (block_of table.blocks q.id)) (ne_eqb (length (offsets q)) 0 some)
     ∙ ap (offset_fault table q) e
 
+-- a packet with pages of a block that the table doesn't have has that fault
 pub fault_unknown : (table : RamTable) (q : Fields) → (length (offsets q) ≡ 0 → ⊥) → block_of table.blocks q.id ≡ None
     → place_fault table q ≡ Some (UnknownBlock q.number)
 fault_unknown table q some e = fault_some table q None some e
 
+-- a packet with pages of a block of the table has the fault of its first offset outside
 pub fault_known : (table : RamTable) (q : Fields) (at : ℕ) → (length (offsets q) ≡ 0 → ⊥) → block_of table.blocks q.id ≡ Some at
     → place_fault table q ≡ option_map (Offset q.number) (position (is_outside table.page_size (block table.blocks at).pages) (offsets q))
 fault_known table q at some e = fault_some table q (Some at) some e
 
 pub ruleset faults = (fault_none, fault_unknown, fault_known)
 
--- no element passes where there is no first one
-none_passes : {X : Type 0} (p : X → Bool) (xs : List X) → position p xs ≡ None → All (λ x. p x ≡ false) xs
-none_passes p xs none = λ k d lt.
-    let past : nat_lt (position_or_len p xs) (length xs) ≡ false = (elim (cases_Bool (nat_lt (position_or_len p xs) (length xs))) [
-      | inr f ↦ f
-      | inl t ↦
-          let some : position p xs ≡ Some (position_or_len p xs) =
-          cond-true (nat_lt (position_or_len p xs) (length xs)) (Some (position_or_len p xs)) None t in absurd cc
-    ]) in
-    let all : length xs ≤ position_or_len p xs = ltb-false (position_or_len p xs) (length xs) past in
-    fails_before_first p xs k d (omega arith)
-
 -- a lawful packet that names a block has all its pages there
 pub lawful_inside : (table : RamTable) (q : Fields) (at : ℕ) → place_fault table q ≡ None → block_of table.blocks q.id ≡ Some at
     → All (λ offset. is_outside table.page_size (block table.blocks at).pages offset ≡ false) (offsets q)
 lawful_inside table q at lawful found = elim (cases_eq (length (offsets q)) 0) [
   | inl none ↦ (λ k d lt. absurd (omega arith))
-  | inr some ↦ none_passes (is_outside table.page_size (block table.blocks at).pages) (offsets q)
+  | inr some ↦ position_none (is_outside table.page_size (block table.blocks at).pages) (offsets q)
       (map_none (Offset q.number) (position (is_outside table.page_size (block table.blocks at).pages) (offsets q))
       (sym (fault_known table q at some found) ∙ lawful))
 ]
@@ -119,6 +92,7 @@ place_inside table at offset has inside =
     let both = or_parts (not (offset % table.page_size == 0)) (nat_le (block table.blocks at).pages (offset / table.page_size)) inside in
     record { has_block = has; has_page = leb-false (block table.blocks at).pages (offset / table.page_size) both.1 }
 
+-- if the table has the block that a packet names, the packet's pages lie in that block
 pub packet_places : (table : RamTable) (q : Fields) (at : ℕ) → block_of table.blocks q.id ≡ Some at → packet_pages table q ≡ pages_in table q at
 packet_places table q at e = ap (λ (o : Option ℕ). pages_in table q (unwrap_or o 0)) e
 

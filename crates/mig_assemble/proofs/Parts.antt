@@ -8,16 +8,12 @@ use Rattle.mig_mem.specs.First.{first_some}
 use Rattle.mig_mem.specs.RamTable.{RamTable}
 use Rattle.mig_mem.specs.Place.{place_eq, place_lt}
 use Rattle.mig_mem.specs.Image.{Page}
-use Rattle.mig_mem.proofs.Lists.{or_none}
+use Rattle.mig_mem.proofs.Lists.{or_none, map_none}
 use Rattle.mig_packet.specs.Packet.{Fields}
 use Rattle.mig_assemble.specs.declared.fault.RoundFault.{RoundFault}
 use Rattle.mig_assemble.specs.declared.fault.RoundFault.TheVariants.{Foreign, Doubled, Missing, DoublePage}
 use Rattle.mig_assemble.specs.Judging.{least, twice, absent, numbers, least_place_fault, all_round_pages, places_of, refusal}
 use Rattle.mig_assemble.specs.Sorted.{number_refusal}
-
-pub map_none : {X Y : Type 0} (f : X → Y) (o : Option X) → option_map f o ≡ None → o ≡ None
-map_none f None e = refl
-map_none f (Some x) e = absurd cc
 
 -- the least place that occurs twice
 abbrev pub double : RamTable → List Page → List Fields → Option Place
@@ -27,6 +23,7 @@ double table records packets = least place_lt (twice place_eq (places_of (all_ro
 abbrev pub page_refusal : RamTable → List Page → List Fields → Option RoundFault
 page_refusal table records packets = option_or (least_place_fault table packets) (option_or (option_map DoublePage (double table records packets)) None)
 
+-- a round is refused for its numbers, or else for its pages
 pub refusal-parts : (table : RamTable) (base : ℕ) (records : List Page) (packets : List Fields)
     → refusal table base records packets ≡ option_or (number_refusal base (numbers packets)) (page_refusal table records packets)
 refusal-parts table base records packets =

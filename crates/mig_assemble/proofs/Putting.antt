@@ -1,11 +1,11 @@
 -- Rounds that are put into a memory, one page after another.
-use Rattle.std.proofs.Common.{ℕ, ◌≡◌, ◌+◌, ◌<◌, List, [], ◌∷◌, ◌++◌, length, map, take, refl, sym, ap, ◌∙◌, Option, Some, None, Bor, get_or}
-use Rattle.std.specs.Option.{option_map_or, option_copied, unwrap_or}
+use Rattle.std.proofs.Common.{ℕ, ◌≡◌, ◌+◌, ◌<◌, List, [], ◌∷◌, ◌++◌, length, map, take, sym, ap, ◌∙◌, Option, None, get_or}
+use Rattle.std.specs.Option.{option_map_or}
 use Rattle.std.specs.List.{flat_map, range_with_len}
 use Rattle.std.proofs.lemmas.List.{map-append, take_more, flat_map_more}
 use Rattle.std.proofs.lemmas.List.FromFn.{map-range_with_len_more}
 use Rattle.mig_mem.specs.declared.place.Place.{Place}
-use Rattle.mig_mem.specs.Image.{Page, Image, IsImage, content_at, image_of, with_page, zero_page}
+use Rattle.mig_mem.specs.Image.{Page, Image, IsImage, content_at, image_of, with_page}
 use Rattle.mig_mem.specs.Place.{place_at}
 use Rattle.mig_mem.specs.Round.{last_at, with_round}
 use Rattle.mig_mem.proofs.Images.{image_is, image_agree, content_at-image_of}
@@ -52,12 +52,6 @@ put_more start memory new size records i place bytes so_far lt there is put =
     ∙ ap (λ (l : List Page). with_round start l)
     (sym (ap (λ (l : List PageRecord). map (page_of size) l) (take_more records i (record { place = place_at 0 0; content = None }) lt)
     ∙ map-append (page_of size) (take i records) (r ∷ [])))
-
--- the bytes that are written: those of the record, or else zeros
-pub bytes_put : (held : Option (Bor (List ℕ))) (zeros chosen : Bor (List ℕ)) (size : ℕ) (r : PageRecord)
-    → option_copied held ≡ r.content → zeros.now ≡ zero_page size → chosen ≡ unwrap_or held zeros → chosen.now ≡ (page_of size r).content
-bytes_put None zeros chosen size r is all here = rw (here, sym is) all
-bytes_put (Some bytes) zeros chosen size r is all here = rw (here, sym is) refl
 
 -- one page more of those that a run of numbers gives
 pub put_numbered : (start memory new : Image) (f : ℕ → Page) (from i j : ℕ) (place : Place) (bytes : List ℕ)

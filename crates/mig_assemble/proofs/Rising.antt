@@ -14,6 +14,7 @@ use Rattle.std.proofs.lemmas.List.FromFn.{length-range_with_len, get_or-range_wi
 use Rattle.std.proofs.lemmas.List.Sorted.{IsNonDecreasingBy-from_sort}
 use Rattle.mig_mem.specs.First.{first_some}
 use Rattle.mig_mem.proofs.Members.{filter_agree_on}
+use Rattle.mig_mem.proofs.Lists.{pairs_tail}
 use Rattle.mig_assemble.specs.declared.fault.RoundFault.{RoundFault}
 use Rattle.mig_assemble.specs.declared.fault.RoundFault.TheVariants.{Foreign, Doubled, Missing}
 use Rattle.mig_assemble.specs.Judging.{least, twice, absent}
@@ -28,11 +29,9 @@ use Rattle.mig_assemble.proofs.OrderFree.{number_refusal_bag}
 abbrev pub Rises : List ℕ → Type 0
 Rises ns = AllPairs (λ m n. m ≤ n) ns
 
+-- what holds of each pair of a list holds of its first element and each later one
 pub pairs_head : {X : Type 0} (R : X → X → Type 0) (x : X) (xs : List X) → AllPairs R (x ∷ xs) → All (R x) xs
 pairs_head R x xs all = λ k d h. all 0 (suc k) d (omega arith) (omega arith)
-
-pub pairs_tail : {X : Type 0} (R : X → X → Type 0) (x : X) (xs : List X) → AllPairs R (x ∷ xs) → AllPairs R xs
-pairs_tail R x xs all = λ i j d lt h. all (suc i) (suc j) d (omega arith) (omega arith)
 
 -- ---- what occurs twice
 
@@ -178,6 +177,7 @@ first_gap-is base (n ∷ ns) up low =
 abbrev rest : ℕ → List ℕ → Option RoundFault
 rest base ns = first_some (option_map Doubled (least nat_lt (twice nat_eq ns)) ∷ option_map Missing (least nat_lt (absent base ns)) ∷ [])
 
+-- ascending numbers are judged by one walk as by the definition
 pub sorted_refusal-is : (base : ℕ) (ns : List ℕ) → Rises ns → number_refusal base ns ≡ sorted_refusal base ns
 sorted_refusal-is base [] up = refl
 sorted_refusal-is base (n ∷ ns) up = elim (cases_Bool (nat_lt n base)) [
@@ -218,10 +218,14 @@ judged_sorted base ns ms perm sorted =
 
 -- ---- the steps of the loops
 
+-- after a number the next equal pair from `i` on is that number if number `i` equals it,
+-- and otherwise the first pair from number `i` on
 pub pair_step : (ns : List ℕ) (i last d : ℕ) → i < length ns
     → first_pair (last ∷ drop i ns) ≡ (if last == get_or ns i d then Some last else first_pair (get_or ns i d ∷ drop (i + 1) ns))
 pair_step ns i last d h = ap (λ (l : List ℕ). first_pair (last ∷ l)) (drop_more ns i d h)
 
+-- the first gap from `i` on is the expected number unless number `i` is that one,
+-- and otherwise the first gap after it, where one more is expected
 pub gap_step : (next : ℕ) (ns : List ℕ) (i d : ℕ) → i < length ns
     → first_gap next (drop i ns) ≡ (if get_or ns i d == next then first_gap (next + 1) (drop (i + 1) ns) else Some next)
 gap_step next ns i d h = ap (first_gap next) (drop_more ns i d h)

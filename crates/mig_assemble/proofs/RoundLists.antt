@@ -31,9 +31,11 @@ adds_after size old mid new xs ys one two = record {
 }
 
 -- one page
-pub adds_one : (size : ℕ) (old new : List RoundPage) (x : RoundPage) (page : Page) → new ≡ old ++ x ∷ [] → round_page size x ≡ page → HasPageSize size x → Adds size old new (page ∷ [])
+pub adds_one : (size : ℕ) (old new : List RoundPage) (x : RoundPage) (page : Page) → new ≡ old ++ x ∷ []
+    → round_page size x ≡ page → HasPageSize size x → Adds size old new (page ∷ [])
 adds_one size old new x page is same len = record {
-  stands_for = ap (λ (l : List RoundPage). map (round_page size) l) is ∙ map-append (round_page size) old (x ∷ []) ∙ ap (λ (y : Page). map (round_page size) old ++ y ∷ []) same;
+  stands_for = ap (λ (l : List RoundPage). map (round_page size) l) is ∙ map-append (round_page size) old (x ∷ [])
+      ∙ ap (λ (y : Page). map (round_page size) old ++ y ∷ []) same;
   has_sizes = λ all. rw is (All-append (HasPageSize size) old (x ∷ []) all (All-cons (HasPageSize size) x [] len (All-nil (HasPageSize size))));
 }
 
@@ -42,7 +44,8 @@ pub adds_numbered : (size : ℕ) (old mid new : List RoundPage) (x : RoundPage) 
     → Adds size old mid (map f (range_with_len from i)) → from + i ≡ j → new ≡ mid ++ x ∷ [] → round_page size x ≡ f j → HasPageSize size x
     → Adds size old new (map f (range_with_len from (i + 1)))
 adds_numbered size old mid new x f from i j so_far is_j is same len =
-    rw (map-range_with_len_more f from i j is_j) (adds_after size old mid new (map f (range_with_len from i)) (f j ∷ []) so_far (adds_one size mid new x (f j) is same len))
+    rw (map-range_with_len_more f from i j is_j)
+    (adds_after size old mid new (map f (range_with_len from i)) (f j ∷ []) so_far (adds_one size mid new x (f j) is same len))
 
 -- one more of what the elements of a list stand for
 pub adds_element : {X : Type 0} (size : ℕ) (old mid new : List RoundPage) (x : RoundPage) (f : X → Page) (xs : List X) (i : ℕ) (d : X)

@@ -10,6 +10,7 @@ use Rattle.std.proofs.lemmas.List.Elements.{All-cons, All-nil, All-weaker}
 use Rattle.std.proofs.lemmas.List.Sorted.{IsPermutation-refl, IsPermutation-trans, IsPermutation-sym}
 use Rattle.std.proofs.lemmas.List.Sorted.{IsPermutation-cons, IsPermutation-append_left, IsPermutation-append_comm}
 use Rattle.mig_mem.proofs.Members.{All-range}
+use Rattle.mig_mem.proofs.Lists.{or_none}
 use Rattle.mig_assemble.specs.declared.fault.RoundFault.TheVariants.{Foreign, Doubled, Missing}
 use Rattle.mig_assemble.specs.Sorted.{first_pair, first_gap, number_refusal, sorted_refusal}
 use Rattle.mig_assemble.specs.Lawful.{AreRun}
@@ -96,10 +97,6 @@ range_pairless a (suc zero) = refl
 range_pairless a (suc (suc n)) =
     cond-false (a == a + 1) (Some a) (first_pair (range_with_len (a + 1) (suc n))) (ne_eqb a (a + 1) (λ e. omega (arith, e))) ∙ range_pairless (a + 1) (suc n)
 
-both_none : {X : Type 0} (a b : Option X) → option_or a b ≡ None → (a ≡ None) × (b ≡ None)
-both_none None b e = (refl, e)
-both_none (Some x) b e = absurd cc
-
 no_missing : (o : Option ℕ) → option_map Missing o ≡ None → o ≡ None
 no_missing None e = refl
 no_missing (Some n) e = absurd cc
@@ -116,7 +113,7 @@ sorted_run base (n ∷ ns) none = elim (cases_Bool (nat_lt n base)) [
       sym (cond-false (nat_lt n base) (Some (Foreign n))
       (option_or (option_map Doubled (first_pair (n ∷ ns))) (option_map Missing (first_gap base (n ∷ ns)))) f) ∙ none in
       gapless base (n ∷ ns) (no_missing (first_gap base (n ∷ ns))
-      (both_none (option_map Doubled (first_pair (n ∷ ns))) (option_map Missing (first_gap base (n ∷ ns))) rest).1)
+      (or_none (option_map Doubled (first_pair (n ∷ ns))) (option_map Missing (first_gap base (n ∷ ns))) rest).1)
 ]
 
 -- and the run is refused for nothing
@@ -131,6 +128,7 @@ run_sorted base (suc n) =
 
 -- ---- in any order
 
+-- numbers that are refused nothing are a run
 pub run_from_none : (base : ℕ) (ns : List ℕ) → number_refusal base ns ≡ None → AreRun base ns
 run_from_none base ns none =
     let moves : IsPermutation ns (ordered ns) = ordered_moves ns in
@@ -141,6 +139,7 @@ run_from_none base ns none =
     let is : ordered ns ≡ range_with_len base (length ns) = sorted_run base (ordered ns) sorted ∙ ap (range_with_len base) len in
     subst (λ (l : List ℕ). IsPermutation l ns) is (IsPermutation-sym ns (ordered ns) moves)
 
+-- a run of numbers is refused nothing
 pub none_from_run : (base : ℕ) (ns : List ℕ) → AreRun base ns → number_refusal base ns ≡ None
 none_from_run base ns run =
     let range : List ℕ = range_with_len base (length ns) in

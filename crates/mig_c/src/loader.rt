@@ -27,7 +27,7 @@ fn made(alloc: Global, settings: LoadSettings) -> Result<Box<Object>, NoMemory>
     requires limit { settings.limit ≤ 2 ^ 40 }
     ensures { IfOk result (λ object. Opens (Some settings) (loader_in (Some object.value))) }
 {
-    let loader = SingleLoader::new_in(alloc, settings);
+    let loader = SingleLoader::new(alloc, settings);
     Ok(Box::new(alloc, Object::Loader(loader))?)
 }
 

@@ -40,7 +40,7 @@ fn made(
     requires limit { settings.limit ≤ 2 ^ 40 }
     ensures { IfOk result (λ object. Opens (Some settings) uuid.now channels (session_in (Some object.value))) }
 {
-    let session = Session::new_in(alloc, settings, uuid, channels)?;
+    let session = Session::new_with(alloc, settings, uuid, channels)?;
     Ok(Box::new(alloc, Object::Session(session))?)
 }
 

@@ -6,13 +6,14 @@ use Rattle.mig_deal.specs.Deal.{SeatView}
 use Rattle.mig_send.specs.ChannelWork.{seats_of}
 use Rattle.mig_send.specs.MultiRound.{TakesBack}
 use Rattle.mig_c_calls.specs.declared.sending.DealtRound as held
-use Rattle.mig_c_calls.specs.declared.sending.MultiState.{MultiState}
-use Rattle.mig_c_calls.specs.declared.sending.MultiState.TheVariants.{Idle, Round, Over}
+use Rattle.mig_c_calls.specs.declared.sending.MultiState.TheVariants.{Round}
 use Rattle.mig_c_calls.specs.declared.sending.HeldWorker.{HeldWorker}
-use Rattle.mig_c_calls.specs.Multi.{GivesNext, CanComeBack, HandsOutWorker, TakesBackWorker, IsSame, OfRound}
+use Rattle.mig_c_calls.specs.Multi.{GivesNext, CanComeBack, HandsOutWorker, TakesBackWorker}
 use Rattle.mig_c_calls.proofs.Sends.{hands, takes, one_seat}
 
-pub hands_done : (old new : held.DealtRound) (w : HeldWorker) → GivesNext old.round new.round w → 0 < length old.round.seats → HandsOutWorker 0 (Round old) (Round new) (Some w)
+-- a round with a worker left that gives out its next one hands out that worker, with status 0
+pub hands_done : (old new : held.DealtRound) (w : HeldWorker) → GivesNext old.round new.round w → 0 < length old.round.seats
+    → HandsOutWorker 0 (Round old) (Round new) (Some w)
 hands_done old new w gives left =
     let h = gives.hands in
     record {
@@ -25,6 +26,7 @@ hands_done old new w gives left =
       in_turn = λ _. left;
     }
 
+-- a round with a worker left that stays as it was hands out none, with status 60 (no memory)
 pub hands_not : (old new : held.DealtRound) → new.round ≡ old.round → 0 < length old.round.seats → HandsOutWorker 60 (Round old) (Round new) None
 hands_not old new same left = record {
   is_named = refl;
@@ -36,36 +38,9 @@ hands_not old new same left = record {
   in_turn = λ _. left;
 }
 
--- nothing changed
-pub same_state : (s : MultiState) → IsSame s s
-same_state (Idle s) = refl
-same_state (Round s) = refl
-same_state (Over s) = refl
-
--- no worker is given out: with status 60 if a round is open that has one left, otherwise with 109
-pub hands_none : (s : MultiState) → OfRound (λ r. 0 < length r.seats) s → HandsOutWorker 60 s s None
-hands_none s has = record {
-  is_named = refl;
-  next = grind arith;
-  hands = grind arith;
-  same = λ _. (same_state s, refl);
-  one_fewer = grind arith;
-  wrong = grind arith;
-  in_turn = λ _. has;
-}
-
-pub hands_late : (s : MultiState) → (OfRound (λ r. 0 < length r.seats) s → ⊥) → HandsOutWorker 109 s s None
-hands_late s none = record {
-  is_named = refl;
-  next = grind arith;
-  hands = grind arith;
-  same = λ _. (same_state s, refl);
-  one_fewer = grind arith;
-  wrong = λ _ has. none has;
-  in_turn = λ no. absurd (no refl);
-}
-
-pub takes_done : (old new : held.DealtRound) (w : HeldWorker) → TakesBack w.worker old.round new.round → CanComeBack w old.round → TakesBackWorker 0 w (Round old) (Round new) None
+-- a round that takes back a worker that may come back does so with status 0, and none is left
+pub takes_done : (old new : held.DealtRound) (w : HeldWorker) → TakesBack w.worker old.round new.round → CanComeBack w old.round
+    → TakesBackWorker 0 w (Round old) (Round new) None
 takes_done old new w back can = record {
   is_named = refl;
   takes = λ _ setting image dirty drained rounds more is packs. takes old.round new.round w setting image dirty drained rounds more back can is packs;
@@ -80,7 +55,9 @@ takes_done old new w back can = record {
   in_turn = λ _. can;
 }
 
-pub takes_not : (old new : held.DealtRound) (w left : HeldWorker) → new.round ≡ old.round → left ≡ w → CanComeBack w old.round → TakesBackWorker 60 w (Round old) (Round new) (Some left)
+-- a round that stays as it was leaves a worker that may come back, with status 60 (no memory)
+pub takes_not : (old new : held.DealtRound) (w left : HeldWorker) → new.round ≡ old.round → left ≡ w → CanComeBack w old.round
+    → TakesBackWorker 60 w (Round old) (Round new) (Some left)
 takes_not old new w left same still can = record {
   is_named = refl;
   takes = grind arith;

@@ -23,7 +23,7 @@ use Rattle.mig_send.specs.Batches.{BatchOfPages, batch_places}
 use Rattle.mig_send.specs.Packing.{PackedBatch, packed_of}
 use Rattle.mig_send.specs.Work.{no_batch}
 use Rattle.mig_send.specs.Dealing.{sync_packet}
-use Rattle.mig_send.specs.ChannelWork.{RoundTerms, ChannelWork, IsHand, HasClaimed, HasEnded, HasPackedTo, IsStep, hand_bytes, after_packet, batch_in}
+use Rattle.mig_send.specs.ChannelWork.{RoundTerms, ChannelWork, HasClaimed, HasPackedTo, IsStep, hand_bytes, after_packet, batch_in}
 use Rattle.mig_send.proofs.Stepping.{step_packed}
 use Rattle.mig_send.proofs.Copies.{same_packet}
 use Rattle.mig_c_calls.specs.Status.{IsOneOf, done, running, no_memory, bad_length, out_of_turn}
@@ -71,15 +71,20 @@ within_of pages page (Some n) is some = elim (cases_lt (position_or_len (λ othe
       absurd (let other = sym none ∙ is in cc)
 ]
 
+-- the index of any page among one page at least is below their number
 pub index_within : (pages : List ℕ) (page : ℕ) → 0 < length pages → index_in pages page < length pages
 index_within pages page some = within_of pages page (position (λ other. other == page) pages) refl some
 
 -- a batch has 128 pages at most
 pub few_pages : (size : ℕ) → IsPageSize size → page_limit size ≤ 128
-few_pages size is = elim is [ inl e ↦ subst (λ (n : ℕ). page_limit n ≤ 128) (sym e) (omega arith) | inr e ↦ subst (λ (n : ℕ). page_limit n ≤ 128) (sym e) (omega arith) ]
+few_pages size is = elim is [
+  | inl e ↦ subst (λ (n : ℕ). page_limit n ≤ 128) (sym e) (omega arith)
+  | inr e ↦ subst (λ (n : ℕ). page_limit n ≤ 128) (sym e) (omega arith)
+]
 
 -- ---- the memory that a buffer makes
 
+-- a buffer as long as its pages has a page's bytes at the index of each page
 pub room_of_part : (table : RamTable) (pages bytes : List ℕ) (page : ℕ) → HasPages table pages bytes
     → index_in pages page * table.page_size + table.page_size ≤ length bytes
 room_of_part table pages bytes page has =
@@ -91,10 +96,12 @@ part_len table pages bytes page has =
     let at : ℕ = index_in pages page * table.page_size in
     length-take-le table.page_size (drop at bytes) (omega (arith, length-drop at bytes, room_of_part table pages bytes page has))
 
+-- the memory that such a buffer makes has a page's bytes at each place of the table
 pub copied_is_image : (table : RamTable) (pages bytes : List ℕ) → HasPages table pages bytes → IsImage (copied_image table pages bytes)
 copied_is_image table pages bytes has =
     image_from table (λ place. part_at table.page_size bytes (index_in pages place.page)) (λ p is. part_len table pages bytes p.page has)
 
+-- at each place that memory has the buffer's bytes at the index of the place's page
 pub copied_content : (table : RamTable) (pages bytes : List ℕ) (p : Place) → IsPlace table p
     → content_at (copied_image table pages bytes) p ≡ part_at table.page_size bytes (index_in pages p.page)
 copied_content table pages bytes p is =
@@ -108,8 +115,10 @@ copied_agrees image table batch bytes same are copied =
     All-from_get_or (λ p. content_at (copied_image table batch.pages bytes) p ≡ content_at image p) (batch_places batch) (place_at batch.block 0) (λ i lt.
     let within : i < length batch.pages = omega (arith, lt, length-map batch.pages (place_at batch.block)) in
     let page : ℕ = get_or batch.pages i 0 in
-    let at : get_or (batch_places batch) i (place_at batch.block 0) ≡ place_at batch.block page = get_or-map (place_at batch.block) batch.pages i 0 (place_at batch.block 0) within in
-    let is : IsPlace table (place_at batch.block page) = subst (IsPlace table) at (All-get_or (IsPlace table) (batch_places batch) i (place_at batch.block 0) lt are) in
+    let at : get_or (batch_places batch) i (place_at batch.block 0) ≡ place_at batch.block page =
+    get_or-map (place_at batch.block) batch.pages i 0 (place_at batch.block 0) within in
+    let is : IsPlace table (place_at batch.block page) =
+    subst (IsPlace table) at (All-get_or (IsPlace table) (batch_places batch) i (place_at batch.block 0) lt are) in
     let index = index_at batch.pages i within in
     let j : ℕ = index_in batch.pages page in
     let has : content_at image (place_at batch.block page) ≡ part_at table.page_size bytes j =
@@ -127,27 +136,10 @@ stays terms (Ending spent last) in_hand is has = has
 stays terms (Ended spent) in_hand is has = has
 stays terms Moving in_hand is has = has
 
--- once it has a number, it draws no other
-pub drawn_once : (terms : RoundTerms) (old new : Hand) → HasClaimed terms.deal old new → HasClaimed terms.deal new new
-drawn_once terms (Drawing seat) (Claimed next number) has = refl
-drawn_once terms (Drawing seat) (Ending spent last) has = refl
-drawn_once terms (Drawing seat) (Drawing next) has = absurd has
-drawn_once terms (Drawing seat) (Ended spent) has = absurd has
-drawn_once terms (Drawing seat) Moving has = absurd has
-drawn_once terms (Claimed seat number) new has = subst (λ (h : Hand). HasClaimed terms.deal h h) (sym has) refl
-drawn_once terms (Ending spent last) new has = subst (λ (h : Hand). HasClaimed terms.deal h h) (sym has) refl
-drawn_once terms (Ended spent) new has = subst (λ (h : Hand). HasClaimed terms.deal h h) (sym has) refl
-drawn_once terms Moving new has = subst (λ (h : Hand). HasClaimed terms.deal h h) (sym has) refl
-
--- without a batch, it ends with its packet, which is the same of each memory
-pub ends_then : (terms : RoundTerms) (hand : Hand) → IsHand terms.deal hand → HasClaimed terms.deal hand hand → batch_in terms hand ≡ None → HasEnded (after_packet hand)
-ends_then terms (Drawing seat) is has none = absurd has
-ends_then terms (Claimed seat number) is has none = absurd cc
-ends_then terms (Ending spent last) is has none = tt
-ends_then terms (Ended spent) is has none = tt
-ends_then terms Moving is has none = absurd (omega (arith, is.has_seat))
-
-pub same_sync : (a b : Image) (terms : RoundTerms) (hand : Hand) → a.table ≡ b.table → batch_in terms hand ≡ None → hand_bytes a terms hand ≡ hand_bytes b terms hand
+-- where a worker's hand holds no batch, the bytes it has to write are the same for two memories of
+-- one table
+pub same_sync : (a b : Image) (terms : RoundTerms) (hand : Hand) → a.table ≡ b.table → batch_in terms hand ≡ None
+    → hand_bytes a terms hand ≡ hand_bytes b terms hand
 same_sync a b terms (Drawing seat) same none = refl
 same_sync a b terms (Claimed seat number) same none = absurd cc
 same_sync a b terms (Ending spent last) same none = ap (λ (t : RamTable). sync_packet t.page_size last) same
@@ -164,7 +156,8 @@ step_of a b terms (Ok u) old new before after drawn same step =
       has_claimed = step.has_claimed;
       writes = (
         step.writes.0,
-        step.writes.1 ∙ ap (λ (h : Hand). before ++ hand_bytes a terms h) is ∙ ap (λ (l : List ℕ). before ++ l) same ∙ ap (λ (h : Hand). before ++ hand_bytes b terms h) (sym is),
+        step.writes.1 ∙ ap (λ (h : Hand). before ++ hand_bytes a terms h) is ∙ ap (λ (l : List ℕ). before ++ l) same
+            ∙ ap (λ (h : Hand). before ++ hand_bytes b terms h) (sym is),
       );
       keeps = step.keeps;
     }
@@ -177,8 +170,12 @@ step_of a b terms (Err e) old new before after drawn same step = record {
 
 -- ---- the SYNC packet
 
-pub end_packed : (a b : Image) (terms : RoundTerms) (made : Result (Unit {0}) NoMemory) (old new : Hand) (old_text new_text before drained : List ℕ) → a.table ≡ b.table
-    → batch_in terms old ≡ None → HasClaimed terms.deal old old → IsStep a terms made old new old_text new_text → HasPackedTo b terms before (drained ++ old_text) old
+-- a step without a batch, from any memory of the same table, leaves the channel packed as from the
+-- other memory
+pub end_packed : (a b : Image) (terms : RoundTerms) (made : Result (Unit {0}) NoMemory) (old new : Hand)
+    (old_text new_text before drained : List ℕ) → a.table ≡ b.table
+    → batch_in terms old ≡ None → HasClaimed terms.deal old old → IsStep a terms made old new old_text new_text
+    → HasPackedTo b terms before (drained ++ old_text) old
     → HasPackedTo b terms before (drained ++ new_text) new
 end_packed a b terms made old new old_text new_text before drained same none drawn step packed =
     step_packed b terms made old new old_text new_text before drained
@@ -186,29 +183,15 @@ end_packed a b terms made old new old_text new_text before drained same none dra
 
 -- ---- the packet of a batch
 
--- what follows from a batch, whichever it is
-pub from_claim : (Holds : BatchOfPages → ℕ → Type 0) (Then : Type 0) (terms : RoundTerms) (hand : Hand) → OfClaim Holds terms hand
-    → ((batch : BatchOfPages) (number : ℕ) → Holds batch number → Then) → Then
-from_claim Holds Then terms (Drawing seat) of next = absurd of
-from_claim Holds Then terms (Claimed seat number) of next = next (get_or terms.batches (number - terms.deal.base) no_batch) number of
-from_claim Holds Then terms (Ending spent last) of next = absurd of
-from_claim Holds Then terms (Ended spent) of next = absurd of
-from_claim Holds Then terms Moving of next = absurd of
-
 -- another fact of the batch
-pub map_claim : (Holds Others : BatchOfPages → ℕ → Type 0) (terms : RoundTerms) (hand : Hand) → ((batch : BatchOfPages) (number : ℕ) → Holds batch number → Others batch number)
+pub map_claim : (Holds Others : BatchOfPages → ℕ → Type 0) (terms : RoundTerms) (hand : Hand)
+    → ((batch : BatchOfPages) (number : ℕ) → Holds batch number → Others batch number)
     → OfClaim Holds terms hand → OfClaim Others terms hand
 map_claim Holds Others terms (Drawing seat) next of = of
 map_claim Holds Others terms (Claimed seat number) next of = next (get_or terms.batches (number - terms.deal.base) no_batch) number of
 map_claim Holds Others terms (Ending spent last) next of = of
 map_claim Holds Others terms (Ended spent) next of = of
 map_claim Holds Others terms Moving next of = of
-
-pub has_pages : (table : RamTable) (pages bytes : List ℕ) (batch : BatchOfPages) → HasBatch table pages bytes batch → HasPages table pages bytes
-has_pages table pages bytes batch has = record {
-  has_some = subst (λ (l : List ℕ). 0 < length l) (sym has.same_pages) has.is_batch.has_some;
-  has_bytes = has.has_bytes ∙ ap (λ (l : List ℕ). length l * table.page_size) (sym has.same_pages);
-}
 
 -- a worker that has a batch draws no other number
 pub claimed_stays : (terms : RoundTerms) (hand : Hand) → OfClaim (λ batch number. Unit {0}) terms hand → HasClaimed terms.deal hand hand
@@ -219,11 +202,13 @@ claimed_stays terms (Ended spent) of = absurd of
 claimed_stays terms Moving of = absurd of
 
 -- the packet of the copy is that of each memory that has the pages
-copied_packet : (image : Image) (table : RamTable) (pages bytes : List ℕ) (batch : BatchOfPages) (number : ℕ) → image.table ≡ table → HasBatch table pages bytes batch
+copied_packet : (image : Image) (table : RamTable) (pages bytes : List ℕ) (batch : BatchOfPages) (number : ℕ)
+    → image.table ≡ table → HasBatch table pages bytes batch
     → HasCopied image batch bytes → packed_of (copied_image table pages bytes) batch number ≡ packed_of image batch number
 copied_packet image table pages bytes batch number same has copied =
     ap (λ (l : List ℕ). packed_of (copied_image table l bytes) batch number) has.same_pages
-    ∙ same_packet (copied_image table batch.pages bytes) image batch number (sym same) (copied_agrees image table batch bytes same has.is_batch.has_places copied)
+    ∙ same_packet (copied_image table batch.pages bytes) image batch number (sym same)
+    (copied_agrees image table batch bytes same has.is_batch.has_places copied)
 
 copied_bytes : (image : Image) (terms : RoundTerms) (pages bytes : List ℕ) (hand : Hand) → image.table ≡ terms.table
     → OfClaim (λ batch number. HasBatch terms.table pages bytes batch) terms hand → OfClaim (λ batch number. HasCopied image batch bytes) terms hand
@@ -236,17 +221,24 @@ copied_bytes image terms pages bytes (Ending spent last) same has copied = absur
 copied_bytes image terms pages bytes (Ended spent) same has copied = absurd has
 copied_bytes image terms pages bytes Moving same has copied = absurd has
 
-pub copied_packed : (image : Image) (terms : RoundTerms) (pages bytes : List ℕ) (made : Result (Unit {0}) NoMemory) (old new : Hand) (old_text new_text before drained : List ℕ)
-    → image.table ≡ terms.table → OfClaim (λ batch number. HasBatch terms.table pages bytes batch) terms old → OfClaim (λ batch number. HasCopied image batch bytes) terms old
+-- a step on a claimed batch from a buffer's memory leaves the channel packed as from a memory that
+-- has the buffer's bytes at the batch's pages
+pub copied_packed : (image : Image) (terms : RoundTerms) (pages bytes : List ℕ) (made : Result (Unit {0}) NoMemory)
+    (old new : Hand) (old_text new_text before drained : List ℕ)
+    → image.table ≡ terms.table → OfClaim (λ batch number. HasBatch terms.table pages bytes batch) terms old
+    → OfClaim (λ batch number. HasCopied image batch bytes) terms old
     → IsStep (copied_image terms.table pages bytes) terms made old new old_text new_text → HasPackedTo image terms before (drained ++ old_text) old
     → HasPackedTo image terms before (drained ++ new_text) new
 copied_packed image terms pages bytes made old new old_text new_text before drained same has copied step packed =
-    let drawn : HasClaimed terms.deal old old = claimed_stays terms old (map_claim (λ batch number. HasCopied image batch bytes) (λ batch number. Unit {0}) terms old (λ _ _ _. tt) copied) in
+    let drawn : HasClaimed terms.deal old old =
+    claimed_stays terms old (map_claim (λ batch number. HasCopied image batch bytes) (λ batch number. Unit {0}) terms old (λ _ _ _. tt) copied) in
     step_packed image terms made old new old_text new_text before drained
-    (step_of (copied_image terms.table pages bytes) image terms made old new old_text new_text drawn (copied_bytes image terms pages bytes old same has copied) step) packed
+    (step_of (copied_image terms.table pages bytes) image terms made old new old_text new_text drawn
+    (copied_bytes image terms pages bytes old same has copied) step) packed
 
 -- what a step that isn't refused writes
-pub copied_writes : (image : Image) (terms : RoundTerms) (pages bytes : List ℕ) (made : Result (Unit {0}) NoMemory) (old new : Hand) (old_text new_text : List ℕ)
+pub copied_writes : (image : Image) (terms : RoundTerms) (pages bytes : List ℕ) (made : Result (Unit {0}) NoMemory)
+    (old new : Hand) (old_text new_text : List ℕ)
     → image.table ≡ terms.table → IsOk made → OfClaim (λ batch number. HasBatch terms.table pages bytes batch) terms old
     → IsStep (copied_image terms.table pages bytes) terms made old new old_text new_text
     → OfClaim (λ batch number. HasCopied image batch bytes → new_text ≡ old_text ++ (packed_of image batch number).bytes) terms old
@@ -262,13 +254,15 @@ copied_writes image terms pages bytes (Ok u) (Ended spent) new old_text new_text
 copied_writes image terms pages bytes (Ok u) Moving new old_text new_text same ok has step = has
 
 -- the worker's number after a step: its packet is written, or it is the same
-pub step_hand : (image : Image) (terms : RoundTerms) (made : Result (Unit {0}) NoMemory) (old new : Hand) (old_text new_text : List ℕ) → HasClaimed terms.deal old old
+pub step_hand : (image : Image) (terms : RoundTerms) (made : Result (Unit {0}) NoMemory) (old new : Hand)
+    (old_text new_text : List ℕ) → HasClaimed terms.deal old old
     → IsStep image terms made old new old_text new_text → (IsOk made → new ≡ after_packet old) × ((IsOk made → ⊥) → (new ≡ old) × (new_text ≡ old_text))
 step_hand image terms (Ok u) old new old_text new_text drawn step =
     (λ _. step.writes.0 ∙ ap after_packet (stays terms old step.in_hand drawn step.has_claimed), λ no. absurd (no refl))
 step_hand image terms (Err e) old new old_text new_text drawn step =
     (λ ok. absurd cc, λ _. (step.keeps.1 ∙ stays terms old step.in_hand drawn step.has_claimed, step.keeps.2))
 
+-- two workers with the same terms, channel, hand and bytes are equal
 pub same_worker : (a b : ChannelWork) → a.terms ≡ b.terms → a.channel ≡ b.channel → a.hand ≡ b.hand → a.text ≡ b.text → a ≡ b
 same_worker a b terms channel hand text =
     ap (λ (t : RoundTerms). record { terms = t; channel = a.channel; hand = a.hand; text = a.text }) terms
@@ -284,9 +278,11 @@ ends_or false true true is = refl
 ends_or false true false is = refl
 ends_or false false n is = absurd cc
 
+-- done or no_memory is one of done, running and no_memory
 pub ends_named : (status : ℕ) → IsOneOf (done ∷ no_memory ∷ []) status → IsOneOf (done ∷ running ∷ no_memory ∷ []) status
 ends_named status is = ends_or (done == status) (no_memory == status) (running == status) is
 
+-- done or no_memory isn't running
 pub no_batch_then : (status : ℕ) → IsOneOf (done ∷ no_memory ∷ []) status → status ≢ running
 no_batch_then status is bad = absurd (let no : IsOneOf (done ∷ no_memory ∷ []) running = subst (IsOneOf (done ∷ no_memory ∷ [])) bad is in cc)
 
@@ -295,11 +291,14 @@ packs_or true b n m is = refl
 packs_or false true n m is = refl
 packs_or false false n m is = absurd cc
 
+-- running or no_memory is one of running, no_memory, bad_length and out_of_turn
 pub packs_named : (status : ℕ) → IsOneOf (running ∷ no_memory ∷ []) status → IsOneOf (running ∷ no_memory ∷ bad_length ∷ out_of_turn ∷ []) status
 packs_named status is = packs_or (running == status) (no_memory == status) (bad_length == status) (out_of_turn == status) is
 
+-- running or no_memory isn't out_of_turn
 pub packs_in_turn : (status : ℕ) → IsOneOf (running ∷ no_memory ∷ []) status → status ≢ out_of_turn
 packs_in_turn status is bad = absurd (let no : IsOneOf (running ∷ no_memory ∷ []) out_of_turn = subst (IsOneOf (running ∷ no_memory ∷ [])) bad is in cc)
 
+-- running or no_memory isn't bad_length
 pub packs_fit : (status : ℕ) → IsOneOf (running ∷ no_memory ∷ []) status → status ≢ bad_length
 packs_fit status is bad = absurd (let no : IsOneOf (running ∷ no_memory ∷ []) bad_length = subst (IsOneOf (running ∷ no_memory ∷ [])) bad is in cc)

@@ -1,13 +1,12 @@
 -- What a sender on several channels copies out of its main stream, and of channels that are ended.
-use Rattle.std.proofs.Common.{ℕ, ◌≡◌, ◌≢◌, ◌+◌, ◌<◌, ◌≤◌, ◌∙◌, List, [], ◌++◌, length, replicate, take, drop, get_or, Option, None, refl, sym, ap, subst, arith}
-use Rattle.std.proofs.lemmas.List.{append-nil, append_assoc, drop-drop, take-append-drop, nil_from_length, length-append, length-take-le}
+use Rattle.std.proofs.Common.{ℕ, ◌≡◌, ◌+◌, ◌≤◌, ◌∙◌, List, [], ◌++◌, length, replicate, take, drop, get_or, Option, None, sym, ap, subst, arith}
+use Rattle.std.proofs.lemmas.List.{append-nil, append_assoc, nil_from_length, length-append, length-take-le}
 use Rattle.mig_mem.specs.RamTable.{RamTable}
 use Rattle.mig_mem.specs.Image.{Image}
 use Rattle.mig_mem.specs.declared.place.Place.{Place}
 use Rattle.mig_stream.specs.Written.{FlushPart, written_so_far}
 use Rattle.mig_send.specs.DealtRounds.{DealtRound}
 use Rattle.mig_send.specs.MultiSending.{MultiSending, Drained, HasSentRounds, KeepsCounts, texts_of, with_main}
-use Rattle.mig_c_calls.specs.declared.waiting.Waiting.{Waiting}
 use Rattle.mig_c_calls.specs.declared.sending.EndedStreams.{EndedStreams}
 use Rattle.mig_c_calls.specs.declared.sending.MultiState.{MultiState}
 use Rattle.mig_c_calls.specs.declared.sending.MultiState.TheVariants.{Idle, Round, Over}
@@ -17,22 +16,6 @@ use Rattle.mig_c_calls.specs.Multi.{MultiSetting, SendsTo, InRoundTo, InRound, I
 use Rattle.mig_c_calls.proofs.Named.{named_more, named_ended, ended_is}
 use Rattle.mig_c_calls.proofs.Sends.{still_of}
 use Rattle.mig_c_calls.proofs.Ends.{same_streams}
-
--- ---- bytes that wait
-
--- the bytes that are copied out come before those that still wait
-pub hands_out : (count : ℕ) (out : List ℕ) (old new : Waiting) → count ≤ length out → take count out ≡ take count (waiting_in old)
-    → new.bytes.items ≡ old.bytes.items → new.given ≡ old.given + count → (count ≡ 0 → 0 < length out → length (waiting_in old) ≡ 0) → HandsOutOf count out old new
-hands_out count out old new fits front same given none = record {
-  fits = fits;
-  has_front =
-      ap (λ (l : List ℕ). l ++ waiting_in new) front
-      ∙ ap (λ (l : List ℕ). take count (waiting_in old) ++ drop new.given l) same
-      ∙ ap (λ (n : ℕ). take count (waiting_in old) ++ drop n old.bytes.items) given
-      ∙ ap (λ (l : List ℕ). take count (waiting_in old) ++ l) (sym (drop-drop count old.given old.bytes.items))
-      ∙ take-append-drop count (waiting_in old);
-  none = λ zero room. nil_from_length (waiting_in old) (none zero room);
-}
 
 -- ---- the main stream
 
@@ -51,6 +34,8 @@ none_of_none count out left fits none =
       nil_from_length left (omega (arith, lens)),
     )
 
+-- if a sender refills its main stream, and then copies out bytes that wait, in the same state, its
+-- main stream is drained
 pub drains_main : (count : ℕ) (out : List ℕ) (old mid new : Multi) → RefillsMain old mid → HandsOutOf count out mid.main new.main → new.state ≡ mid.state
     → DrainsMain count out old new
 drains_main count out old mid new refills hands same = record {
@@ -63,7 +48,8 @@ drains_main count out old mid new refills hands same = record {
         subst (λ (s : MultiState). SendsTo setting (with_plain given kept.0) rounds s) (sym same) kept.2,
       );
   hands_in_round = λ setting image dirty given rounds here.
-      let kept : (plain : List ℕ) × IsNamed setting.name (given.main ++ waiting_in mid.main) plain × InRoundTo setting image dirty (with_plain given plain) rounds mid.state =
+      let kept : (plain : List ℕ) × IsNamed setting.name (given.main ++ waiting_in mid.main) plain
+      × InRoundTo setting image dirty (with_plain given plain) rounds mid.state =
       refills.keeps_round setting image dirty given rounds here in (
         kept.0,
         subst (λ (l : List ℕ). IsNamed setting.name l kept.0) (and_front given.main (take count out) mid new hands.has_front) kept.1,
@@ -97,42 +83,37 @@ round_breaks_off setting image dirty drained rounds (Round r) is = (
 )
 round_breaks_off setting image dirty drained rounds (Over e) is = absurd is
 
+-- what was copied out of the main stream in an open round is a front of what the rounds before
+-- wrote, with its name
 pub breaks_off : (setting : MultiSetting) (image : Image) (dirty : List Place) (given : Drained) (rounds : List DealtRound) (m : Multi)
     → InRound setting image dirty given rounds m
     → (rest : List ℕ) × IsNamed setting.name (given.main ++ rest) (written_so_far setting.table (replicate (length rounds) FlushPart))
 breaks_off setting image dirty given rounds m here =
     let cut = round_breaks_off setting image dirty (with_plain given here.0) rounds m.state here.2 in (
       waiting_in m.main ++ cut.0,
-      subst (λ (l : List ℕ). IsNamed setting.name l (written_so_far setting.table (replicate (length rounds) FlushPart))) (append_assoc given.main (waiting_in m.main) cut.0)
+      subst (λ (l : List ℕ). IsNamed setting.name l (written_so_far setting.table (replicate (length rounds) FlushPart)))
+          (append_assoc given.main (waiting_in m.main) cut.0)
           (subst (λ (l : List ℕ). IsNamed setting.name ((given.main ++ waiting_in m.main) ++ cut.0) l) cut.1
           (named_more setting.name (given.main ++ waiting_in m.main) here.0 cut.0 here.1)),
     )
 
 -- ---- bytes are taken out
 
--- where bytes wait nothing is taken out
-pub refills_not : (m : Multi) → waiting_in m.main ≢ [] → RefillsMain m m
-refills_not m waits = record {
-  keeps = λ setting given rounds sends. sends;
-  keeps_round = λ setting image dirty given rounds here. here;
-  in_round = λ is. (refl, refl);
-  idle = λ is. is;
-  ended = λ is. (is, refl);
-  given_up = λ is. is;
-  written = λ is none. absurd (waits none);
-  all = λ is none. absurd (waits none);
-}
-
 -- with nothing that waits
 none_waits : (given : List ℕ) (m : Multi) → waiting_in m.main ≡ [] → given ++ waiting_in m.main ≡ given
 none_waits given m none = ap (λ (l : List ℕ). given ++ l) none ∙ append-nil given
 
-named_given : (name : Option (List ℕ)) (given plain : List ℕ) (m : Multi) → waiting_in m.main ≡ [] → IsNamed name (given ++ waiting_in m.main) plain → IsNamed name given plain
+named_given : (name : Option (List ℕ)) (given plain : List ℕ) (m : Multi) → waiting_in m.main ≡ []
+    → IsNamed name (given ++ waiting_in m.main) plain → IsNamed name given plain
 named_given name given plain m none named = subst (λ (l : List ℕ). IsNamed name l plain) (none_waits given m none) named
 
-pub refills_idle : (old new : Multi) (s s' : MultiSending) (bytes : List ℕ) → old.state ≡ Idle s → new.state ≡ Idle s' → waiting_in old.main ≡ [] → waiting_in new.main ≡ bytes
+-- if no byte of an idle sender waits, and then all written since do, drained of it without a change
+-- of what it sent, the main stream is refilled
+pub refills_idle : (old new : Multi) (s s' : MultiSending) (bytes : List ℕ) → old.state ≡ Idle s → new.state ≡ Idle s'
+    → waiting_in old.main ≡ [] → waiting_in new.main ≡ bytes
     → KeepsCounts s s'
-    → ((drained : Drained) (rounds : List DealtRound) → HasSentRounds drained s rounds → drained.main ++ bytes ≡ written_so_far s.main.table (replicate (length rounds) FlushPart))
+    → ((drained : Drained) (rounds : List DealtRound) → HasSentRounds drained s rounds
+    → drained.main ++ bytes ≡ written_so_far s.main.table (replicate (length rounds) FlushPart))
     → ((drained : Drained) (rounds : List DealtRound) → HasSentRounds drained s rounds → HasSentRounds (with_main drained bytes) s' rounds)
     → RefillsMain old new
 refills_idle old new s s' bytes was is none waits keeps all drains = record {
@@ -175,8 +156,11 @@ rest_waits plain new e e' waits rest =
     ∙ append-nil (plain ++ waiting_in new.main)
     ∙ ap (λ (l : List ℕ). plain ++ l) waits
 
+-- if no byte of ended streams waits, and then the rest of the main stream does, with the channels
+-- as they were, the main stream is refilled
 pub refills_over : (old new : Multi) (e e' : EndedStreams) → old.state ≡ Over e → new.state ≡ Over e' → waiting_in old.main ≡ []
-    → waiting_in new.main ≡ e.sent.main.items → e'.sent.main.items ≡ [] → texts_of e'.sent.channels.items ≡ texts_of e.sent.channels.items → e'.given.items ≡ e.given.items
+    → waiting_in new.main ≡ e.sent.main.items → e'.sent.main.items ≡ []
+    → texts_of e'.sent.channels.items ≡ texts_of e.sent.channels.items → e'.given.items ≡ e.given.items
     → e'.left_open ≡ e.left_open → RefillsMain old new
 refills_over old new e e' was is none waits rest channels given_is ends = record {
   keeps = λ setting given rounds sends.
@@ -184,7 +168,8 @@ refills_over old new e e' was is none waits rest channels given_is ends = record
         sends.0 ++ waiting_in new.main,
         named_more setting.name given.main sends.0 (waiting_in new.main) (named_given setting.name given.main sends.0 old none sends.1),
         subst (λ (m : MultiState). SendsTo setting (with_plain given (sends.0 ++ waiting_in new.main)) rounds m) (sym is)
-            (same_streams setting (with_plain given sends.0) (with_plain given (sends.0 ++ waiting_in new.main)) rounds e e' (ap (λ (l : List ℕ). length l) given_is) ends
+            (same_streams setting (with_plain given sends.0) (with_plain given (sends.0 ++ waiting_in new.main)) rounds e e'
+            (ap (λ (l : List ℕ). length l) given_is) ends
             (rest_waits sends.0 new e e' waits rest)
             (λ channel. ap (λ (l : List ℕ). given.channel channel ++ l) (sym (same_left e e' channels given_is channel))) before),
       );

@@ -24,16 +24,19 @@ same_at n i m = elim (cases_lt i n) [
 ]
 
 -- as many byte strings as there are channels
-long_texts : (drained : Drained) (texts : List (List ℕ)) (uuid : List ℕ) (rounds : List DealtRound) (n : ℕ) → whole_texts drained texts ≡ channel_texts uuid n rounds → length texts ≡ n
+long_texts : (drained : Drained) (texts : List (List ℕ)) (uuid : List ℕ) (rounds : List DealtRound) (n : ℕ)
+    → whole_texts drained texts ≡ channel_texts uuid n rounds → length texts ≡ n
 long_texts drained texts uuid rounds n same =
     sym (length-map-range_with_len (λ channel. drained.channel channel ++ get_or texts channel []) 0 (length texts))
     ∙ ap (λ (l : List (List ℕ)). length l) same
     ∙ length-map-range_with_len (channel_text uuid rounds) 0 n
 
 -- at first all of each channel is left
-pub finishes : (left_open : Bool) (s : MultiSending) (sent : Sent Global) (given : Vec ℕ Global) (n : ℕ) (setting : MultiSetting) (drained : Drained) (rounds : List DealtRound)
+pub finishes : (left_open : Bool) (s : MultiSending) (sent : Sent Global) (given : Vec ℕ
+    Global) (n : ℕ) (setting : MultiSetting) (drained : Drained) (rounds : List DealtRound)
     → given.items ≡ replicate n 0 → n ≡ length s.channels → IsSenderOf setting s
-    → AreEnded left_open s.main.table s.uuid s.limit (length s.channels) rounds (drained.main ++ sent.main.items) (whole_texts drained (texts_of sent.channels.items))
+    → AreEnded left_open s.main.table s.uuid s.limit (length s.channels) rounds (drained.main ++ sent.main.items)
+    (whole_texts drained (texts_of sent.channels.items))
     → SendsTo setting drained rounds (Over (record { sent = sent; given = given; left_open = left_open }))
 finishes left_open s sent given n setting drained rounds zeros many is ended =
     let texts : List (List ℕ) = texts_of sent.channels.items in
@@ -45,13 +48,15 @@ finishes left_open s sent given n setting drained rounds zeros many is ended =
     λ channel. ap (λ (k : ℕ). drop k (get_or texts channel [])) (ap (λ (l : List ℕ). get_or l channel 0) zeros ∙ same_at n channel 0) in
     let same : whole_texts drained texts ≡ all_channels setting.channels drained e =
     ap (λ (k : ℕ). map (λ channel. drained.channel channel ++ get_or texts channel []) (range_with_len 0 k)) long
-    ∙ ap (λ (f : ℕ → List ℕ). map f (range_with_len 0 setting.channels)) (fun_ext (λ channel. ap (λ (l : List ℕ). drained.channel channel ++ l) (sym (all_left channel)))) in (
+    ∙ ap (λ (f : ℕ → List ℕ). map f (range_with_len 0 setting.channels))
+    (fun_ext (λ channel. ap (λ (l : List ℕ). drained.channel channel ++ l) (sym (all_left channel)))) in (
       ap (λ (l : List ℕ). length l) zeros ∙ length-replicate n 0 ∙ many ∙ is.as_many,
       subst (λ (ts : List (List ℕ)). AreEnded left_open setting.table setting.uuid setting.limit setting.channels rounds main_text ts) same
           (subst (λ (k : ℕ). AreEnded left_open setting.table setting.uuid setting.limit k rounds main_text (whole_texts drained texts)) is.as_many
           (subst (λ (k : ℕ). AreEnded left_open setting.table setting.uuid k (length s.channels) rounds main_text (whole_texts drained texts)) is.same_limit
           (subst (λ (u : List ℕ). AreEnded left_open setting.table u s.limit (length s.channels) rounds main_text (whole_texts drained texts)) is.same_uuid
-          (subst (λ (t : RamTable). AreEnded left_open t s.uuid s.limit (length s.channels) rounds main_text (whole_texts drained texts)) is.same_table ended)))),
+          (subst (λ (t : RamTable). AreEnded left_open t s.uuid s.limit (length s.channels) rounds main_text
+          (whole_texts drained texts)) is.same_table ended)))),
     )
 
 -- if nothing is left of a channel, all of it was copied out
@@ -59,7 +64,8 @@ left_done : (setting : MultiSetting) (drained : Drained) (rounds : List DealtRou
     → left_of e channel ≡ [] → channel < setting.channels → drained.channel channel ≡ channel_text setting.uuid rounds channel
 left_done setting drained rounds e channel sends none lt =
     let has_texts : all_channels setting.channels drained e ≡ channel_texts setting.uuid setting.channels rounds =
-    texts_are e.left_open setting.table setting.uuid setting.limit setting.channels rounds (drained.main ++ e.sent.main.items) (all_channels setting.channels drained e) sends.1 in
+    texts_are e.left_open setting.table setting.uuid setting.limit setting.channels rounds (drained.main ++ e.sent.main.items)
+    (all_channels setting.channels drained e) sends.1 in
     sym (append-nil (drained.channel channel))
     ∙ ap (λ (l : List ℕ). drained.channel channel ++ l) (sym none)
     ∙ sym (get_or-map-range_with_len (λ c. drained.channel c ++ left_of e c) 0 setting.channels channel channel [] lt (omega arith))
@@ -67,16 +73,20 @@ left_done setting drained rounds e channel sends none lt =
     ∙ get_or-map-range_with_len (channel_text setting.uuid rounds) 0 setting.channels channel channel [] lt (omega arith)
 
 -- with other bytes copied out, and the others left, the streams are the same
-pub same_streams : (setting : MultiSetting) (drained after : Drained) (rounds : List DealtRound) (e e' : EndedStreams) → length e'.given.items ≡ length e.given.items
+pub same_streams : (setting : MultiSetting) (drained after : Drained) (rounds : List DealtRound) (e e' : EndedStreams)
+    → length e'.given.items ≡ length e.given.items
     → e'.left_open ≡ e.left_open
     → after.main ++ e'.sent.main.items ≡ drained.main ++ e.sent.main.items
     → ((channel : ℕ) → after.channel channel ++ left_of e' channel ≡ drained.channel channel ++ left_of e channel)
     → SendsTo setting drained rounds (Over e) → SendsTo setting after rounds (Over e')
 same_streams setting drained after rounds e e' long ends main_is channels sends = (
   long ∙ sends.0,
-  subst (λ (b : Bool). AreEnded b setting.table setting.uuid setting.limit setting.channels rounds (after.main ++ e'.sent.main.items) (all_channels setting.channels after e')) (sym ends)
-      (subst (λ (l : List ℕ). AreEnded e.left_open setting.table setting.uuid setting.limit setting.channels rounds l (all_channels setting.channels after e')) (sym main_is)
-      (subst (λ (ts : List (List ℕ)). AreEnded e.left_open setting.table setting.uuid setting.limit setting.channels rounds (drained.main ++ e.sent.main.items) ts)
+  subst (λ (b : Bool). AreEnded b setting.table setting.uuid setting.limit setting.channels rounds
+      (after.main ++ e'.sent.main.items) (all_channels setting.channels after e')) (sym ends)
+      (subst (λ (l : List ℕ). AreEnded e.left_open setting.table setting.uuid setting.limit setting.channels rounds l
+      (all_channels setting.channels after e')) (sym main_is)
+      (subst (λ (ts : List (List ℕ)). AreEnded e.left_open setting.table setting.uuid setting.limit setting.channels rounds
+      (drained.main ++ e.sent.main.items) ts)
       (ap (λ (f : ℕ → List ℕ). map f (range_with_len 0 setting.channels)) (fun_ext (λ channel. sym (channels channel)))) sends.1)),
 )
 
@@ -95,16 +105,20 @@ handed : (drained : Drained) (at : ℕ) (front : List ℕ) (e e' : EndedStreams)
     → (channel : ℕ) → (with_channel drained at front).channel channel ++ left_of e' channel ≡ drained.channel channel ++ left_of e channel
 handed drained at front e e' here other channel = elim (cases_eq channel at) [
   | inl same ↦
-      ap (λ (l : List ℕ). l ++ left_of e' channel) (cond-true (channel == at) (drained.channel channel ++ front) (drained.channel channel) (eq-eqb channel at same))
+      ap (λ (l : List ℕ). l ++ left_of e' channel)
+      (cond-true (channel == at) (drained.channel channel ++ front) (drained.channel channel) (eq-eqb channel at same))
       ∙ append_assoc (drained.channel channel) front (left_of e' channel)
       ∙ ap (λ (l : List ℕ). drained.channel channel ++ l)
       (subst (λ (n : ℕ). front ++ left_of e' n ≡ left_of e n) (sym same) here)
   | inr not ↦
-      ap (λ (l : List ℕ). l ++ left_of e' channel) (cond-false (channel == at) (drained.channel channel ++ front) (drained.channel channel) (ne_eqb channel at not))
+      ap (λ (l : List ℕ). l ++ left_of e' channel)
+      (cond-false (channel == at) (drained.channel channel ++ front) (drained.channel channel) (ne_eqb channel at not))
       ∙ ap (λ (l : List ℕ). drained.channel channel ++ l) (other channel not)
 ]
 
-pub drains_none : (e : EndedStreams) (at : ℕ) (out : List ℕ) → ((setting : MultiSetting) → length e.given.items ≡ setting.channels → at < setting.channels → left_of e at ≡ [])
+-- where nothing is left of a channel of ended streams, copying out no byte drains it, as it is
+pub drains_none : (e : EndedStreams) (at : ℕ) (out : List ℕ)
+    → ((setting : MultiSetting) → length e.given.items ≡ setting.channels → at < setting.channels → left_of e at ≡ [])
     → DrainsChannel at 0 out (Over e) (Over e)
 drains_none e at out none = record {
   fits = omega arith;
@@ -116,6 +130,8 @@ drains_none e at out none = record {
   same = λ not. absurd (not tt);
 }
 
+-- if a front of what is left of a channel is copied out, and counted, with everything else of the
+-- ended streams as it was, the channel is drained
 pub drains_left : (e e' : EndedStreams) (at count : ℕ) (out : List ℕ) → at < length e.given.items → at < length e.sent.channels.items
     → e'.left_open ≡ e.left_open
     → e'.given.items ≡ set e.given.items at (get_or e.given.items at 0 + count) → e'.sent.main.items ≡ e.sent.main.items
@@ -140,11 +156,13 @@ drains_left e e' at count out lt within ends moved same_main same_texts fits fro
     record {
       fits = fits;
       hands = λ _ setting drained rounds sends.
-          same_streams setting drained (with_channel drained at (take count out)) rounds e e' (ap (λ (l : List ℕ). length l) moved ∙ length-set given at (now + count)) ends
+          same_streams setting drained (with_channel drained at (take count out)) rounds e e'
+          (ap (λ (l : List ℕ). length l) moved ∙ length-set given at (now + count)) ends
           (ap (λ (l : List ℕ). drained.main ++ l) same_main) (handed drained at (take count out) e e' here other) sends;
       ended = λ _. (tt, ends);
       given_up = λ is.
           absurd (omega (arith, within, length-map e.sent.channels.items (λ (v : Vec ℕ Global). v.items), ap (λ (ts : List (List ℕ)). length ts) is.1));
-      all = λ _ zero room setting drained rounds sends is_channel. left_done setting drained rounds e at sends (nil_from_length (left_of e at) (none zero room)) is_channel;
+      all = λ _ zero room setting drained rounds sends is_channel. left_done setting drained rounds e at sends
+          (nil_from_length (left_of e at) (none zero room)) is_channel;
       same = λ not. absurd (not tt);
     }

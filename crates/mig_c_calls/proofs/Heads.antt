@@ -30,6 +30,7 @@ use Rattle.mig_c_calls.proofs.Copies.{map_claim, packs_named, packs_in_turn, pac
 
 -- ---- how long a head is
 
+-- the head of a batch's packet is as long as a head for the table's page size
 pub head_length : (table : RamTable) (batch : BatchOfPages) (number : ℕ) (zeros : List Bool) → IsTable table → IsBatch table batch
     → length (batch_head table batch number zeros) ≡ head_len table.page_size
 head_length table batch number zeros is is_batch =
@@ -52,6 +53,7 @@ head_length table batch number zeros is is_batch =
 
 -- ---- what a head and the contents make
 
+-- where no bytes were there before, a written head is the head of the batch that is claimed
 pub head_then : (terms : RoundTerms) (hand : Hand) (zeros : List Bool) (before after : List ℕ) → before ≡ [] → WritesHead terms hand zeros before after
     → OfClaim (λ batch number. after ≡ batch_head terms.table batch number zeros) terms hand
 head_then terms (Drawing seat) zeros before after none writes = writes
@@ -62,7 +64,8 @@ head_then terms (Ended spent) zeros before after none writes = writes
 head_then terms Moving zeros before after none writes = writes
 
 -- as many bytes as there is room for
-pub put_length : (table : RamTable) (terms : RoundTerms) (hand : Hand) (zeros : List ℕ) (room : ℕ) (flags : List Bool) (old new : List ℕ) → table ≡ terms.table → IsTable table → old ≡ []
+pub put_length : (table : RamTable) (terms : RoundTerms) (hand : Hand) (zeros : List ℕ) (room : ℕ) (flags : List Bool)
+    (old new : List ℕ) → table ≡ terms.table → IsTable table → old ≡ []
     → OfClaim (λ batch number. TakesHead terms.table zeros room batch) terms hand → WritesHead terms hand flags old new
     → (length new ≡ head_len terms.table.page_size) × (length new ≤ room)
 put_length table terms (Drawing seat) zeros room flags old new same is none takes writes = absurd takes
@@ -86,7 +89,8 @@ reads_own image terms hand same = record { same_table = same; has_pages = own_pa
 
 -- they are the packet of the batch
 bytes_then : (zeros : List Bool) (image : Image) (old new : ChannelWork) (hand : Hand) → old.hand ≡ hand → old.text ≡ [] → image.table ≡ old.terms.table
-    → IfSome (batch_in old.terms hand) (λ batch. zeros ≡ zeros_in image batch → PacksPages image (Ok _) old (record new { text = new.text ++ contents_in image batch }))
+    → IfSome (batch_in old.terms hand) (λ batch. zeros ≡ zeros_in image batch
+    → PacksPages image (Ok _) old (record new { text = new.text ++ contents_in image batch }))
     → OfClaim (λ batch number. Unit {0}) old.terms hand
     → OfClaim (λ batch number. zeros ≡ zeros_in image batch → new.text ++ contents_in image batch ≡ (packed_of image batch number).bytes) old.terms hand
 bytes_then zeros image old new (Drawing seat) is none same follows of = absurd of
@@ -102,7 +106,8 @@ bytes_then zeros image old new Moving is none same follows of = absurd of
 
 -- with them the worker has packed the batch
 packed_then : (zeros : List Bool) (image : Image) (old new : ChannelWork) (hand : Hand) → image.table ≡ old.terms.table
-    → IfSome (batch_in old.terms hand) (λ batch. zeros ≡ zeros_in image batch → PacksPages image (Ok _) old (record new { text = new.text ++ contents_in image batch }))
+    → IfSome (batch_in old.terms hand) (λ batch. zeros ≡ zeros_in image batch
+    → PacksPages image (Ok _) old (record new { text = new.text ++ contents_in image batch }))
     → OfClaim (λ batch number. Unit {0}) old.terms hand
     → OfClaim (λ batch number. zeros ≡ zeros_in image batch → (before drained : List ℕ) → HasPacked image before (drained ++ old.text) old
     → HasPacked image before (drained ++ (new.text ++ contents_in image batch)) new) old.terms hand
@@ -136,19 +141,22 @@ none_waits old mid refills none = front_none (waiting_in mid.drained) mid.worker
 
 -- ---- the call
 
-as_before : (old new : HeldWorker) (image : Image) (sent given more : List ℕ) → new.worker ≡ old.worker → new.drained ≡ old.drained → Packs image sent given more old → Packs image sent given more new
+as_before : (old new : HeldWorker) (image : Image) (sent given more : List ℕ) → new.worker ≡ old.worker
+    → new.drained ≡ old.drained → Packs image sent given more old → Packs image sent given more new
 as_before old new image sent given more worker drained packs =
     worker_steps image sent given more old new drained
     (λ before bytes packed. subst (λ (w : ChannelWork). HasPacked image before (bytes ++ w.text) w) (sym worker) packed) packs
 
 -- with what is sent after it
-packs_on : (image : Image) (sent given more bytes : List ℕ) (old new : HeldWorker) → waiting_in old.drained ≡ [] → waiting_in new.drained ≡ [] → new.worker.text ≡ []
+packs_on : (image : Image) (sent given more bytes : List ℕ) (old new : HeldWorker) → waiting_in old.drained ≡ []
+    → waiting_in new.drained ≡ [] → new.worker.text ≡ []
     → ((before drained : List ℕ) → HasPacked image before (drained ++ old.worker.text) old.worker → HasPacked image before (drained ++ bytes) new.worker)
     → Packs image sent given more old → Packs image sent given (more ++ bytes) new
 packs_on image sent given more bytes old new waited waits none packed packs =
     let now : HasPacked image packs.own (more ++ bytes) new.worker =
     packed packs.own more
-    (subst (λ (l : List ℕ). HasPacked image packs.own (l ++ old.worker.text) old.worker) (ap (λ (l : List ℕ). more ++ l) waited ∙ append-nil more) packs.has_packed) in
+    (subst (λ (l : List ℕ). HasPacked image packs.own (l ++ old.worker.text) old.worker)
+    (ap (λ (l : List ℕ). more ++ l) waited ∙ append-nil more) packs.has_packed) in
     record {
       own = packs.own;
       has_sent = packs.has_sent;
@@ -169,13 +177,15 @@ refused_then : (status : ℕ) → IsOneOf (bad_length ∷ out_of_turn ∷ []) st
 refused_then status is bad = absurd (let no : IsOneOf (bad_length ∷ out_of_turn ∷ []) running = subst (IsOneOf (bad_length ∷ out_of_turn ∷ [])) bad is in cc)
 
 none_true : (a b : Bool) → IsTrue (a || (b || false)) → a ≡ false → b ≡ false → ⊥
-none_true a b is first second = absurd (let none : IsTrue (false || (false || false)) = subst (λ (y : Bool). IsTrue (false || (y || false))) second (subst (λ (x : Bool). IsTrue (x || (b || false))) first is) in cc)
+none_true a b is first second = absurd (let none : IsTrue (false || (false || false)) =
+    subst (λ (y : Bool). IsTrue (false || (y || false))) second (subst (λ (x : Bool). IsTrue (x || (b || false))) first is) in cc)
 
 neither : (status : ℕ) → IsOneOf (bad_length ∷ out_of_turn ∷ []) status → status ≢ out_of_turn → status ≢ bad_length → ⊥
 neither status is turn well =
     none_true (bad_length == status) (out_of_turn == status) is
     (ne_eqb bad_length status (λ same. well (sym same))) (ne_eqb out_of_turn status (λ same. turn (sym same)))
 
+-- if a refilled worker refuses a head, `head` says so, and leaves the buffer as it was
 pub refuses_head : (zeros : List ℕ) (status was : ℕ) (out : List ℕ) (old mid : HeldWorker) → RefillsWorker old mid → RefusesHead zeros (length out) status mid
     → GivesHead zeros status out out was was old mid
 refuses_head zeros status was out old mid refills refuses =
@@ -194,7 +204,8 @@ refuses_head zeros status was out old mid refills refuses =
             none_left old mid refills now.1,
           );
       unfit = λ bad.
-          same_claim (λ t batch _. FitsHead t.table zeros (length out) batch → ⊥) mid.worker.terms old.worker.terms mid.worker.hand old.worker.hand terms hand (refuses.unfit bad);
+          same_claim (λ t batch _. FitsHead t.table zeros (length out) batch
+          → ⊥) mid.worker.terms old.worker.terms mid.worker.hand old.worker.hand terms hand (refuses.unfit bad);
       fits = λ turn well. absurd (neither status refuses.is_named turn well);
       gives = λ runs. absurd (other runs);
       has_length = λ runs. absurd (other runs);
@@ -206,6 +217,8 @@ refuses_head zeros status was out old mid refills refuses =
       same_work = (terms, refills.same_work.1);
     }
 
+-- if no byte of a refilled worker waits, and the head of its batch fits, writing the head out, or
+-- lacking memory for it, is what `head` does
 pub gives_head : (zeros : List ℕ) (status was len : ℕ) (before out : List ℕ) (old mid new : HeldWorker) → RefillsWorker old mid
     → OfBatch (λ batch number. TakesHead mid.worker.terms.table zeros (length before) batch) mid → waiting_in mid.drained ≡ [] → length out ≡ length before
     → WritesOut zeros status before out was len mid.worker new.worker mid.drained new.drained
@@ -216,7 +229,8 @@ gives_head zeros status was len before out old mid new refills takes waited room
     let terms : t ≡ old.worker.terms = refills.same_work.0 in
     let hand : h ≡ old.worker.hand = refills.same_work.2 in
     let none : mid.worker.text ≡ [] = refills.none waited in
-    let claim : OfClaim (λ _ _. Unit {0}) t h = map_claim (λ batch number. TakesHead t.table zeros (length before) batch) (λ _ _. Unit {0}) t h (λ _ _ _. tt) takes in
+    let claim : OfClaim (λ _ _. Unit {0}) t h =
+    map_claim (λ batch number. TakesHead t.table zeros (length before) batch) (λ _ _. Unit {0}) t h (λ _ _ _. tt) takes in
     let flags : List Bool = flags_of zeros in
     let sent : ChannelWork = record new.worker { text = take len out } in
     record {
@@ -230,7 +244,10 @@ gives_head zeros status was len before out old mid new refills takes waited room
       fits = λ _ _.
           same_claim (λ u batch _. FitsHead u.table zeros (length out) batch) t old.worker.terms h old.worker.hand terms hand
           (map_claim (λ batch number. TakesHead t.table zeros (length before) batch) (λ batch number. FitsHead t.table zeros (length out) batch) t h
-          (λ batch _ has. record { as_many = has.fits.as_many; has_room = subst (λ (n : ℕ). head_len t.table.page_size ≤ n) (sym room) has.fits.has_room }) takes);
+          (λ batch _ has. record {
+            as_many = has.fits.as_many;
+            has_room = subst (λ (n : ℕ). head_len t.table.page_size ≤ n) (sym room) has.fits.has_room;
+          }) takes);
       gives = λ runs.
           same_claim (λ u batch number. take len out ≡ batch_head u.table batch number flags) t old.worker.terms h old.worker.hand terms hand
           (head_then t h flags mid.worker.text (take len out) none (writes.puts runs).0.has_head);
@@ -243,15 +260,18 @@ gives_head zeros status was len before out old mid new refills takes waited room
       packs = λ runs image bytes given more same.
           let of_mid : image.table ≡ t.table = same ∙ ap (λ (u : RoundTerms). u.table) (sym terms) in
           let puts = writes.puts runs in
-          same_claim (λ _ batch number. flags ≡ zeros_in image batch → Packs image bytes given more old → Packs image bytes given (more ++ (take len out ++ contents_in image batch)) new)
+          same_claim (λ _ batch number. flags ≡ zeros_in image batch → Packs image bytes given more old
+          → Packs image bytes given (more ++ (take len out ++ contents_in image batch)) new)
           t old.worker.terms h old.worker.hand terms hand
           (map_claim
           (λ batch number. flags ≡ zeros_in image batch → (before drained : List ℕ) → HasPacked image before (drained ++ mid.worker.text) mid.worker
           → HasPacked image before (drained ++ (take len out ++ contents_in image batch)) sent)
-          (λ batch number. flags ≡ zeros_in image batch → Packs image bytes given more old → Packs image bytes given (more ++ (take len out ++ contents_in image batch)) new)
+          (λ batch number. flags ≡ zeros_in image batch → Packs image bytes given more old
+          → Packs image bytes given (more ++ (take len out ++ contents_in image batch)) new)
           t h
           (λ batch _ now are packed.
-          packs_on image bytes given more (take len out ++ contents_in image batch) mid new waited puts.2 puts.1 (now are) (refills.keeps image bytes given more packed))
+          packs_on image bytes given more (take len out ++ contents_in image batch) mid new waited puts.2 puts.1 (now are)
+          (refills.keeps image bytes given more packed))
           (packed_then flags image mid.worker sent h of_mid (puts.0.follows image of_mid) claim));
       over = λ runs.
           let puts = writes.puts runs in (

@@ -19,7 +19,8 @@ named_more (Some name) bytes plain more is = (
 )
 
 -- the whole main stream, with its end byte or left open
-pub named_ended : (left_open : Bool) (name : Option (List ℕ)) (bytes : List ℕ) (table : RamTable) (n : ℕ) → IsNamed name bytes (ended_main left_open None table n)
+pub named_ended : (left_open : Bool) (name : Option (List ℕ)) (bytes : List ℕ) (table : RamTable) (n : ℕ)
+    → IsNamed name bytes (ended_main left_open None table n)
     → bytes ≡ ended_main left_open name table n
 named_ended false None bytes table n is = is
 named_ended false (Some name) bytes table n is = is.1 ∙ configured_is_closed (Some name) table (replicate n FlushPart) is.0 (sym is.2)
@@ -27,12 +28,15 @@ named_ended true None bytes table n is = is
 named_ended true (Some name) bytes table n is = is.1 ∙ configured_is_written (Some name) table (replicate n FlushPart) is.0 (sym is.2)
 
 -- its parts, and the channels
-pub ended_is : (left_open : Bool) (table : RamTable) (uuid : List ℕ) (limit channels : ℕ) (rounds : List DealtRound) (main_text : List ℕ) (texts : List (List ℕ))
+pub ended_is : (left_open : Bool) (table : RamTable) (uuid : List ℕ)
+    (limit channels : ℕ) (rounds : List DealtRound) (main_text : List ℕ) (texts : List (List ℕ))
     → AreEnded left_open table uuid limit channels rounds main_text texts → main_text ≡ ended_main left_open None table (length rounds)
 ended_is false table uuid limit channels rounds main_text texts is = is.has_main
 ended_is true table uuid limit channels rounds main_text texts is = is.has_main
 
-pub texts_are : (left_open : Bool) (table : RamTable) (uuid : List ℕ) (limit channels : ℕ) (rounds : List DealtRound) (main_text : List ℕ) (texts : List (List ℕ))
+-- the channels of streams that were ended, or left open, have the bytes of their rounds
+pub texts_are : (left_open : Bool) (table : RamTable) (uuid : List ℕ)
+    (limit channels : ℕ) (rounds : List DealtRound) (main_text : List ℕ) (texts : List (List ℕ))
     → AreEnded left_open table uuid limit channels rounds main_text texts → texts ≡ channel_texts uuid channels rounds
 texts_are false table uuid limit channels rounds main_text texts is = is.has_texts
 texts_are true table uuid limit channels rounds main_text texts is = is.is_sending.has_texts

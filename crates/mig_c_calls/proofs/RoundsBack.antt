@@ -24,7 +24,8 @@ goes_back r s setting image dirty drained rounds taken is =
         are_dealt = sent.are_dealt;
         are_numbered = sent.are_numbered;
         has_main = subst (λ (l : List ℕ). HasDrained l is.old.main (replicate (length rounds) FlushPart)) (sym is.same_main) sent.has_main;
-        has_texts = λ channel lt. ap (λ (l : List ℕ). l ++ get_or is.old.channels channel []) (is.others channel (omega arith) (omega arith)) ∙ sent.has_texts channel lt;
+        has_texts = λ channel lt. ap (λ (l : List ℕ). l ++ get_or is.old.channels channel [])
+            (is.others channel (omega arith) (omega arith)) ∙ sent.has_texts channel lt;
         has_base = sent.has_base;
         has_rounds = sent.has_rounds;
       },

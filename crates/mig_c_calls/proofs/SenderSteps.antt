@@ -24,6 +24,7 @@ pub named_whole : (name : Option (List ℕ)) (bytes : List ℕ) (table : RamTabl
 named_whole None bytes table rounds is = is
 named_whole (Some name) bytes table rounds is = is.1 ∙ configured_is_closed (Some name) table (map RoundPart rounds) is.0 (sym is.2)
 
+-- bytes that without their name are a stream left open are the open stream with that name
 pub named_open : (name : Option (List ℕ)) (bytes : List ℕ) (table : RamTable) (rounds : List (List Page)) → IsNamed name bytes (open_stream None table rounds)
     → bytes ≡ open_stream name table rounds
 named_open None bytes table rounds is = is
@@ -33,7 +34,8 @@ named_open (Some name) bytes table rounds is = is.1 ∙ configured_is_written (S
 
 -- the round follows those sent before
 pub ends_round : (part : PartSoFar) (w : Writer) → w.table ≡ part.before.table
-    → ((pages : List Page) → HasPut part pages → (drained : List ℕ) (rounds : List (List Page)) → HasSentDrained drained part.before rounds → HasSentDrained drained w (rounds ++ pages ∷ []))
+    → ((pages : List Page) → HasPut part pages → (drained : List ℕ) (rounds : List (List Page))
+    → HasSentDrained drained part.before rounds → HasSentDrained drained w (rounds ++ pages ∷ []))
     → EndsRound 0 (Round part) (Idle w)
 ends_round part w same sends = record {
   is_named = refl;
@@ -65,11 +67,13 @@ refills_same s some =
 
 -- what the writer drains is what waits
 pub refills_idle : (old new : Sender) (w v : Writer) → old.state ≡ Idle w → new.state ≡ Idle v → length old.drained.items ≤ old.given → v.table ≡ w.table
-    → ((drained : List ℕ) (rounds : List (List Page)) → HasSentDrained drained w rounds → drained ++ waiting new ≡ written_so_far w.table (map RoundPart rounds))
+    → ((drained : List ℕ) (rounds : List (List Page)) → HasSentDrained drained w rounds
+    → drained ++ waiting new ≡ written_so_far w.table (map RoundPart rounds))
     → ((drained : List ℕ) (rounds : List (List Page)) → HasSentDrained drained w rounds → HasSentDrained (drained ++ waiting new) v rounds)
     → Refills old new
 refills_idle old new w v was is le same all drains =
-    let before : (table : RamTable) (plain : List ℕ) (rounds : List (List Page)) → HasSentRounds table plain rounds old.state → HasSentRounds table plain rounds (Idle w) =
+    let before : (table : RamTable) (plain : List ℕ) (rounds : List (List Page)) → HasSentRounds table plain rounds old.state
+    → HasSentRounds table plain rounds (Idle w) =
     λ table plain rounds sent. subst (λ (s : Sending). HasSentRounds table plain rounds s) was sent in
     let given_is : (name : Option (List ℕ)) (given plain : List ℕ) → IsNamed name (given ++ waiting old) plain → IsNamed name given plain =
     λ name given plain named. subst (λ (l : List ℕ). IsNamed name l plain) (none_waits given old le) named in
@@ -94,7 +98,8 @@ refills_idle old new w v was is le same all drains =
     }
 
 -- the rest of a stream that is ended waits, and nothing follows it
-rest_waits : (plain : List ℕ) (old new : Sender) (t v : Vec ℕ Global) → v.items ≡ [] → waiting new ≡ t.items → plain ++ t.items ≡ (plain ++ waiting new) ++ v.items
+rest_waits : (plain : List ℕ) (old new : Sender) (t v : Vec ℕ Global) → v.items ≡ [] → waiting new ≡ t.items
+    → plain ++ t.items ≡ (plain ++ waiting new) ++ v.items
 rest_waits plain old new t v none waits =
     ap (λ (l : List ℕ). plain ++ l) (sym waits) ∙ sym (append-nil (plain ++ waiting new)) ∙ ap (λ (l : List ℕ). (plain ++ waiting new) ++ l) (sym none)
 
@@ -102,12 +107,14 @@ rest_waits plain old new t v none waits =
 none_left : (plain : List ℕ) (new : Sender) (t : Vec ℕ Global) → waiting new ≡ t.items → waiting new ≡ [] → plain ≡ plain ++ t.items
 none_left plain new t waits none = sym (append-nil plain) ∙ ap (λ (l : List ℕ). plain ++ l) (sym none ∙ waits)
 
+-- if no byte of an ended sender waits, and then the rest of its stream does, it's refilled
 pub refills_over : (old new : Sender) (t v : Vec ℕ Global) → old.state ≡ Over t → new.state ≡ Over v → length old.drained.items ≤ old.given → v.items ≡ []
     → waiting new ≡ t.items → Refills old new
 refills_over old new t v was is le none waits =
     let given_is : (name : Option (List ℕ)) (given plain : List ℕ) → IsNamed name (given ++ waiting old) plain → IsNamed name given plain =
     λ name given plain named. subst (λ (l : List ℕ). IsNamed name l plain) (none_waits given old le) named in
-    let before : (table : RamTable) (plain : List ℕ) (rounds : List (List Page)) → HasSentRounds table plain rounds old.state → plain ++ t.items ≡ single table rounds =
+    let before : (table : RamTable) (plain : List ℕ) (rounds : List (List Page)) → HasSentRounds table plain rounds old.state
+    → plain ++ t.items ≡ single table rounds =
     λ table plain rounds sent. subst (λ (s : Sending). HasSentRounds table plain rounds s) was sent in
     record {
       keeps = λ table name given rounds sent. (
@@ -122,17 +129,21 @@ refills_over old new t v was is le none waits =
       ended = λ _. subst (λ (s : Sending). IsEnded s) (sym is) tt;
       left_open = λ e. absurd (subst (λ (s : Sending). IsLeftOpen s) was e);
       all = λ _ left table name given rounds sent.
-          named_whole name given table rounds (subst (λ (l : List ℕ). IsNamed name given l) (none_left sent.0 new t waits left ∙ before table sent.0 rounds sent.2)
+          named_whole name given table rounds (subst (λ (l : List ℕ). IsNamed name given l)
+          (none_left sent.0 new t waits left ∙ before table sent.0 rounds sent.2)
           (given_is name given sent.0 sent.1));
       all_open = λ e. absurd (subst (λ (s : Sending). IsLeftOpen s) was e);
     }
 
-pub refills_open : (old new : Sender) (t v : Vec ℕ Global) → old.state ≡ LeftOpen t → new.state ≡ LeftOpen v → length old.drained.items ≤ old.given → v.items ≡ []
+-- if no byte of a sender left open waits, and then the rest of its stream does, it's refilled
+pub refills_open : (old new : Sender) (t v : Vec ℕ Global) → old.state ≡ LeftOpen t → new.state ≡ LeftOpen v
+    → length old.drained.items ≤ old.given → v.items ≡ []
     → waiting new ≡ t.items → Refills old new
 refills_open old new t v was is le none waits =
     let given_is : (name : Option (List ℕ)) (given plain : List ℕ) → IsNamed name (given ++ waiting old) plain → IsNamed name given plain =
     λ name given plain named. subst (λ (l : List ℕ). IsNamed name l plain) (none_waits given old le) named in
-    let before : (table : RamTable) (plain : List ℕ) (rounds : List (List Page)) → HasSentRounds table plain rounds old.state → plain ++ t.items ≡ open_stream None table rounds =
+    let before : (table : RamTable) (plain : List ℕ) (rounds : List (List Page)) → HasSentRounds table plain rounds old.state
+    → plain ++ t.items ≡ open_stream None table rounds =
     λ table plain rounds sent. subst (λ (s : Sending). HasSentRounds table plain rounds s) was sent in
     record {
       keeps = λ table name given rounds sent. (
@@ -148,7 +159,8 @@ refills_open old new t v was is le none waits =
       left_open = λ _. subst (λ (s : Sending). IsLeftOpen s) (sym is) tt;
       all = λ e. absurd (subst (λ (s : Sending). IsEnded s) was e);
       all_open = λ _ left table name given rounds sent.
-          named_open name given table rounds (subst (λ (l : List ℕ). IsNamed name given l) (none_left sent.0 new t waits left ∙ before table sent.0 rounds sent.2)
+          named_open name given table rounds (subst (λ (l : List ℕ). IsNamed name given l)
+          (none_left sent.0 new t waits left ∙ before table sent.0 rounds sent.2)
           (given_is name given sent.0 sent.1));
     }
 
@@ -179,9 +191,11 @@ drains count out old mid new refills hands = record {
   fits = hands.fits;
   fills = hands.fills;
   hands = λ table name given rounds sent.
-      let kept : (plain : List ℕ) × IsNamed name (given ++ waiting mid) plain × HasSentRounds table plain rounds mid.state = refills.keeps table name given rounds sent in (
+      let kept : (plain : List ℕ) × IsNamed name (given ++ waiting mid) plain × HasSentRounds table plain rounds mid.state =
+      refills.keeps table name given rounds sent in (
         kept.0,
-        subst (λ (l : List ℕ). IsNamed name l kept.0) (ap (λ (l : List ℕ). given ++ l) (sym hands.has_front) ∙ sym (append_assoc given (take count out) (waiting new))) kept.1,
+        subst (λ (l : List ℕ). IsNamed name l kept.0)
+            (ap (λ (l : List ℕ). given ++ l) (sym hands.has_front) ∙ sym (append_assoc given (take count out) (waiting new))) kept.1,
         subst (λ (s : Sending). HasSentRounds table kept.0 rounds s) (sym hands.same_state) kept.2,
       );
   keeps_open = λ pages put. subst (λ (s : Sending). HasPutPages pages s) (sym hands.same_state) (refills.keeps_open pages put);

@@ -15,7 +15,7 @@ use Rattle.mig_send.specs.DealtRounds.{DealtRound, channel_text}
 use Rattle.mig_send.specs.MultiSending.{MultiSending, Drained, HasSentRounds, KeepsSetting, with_channel}
 use Rattle.mig_send.specs.ChannelWork.{ChannelWork, HasPacked, HasEnded, seats_of}
 use Rattle.mig_send.specs.MultiRound as round
-use Rattle.mig_send.specs.MultiRound.{OpenMulti, IsRoundSoFar, HasBegun, HandsOut, TakesBack, HasSentRound, dirty_of, handed_out, with_channels}
+use Rattle.mig_send.specs.MultiRound.{OpenMulti, IsRoundSoFar, HasBegun, TakesBack, HasSentRound, dirty_of, with_channels}
 use Rattle.mig_c_calls.specs.declared.waiting.Waiting.{Waiting}
 use Rattle.mig_c_calls.specs.declared.sending.HeldWorker.{HeldWorker}
 use Rattle.mig_c_calls.specs.Status.{IsOneOf, done, running, no_memory, bad_length}
@@ -46,6 +46,7 @@ still_of setting old new keeps is = record {
 
 -- ---- a round is begun
 
+-- a round begun on the dirty pages, after rounds that were sent, is open on these pages
 pub begins : (dirty : PlaceSet) (s : MultiSending) (r : OpenMulti) (setting : MultiSetting) (image : Image) (drained : Drained) (rounds : List DealtRound)
     → HasBegun dirty s r → IsSenderOf setting s → HasSentRounds drained s rounds → IsInRound setting image dirty.marked drained rounds r
 begins dirty s r setting image drained rounds begun is sent = record {
@@ -63,6 +64,7 @@ begins dirty s r setting image drained rounds begun is sent = record {
 
 -- ---- a worker is given out
 
+-- a round that gives out its next worker stays open, and the worker has packed nothing yet
 pub hands : (old new : OpenMulti) (w : HeldWorker) (setting : MultiSetting) (image : Image) (dirty : List Place) (drained : Drained) (rounds : List DealtRound)
     → GivesNext old new w → 0 < length old.seats → IsInRound setting image dirty drained rounds old
     → IsInRound setting image dirty drained rounds new × Packs image (channel_text setting.uuid rounds w.worker.channel) (drained.channel w.worker.channel) [] w
@@ -152,12 +154,17 @@ given_back : (at channel : ℕ) (more : List ℕ) (drained before : Drained) (in
     → (with_channel drained at more).channel channel ≡ before.channel channel ++ with_drained at more in_round channel
 given_back at channel more drained before in_round spents next own back lt =
     elim (cases_lt channel at) [
-      | inl lower ↦ given_earlier at channel more drained before in_round (λ same. absurd (omega (arith, lower, same))) (back channel (omega (arith, lower, next)))
-      | inr upper ↦ subst (λ (n : ℕ). (with_channel drained at more).channel n ≡ before.channel n ++ with_drained at more in_round n) (omega (arith, upper, lt, next))
+      | inl lower ↦ given_earlier at channel more drained before in_round (λ same. absurd (omega (arith, lower, same)))
+          (back channel (omega (arith, lower, next)))
+      | inr upper ↦ subst (λ (n : ℕ). (with_channel drained at more).channel n ≡ before.channel n
+          ++ with_drained at more in_round n) (omega (arith, upper, lt, next))
           (given_now at more drained before in_round own)
     ]
 
-pub takes : (old new : OpenMulti) (w : HeldWorker) (setting : MultiSetting) (image : Image) (dirty : List Place) (drained : Drained) (rounds : List DealtRound) (more : List ℕ)
+-- a round that takes back a worker stays open, with the bytes that were copied out of it drained of
+-- its channel
+pub takes : (old new : OpenMulti) (w : HeldWorker) (setting : MultiSetting) (image : Image) (dirty : List
+    Place) (drained : Drained) (rounds : List DealtRound) (more : List ℕ)
     → TakesBack w.worker old new → CanComeBack w old → IsInRound setting image dirty drained rounds old
     → Packs image (channel_text setting.uuid rounds w.worker.channel) (drained.channel w.worker.channel) more w
     → IsInRound setting image dirty (with_channel drained w.worker.channel more) rounds new
@@ -193,14 +200,18 @@ takes old new w setting image dirty drained rounds more back can is packs =
       is_dirty = ap (λ (t : Rattle.mig_send.specs.ChannelWork.RoundTerms). dirty_of t) back.same_terms ∙ is.is_dirty;
       has_come = back.has_come image drained' is.old (other_drained image at more is.in_round is.old old from is.has_come) packed;
       same_main = is.same_main;
-      back = λ channel within. given_back at channel more drained is.before is.in_round (length old.spents) can.is_next before is.back (omega (arith, within, longer));
+      back = λ channel within. given_back at channel more drained is.before is.in_round
+          (length old.spents) can.is_next before is.back (omega (arith, within, longer));
       others = λ channel after within.
-          cond-false (channel == at) (drained.channel channel ++ more) (drained.channel channel) (ne_eqb channel at (λ same. absurd (omega (arith, after, longer, can.is_next, same))))
+          cond-false (channel == at) (drained.channel channel ++ more) (drained.channel channel)
+          (ne_eqb channel at (λ same. absurd (omega (arith, after, longer, can.is_next, same))))
           ∙ is.others channel (omega (arith, after, longer)) within;
     }
 
 -- ---- a round is ended
 
+-- a round whose workers all came back, and is ended, is sent with the image and the dirty pages it
+-- was open on
 pub ends : (r : OpenMulti) (s : MultiSending) (setting : MultiSetting) (image : Image) (dirty : List Place) (drained : Drained) (rounds : List DealtRound)
     → round.EndsRound r s → length r.spents ≡ length r.sender.channels → IsImage image → image.table ≡ setting.table
     → IsInRound setting image dirty drained rounds r
@@ -249,12 +260,14 @@ worker_refills image sent given more bytes old new none waits packed packs = rec
   has_packed =
       subst (λ (l : List ℕ). HasPacked image packs.own ((more ++ l) ++ new.worker.text) new.worker) (sym waits)
       (packed image packs.own more
-      (subst (λ (l : List ℕ). HasPacked image packs.own (l ++ old.worker.text) old.worker) (ap (λ (l : List ℕ). more ++ l) none ∙ append-nil more) packs.has_packed));
+      (subst (λ (l : List ℕ). HasPacked image packs.own (l ++ old.worker.text) old.worker)
+      (ap (λ (l : List ℕ). more ++ l) none ∙ append-nil more) packs.has_packed));
 }
 
 -- it steps
 pub worker_steps : (image : Image) (sent given more : List ℕ) (old new : HeldWorker) → new.drained ≡ old.drained
-    → ((before drained : List ℕ) → HasPacked image before (drained ++ old.worker.text) old.worker → HasPacked image before (drained ++ new.worker.text) new.worker)
+    → ((before drained : List ℕ) → HasPacked image before (drained ++ old.worker.text) old.worker
+    → HasPacked image before (drained ++ new.worker.text) new.worker)
     → Packs image sent given more old → Packs image sent given more new
 worker_steps image sent given more old new same packed packs = record {
   own = packs.own;
@@ -270,6 +283,7 @@ nothing_left count out left waiting zero front none = ap (λ (n : ℕ). take n o
 
 -- ---- statuses
 
+-- a result that is an error isn't Ok
 pub err_not_ok : {R E : Type 0} (r : Result R E) (e : E) → r ≡ Err e → IsOk r → ⊥
 err_not_ok {R} {E} r e is ok = absurd (let other = ap (λ (x : Result R E). is_ok x) is in cc)
 
@@ -283,5 +297,7 @@ or_more false false false e is = absurd cc
 pub step_named : (status : ℕ) → IsOneOf (done ∷ running ∷ no_memory ∷ []) status → IsOneOf (done ∷ running ∷ no_memory ∷ bad_length ∷ []) status
 step_named status is = or_more (done == status) (running == status) (no_memory == status) (bad_length == status) is
 
+-- done, running or no_memory isn't bad_length
 pub step_fits : (status : ℕ) → IsOneOf (done ∷ running ∷ no_memory ∷ []) status → status ≢ bad_length
-step_fits status is same = absurd (let other : IsOneOf (done ∷ running ∷ no_memory ∷ []) bad_length = subst (λ (n : ℕ). IsOneOf (done ∷ running ∷ no_memory ∷ []) n) same is in cc)
+step_fits status is same = absurd (let other : IsOneOf (done ∷ running ∷ no_memory ∷ []) bad_length =
+    subst (λ (n : ℕ). IsOneOf (done ∷ running ∷ no_memory ∷ []) n) same is in cc)

@@ -26,4 +26,4 @@ pub use sending::{
     DealtRound, EndedStreams, HeldWorker, Multi, MultiState, NamedBatch, NamedPlace,
 };
 pub use text::{StatusText, VERSION, text_of};
-pub use waiting::{Waiting, behind, copy_front};
+pub use waiting::{Waiting, copy_front, undrained};

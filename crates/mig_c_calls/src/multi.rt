@@ -13,7 +13,7 @@ ghost use Rattle.mig_c_calls.specs.Multi.{MultiSetting, Starts, place_of, set_of
 
 use crate::sending::{DealtRound, EndedStreams, HeldWorker, Multi, MultiState, NamedPlace};
 use crate::status::{BAD_LENGTH, DONE, NO_MEMORY, NO_PAGE, OUT_OF_TURN};
-use crate::waiting::{Waiting, behind, copy_front};
+use crate::waiting::{Waiting, copy_front, undrained};
 use mig_mem::{Dirty, NoMemory, Place, Table};
 use mig_send::{MultiRound, MultiSender, Sent};
 use std::alloc::Global;
@@ -362,7 +362,7 @@ fn drain_ended(streams: &mut EndedStreams, channel: usize, out: &mut [u8]) -> us
         return 0;
     }
     let given = streams.given[channel];
-    let count = copy_front(behind(&streams.sent.channels[channel], given), out);
+    let count = copy_front(undrained(&streams.sent.channels[channel], given), out);
     streams.given[channel] = given + count;
     count
 }

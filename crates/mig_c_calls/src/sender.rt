@@ -6,7 +6,7 @@ ghost use Rattle.mig_stream.specs.Format.{most_name_bytes};
 ghost use Rattle.mig_c_calls.specs.Sending.{Starts, Begins, Puts, EndsRound, Cancels, Finishes, FinishesOpen, Changes, Adds, Drains, Refills, Hands, Peeks, Counts, Skips};
 
 use crate::status::{BAD_LENGTH, DONE, NO_MEMORY, NO_PAGE, OUT_OF_TURN};
-use crate::waiting::{behind, copy_front};
+use crate::waiting::{copy_front, undrained};
 use mig_mem::{NoMemory, Place, Table};
 use mig_send::{OpenRound, SingleSender};
 use std::alloc::Global;
@@ -169,7 +169,7 @@ fn refill(sender: &mut Sender)
 fn hand_out(sender: &mut Sender, out: &mut [u8]) -> usize
     ensures { Hands result out.new sender.old sender.new }
 {
-    let count = copy_front(behind(&sender.drained, sender.given), out);
+    let count = copy_front(undrained(&sender.drained, sender.given), out);
     sender.given += count;
     count
 }
@@ -187,14 +187,14 @@ fn peek_sender(sender: &mut Sender, out: &mut [u8]) -> usize
     ensures { Peeks result out.new sender.old sender.new }
 {
     refill(sender);
-    copy_front(behind(&sender.drained, sender.given), out)
+    copy_front(undrained(&sender.drained, sender.given), out)
 }
 
 // Counts the first bytes that wait as copied out.
 fn skip_sender(sender: &mut Sender, len: usize) -> usize
     ensures { Skips len result sender.old sender.new }
 {
-    let skipped = behind(&sender.drained, sender.given).len().min(len);
+    let skipped = undrained(&sender.drained, sender.given).len().min(len);
     sender.given += skipped;
     skipped
 }
@@ -204,7 +204,7 @@ fn count_waiting(sender: &mut Sender) -> usize
     ensures { Counts result sender.old sender.new }
 {
     refill(sender);
-    behind(&sender.drained, sender.given).len()
+    undrained(&sender.drained, sender.given).len()
 }
 
 impl Sender {

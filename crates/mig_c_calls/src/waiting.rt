@@ -6,7 +6,7 @@ ghost use Rattle.mig_c_calls.specs.Multi.{HandsOutOf, waiting_in};
 use std::alloc::Global;
 
 /// Returns the bytes after the first `given`.
-pub fn behind(drained: &[u8], given: usize) -> &[u8]
+pub fn undrained(drained: &[u8], given: usize) -> &[u8]
     ensures { result.now ≡ drop given drained.now }
 {
     match drained.get(given..) {
@@ -59,7 +59,7 @@ impl Waiting {
     pub(crate) fn hand_out(&mut self, out: &mut [u8]) -> usize
         ensures { HandsOutOf result out.new self.old self.new }
     {
-        let count = copy_front(behind(&self.bytes, self.given), out);
+        let count = copy_front(undrained(&self.bytes, self.given), out);
         self.given += count;
         count
     }

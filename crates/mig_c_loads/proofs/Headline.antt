@@ -34,14 +34,18 @@ use Rattle.mig_c_loads.specs.Headline.{DrainedIsLoaded, DrainedMachineStreamIsLo
 
 -- ---- one stream
 
+-- all bytes of an ended sender, fed to a load into blocks of the same table, leave its rounds on
+-- top of what the blocks held, and C sees DONE
 pub one_law : DrainedIsLoaded
 one_law = λ table rounds given is_table are whole before after load ended found fit loads tells.
     let settings : LoadSettings = settings_into table Ram None in
     let first : Image = lent_image table before in
     let memory : Image = lent_image table after in
     let told = tells.loads memory settings first given ended loads in
-    let records : HasRecordsOnto settings first (single table rounds) memory load.rounds = subst (λ (text : List ℕ). HasRecordsOnto settings first text memory load.rounds) whole loads.stands.has_records in
-    let verdict : HasVerdictOnto settings first (single table rounds) told.0 = subst (λ (text : List ℕ). HasVerdictOnto settings first text told.0) whole told.1 in
+    let records : HasRecordsOnto settings first (single table rounds) memory load.rounds =
+    subst (λ (text : List ℕ). HasRecordsOnto settings first text memory load.rounds) whole loads.stands.has_records in
+    let verdict : HasVerdictOnto settings first (single table rounds) told.0 =
+    subst (λ (text : List ℕ). HasVerdictOnto settings first text told.0) whole told.1 in
     let law = sent_in_place (2 ^ 40) first rounds memory load.rounds told.0 is_table (lent_is_image table before fit) is_table.has_room are records verdict in
     (told.2 ∙ ap (seen_so_far ended) law.2, law.1, law.0)
 
@@ -58,12 +62,16 @@ short_name (Some name) short = elim (cases_lt most_name_bytes (length name)) [
 stream_goes_on : (left_open : Bool) (name : Option (List ℕ)) (table : RamTable) (rounds : List (List Page)) (behind : List ℕ)
     → (rest : List ℕ) × (ended_stream left_open name table rounds ++ behind ≡ machine_written name table (map RoundPart rounds) ++ rest)
 stream_goes_on true name table rounds behind = (behind, refl)
-stream_goes_on false (Some name) table rounds behind = (end_byte ∷ behind, append_assoc (machine_written (Some name) table (map RoundPart rounds)) (end_byte ∷ []) behind)
+stream_goes_on false (Some name) table rounds behind =
+    (end_byte ∷ behind, append_assoc (machine_written (Some name) table (map RoundPart rounds)) (end_byte ∷ []) behind)
 stream_goes_on false None table rounds behind = (
   end_byte ∷ behind,
-  ap (λ (l : List ℕ). l ++ behind) (sym (written_is_closed table (map RoundPart rounds))) ∙ append_assoc (machine_written None table (map RoundPart rounds)) (end_byte ∷ []) behind,
+  ap (λ (l : List ℕ). l ++ behind) (sym (written_is_closed table (map RoundPart rounds)))
+      ∙ append_assoc (machine_written None table (map RoundPart rounds)) (end_byte ∷ []) behind,
 )
 
+-- all bytes of a sender with a machine's name, or left open, whatever follows them, leave its
+-- rounds on top of what the blocks held, and C sees DONE
 pub machine_stream_law : DrainedMachineStreamIsLoaded
 machine_stream_law = λ table name left_open rounds given behind is_table are short whole before after load ended found fit loads tells.
     let settings : LoadSettings = settings_into table Machine None in
@@ -80,7 +88,8 @@ machine_stream_law = λ table name left_open rounds given behind is_table are sh
       behind = on.0;
       is_text = ap (λ (l : List ℕ). l ++ behind) whole ∙ on.1;
     } in
-    let law = machine_in_place settings first rounds (given ++ behind) memory load.rounds told.0 (lent_is_image table before fit) refl tt sent loads.stands.has_records told.1 in
+    let law = machine_in_place settings first rounds (given ++ behind) memory load.rounds told.0
+    (lent_is_image table before fit) refl tt sent loads.stands.has_records told.1 in
     (told.2 ∙ ap (seen_so_far ended) law.2, law.1, law.0)
 
 -- ---- the streams of a sender on several channels
@@ -92,42 +101,56 @@ same_map f g a (suc n) same =
     ∙ ap (λ (ys : List (List ℕ)). g a ∷ ys) (same_map f g (a + 1) n (λ i below. same i (omega (arith, below))))
 
 -- a sender that was ended has sent its rounds, whether its main stream was left open or not
-ended_sending : (left_open : Bool) (table : RamTable) (uuid : List ℕ) (limit channels : ℕ) (rounds : List DealtRound) (main_text : List ℕ) (texts outs : List (List ℕ))
-    → AreEnded left_open table uuid limit channels rounds main_text texts → outs ≡ channel_texts uuid channels rounds → IsSending table uuid limit channels rounds (main table (length rounds)) outs
+ended_sending : (left_open : Bool) (table : RamTable) (uuid : List ℕ)
+    (limit channels : ℕ) (rounds : List DealtRound) (main_text : List ℕ) (texts outs : List (List ℕ))
+    → AreEnded left_open table uuid limit channels rounds main_text texts → outs ≡ channel_texts uuid channels rounds
+    → IsSending table uuid limit channels rounds (main table (length rounds)) outs
 ended_sending false table uuid limit channels rounds main_text texts outs is same =
     record { is_set = is.is_set; are_dealt = is.are_dealt; are_numbered = is.are_numbered; numbers_fit = is.numbers_fit; has_main = refl; has_texts = same }
 ended_sending true table uuid limit channels rounds main_text texts outs is same =
     let s = is.is_sending in
     record { is_set = s.is_set; are_dealt = s.are_dealt; are_numbered = s.are_numbered; numbers_fit = s.numbers_fit; has_main = refl; has_texts = same }
 
-over_sending : (setting : MultiSetting) (drained : Drained) (rounds : List DealtRound) (state : MultiState) (outs : List (List ℕ)) → IsOver state → SendsTo setting drained rounds state
-    → outs ≡ channel_texts setting.uuid setting.channels rounds → IsSending setting.table setting.uuid setting.limit setting.channels rounds (main setting.table (length rounds)) outs
+over_sending : (setting : MultiSetting) (drained : Drained) (rounds : List DealtRound) (state : MultiState) (outs : List (List ℕ))
+    → IsOver state → SendsTo setting drained rounds state
+    → outs ≡ channel_texts setting.uuid setting.channels rounds
+    → IsSending setting.table setting.uuid setting.limit setting.channels rounds (main setting.table (length rounds)) outs
 over_sending setting drained rounds (Idle s) outs over sends same = absurd over
 over_sending setting drained rounds (Round r) outs over sends same = absurd over
-over_sending setting drained rounds (Over e) outs over sends same = ended_sending e.left_open setting.table setting.uuid setting.limit setting.channels rounds (drained.main ++ e.sent.main.items) (all_channels setting.channels drained e) outs sends.1 same
+over_sending setting drained rounds (Over e) outs over sends same =
+    ended_sending e.left_open setting.table setting.uuid setting.limit setting.channels rounds (drained.main ++ e.sent.main.items)
+    (all_channels setting.channels drained e) outs sends.1 same
 
 -- as many streams as there are channels
-counted : (setting : MultiSetting) (rounds : List DealtRound) (main_text : List ℕ) (given : Drained) → IsSending setting.table setting.uuid setting.limit setting.channels rounds main_text (channels_out setting.channels given)
+counted : (setting : MultiSetting) (rounds : List DealtRound) (main_text : List ℕ) (given : Drained)
+    → IsSending setting.table setting.uuid setting.limit setting.channels rounds main_text (channels_out setting.channels given)
     → IsSending setting.table setting.uuid setting.limit (length (channels_out setting.channels given)) rounds main_text (channels_out setting.channels given)
 counted setting rounds main_text given sending =
-    subst (λ (n : ℕ). IsSending setting.table setting.uuid setting.limit n rounds main_text (channels_out setting.channels given)) (sym (length-map-range_with_len given.channel 0 setting.channels)) sending
+    subst (λ (n : ℕ). IsSending setting.table setting.uuid setting.limit n rounds main_text (channels_out setting.channels given))
+    (sym (length-map-range_with_len given.channel 0 setting.channels)) sending
 
+-- all bytes of an ended sender on several channels, taken by a load into blocks of the same
+-- table, leave its rounds on top of what the blocks held, and the load is done
 pub channels_law : DrainedChannelsAreLoaded
 channels_law = λ setting given rounds sender all unnamed closed before after load ended fit fit_after stands.
     let table : RamTable = setting.table in
     let outs : List (List ℕ) = channels_out setting.channels given in
-    let texts : outs ≡ channel_texts setting.uuid setting.channels rounds = same_map given.channel (channel_text setting.uuid rounds) 0 setting.channels (λ i below. all.all_of_channels i (omega (arith, below))) in
+    let texts : outs ≡ channel_texts setting.uuid setting.channels rounds =
+    same_map given.channel (channel_text setting.uuid rounds) 0 setting.channels (λ i below. all.all_of_channels i (omega (arith, below))) in
     let sending = over_sending setting (with_plain given all.sends.0) rounds sender.state outs all.is_over all.sends.2 texts in
     let main_is : given.main ≡ main table (length rounds) =
-    all.all_of_main ∙ ap (λ (b : Bool). ended_main b setting.name table (length rounds)) closed ∙ ap (λ (o : Option (List ℕ)). ended_main false o table (length rounds)) unnamed in
+    all.all_of_main ∙ ap (λ (b : Bool). ended_main b setting.name table (length rounds)) closed
+    ∙ ap (λ (o : Option (List ℕ)). ended_main false o table (length rounds)) unnamed in
     let sent : IsSentInAnyOrder table setting.uuid rounds given.main outs = record {
       batch_limit = setting.limit;
       in_order = outs;
-      is_sending = subst (λ (text : List ℕ). IsSending table setting.uuid setting.limit (length outs) rounds text outs) (sym main_is) (counted setting rounds (main table (length rounds)) given sending);
+      is_sending = subst (λ (text : List ℕ). IsSending table setting.uuid setting.limit (length outs) rounds text outs)
+          (sym main_is) (counted setting rounds (main table (length rounds)) given sending);
       is_permutation = IsPermutation-refl outs;
     } in
     let is_table : IsTable table = sending.is_set.has_table in
-    let law = sent_law setting.uuid (2 ^ 40) (lent_image table before) rounds given.main ended outs (lent_image table after) load.rounds load.verdict is_table (lent_is_image table before fit)
+    let law = sent_law setting.uuid (2 ^ 40) (lent_image table before) rounds given.main ended outs
+    (lent_image table after) load.rounds load.verdict is_table (lent_is_image table before fit)
     (lent_is_image table after fit_after) sent is_table.has_room stands.is_answer in
     ((ap (λ (v : Verdict). seen_of_verdict load.rounds v) law.0, law.1), law.2)
 
@@ -140,15 +163,19 @@ goes_on true name table n behind = (behind, refl)
 goes_on false (Some name) table n behind = (end_byte ∷ behind, append_assoc (machine_written (Some name) table (replicate n FlushPart)) (end_byte ∷ []) behind)
 goes_on false None table n behind = (
   end_byte ∷ behind,
-  ap (λ (l : List ℕ). l ++ behind) (sym (written_is_closed table (replicate n FlushPart))) ∙ append_assoc (machine_written None table (replicate n FlushPart)) (end_byte ∷ []) behind,
+  ap (λ (l : List ℕ). l ++ behind) (sym (written_is_closed table (replicate n FlushPart)))
+      ∙ append_assoc (machine_written None table (replicate n FlushPart)) (end_byte ∷ []) behind,
 )
 
+-- all bytes of a sender on channels with a machine's name, or left open, whatever follows in the
+-- main stream, leave its rounds on top of what the blocks held, and the load is done
 pub machine_law : DrainedMachineIsLoaded
 machine_law = λ setting given rounds sender all short behind before after load ended fit fit_after stands.
     let table : RamTable = setting.table in
     let n : ℕ = length rounds in
     let outs : List (List ℕ) = channels_out setting.channels given in
-    let texts : outs ≡ channel_texts setting.uuid setting.channels rounds = same_map given.channel (channel_text setting.uuid rounds) 0 setting.channels (λ i below. all.all_of_channels i (omega (arith, below))) in
+    let texts : outs ≡ channel_texts setting.uuid setting.channels rounds =
+    same_map given.channel (channel_text setting.uuid rounds) 0 setting.channels (λ i below. all.all_of_channels i (omega (arith, below))) in
     let sending = over_sending setting (with_plain given all.sends.0) rounds sender.state outs all.is_over all.sends.2 texts in
     let on = goes_on (is_left_open sender.state) setting.name table n behind in
     let sent : IsMachineSentInAnyOrder table setting.uuid rounds (given.main ++ behind) outs = record {
@@ -163,6 +190,7 @@ machine_law = λ setting given rounds sender all short behind before after load 
       is_permutation = IsPermutation-refl outs;
     } in
     let is_table : IsTable table = sending.is_set.has_table in
-    let law = machine_sent_law (settings_into table Machine None) setting.uuid (lent_image table before) rounds (given.main ++ behind) ended outs (lent_image table after) load.rounds load.verdict is_table
+    let law = machine_sent_law (settings_into table Machine None) setting.uuid (lent_image table before) rounds
+    (given.main ++ behind) ended outs (lent_image table after) load.rounds load.verdict is_table
     (lent_is_image table before fit) (lent_is_image table after fit_after) refl (none_lets (length outs) rounds) refl sent is_table.has_room stands.is_answer in
     ((ap (λ (v : Verdict). seen_of_verdict load.rounds v) law.0, law.1), law.2)

@@ -1,12 +1,11 @@
 -- Pages of zeros are left out of what C sees, one after another.
-use Rattle.std.proofs.Common.{ℕ, zero, suc, ◌≡◌, ◌+◌, ◌<◌, ◌≤◌, Bool, true, false, cond, List, [], ◌∷◌, ◌++◌, length, map, set, get_or, refl, sym, ap, subst, ◌∙◌, arith}
+use Rattle.std.proofs.Common.{ℕ, zero, suc, ◌≡◌, ◌+◌, ◌<◌, ◌≤◌, Bool, true, false, cond, List, [], ◌∷◌, ◌++◌, length, map, set, get_or, refl, sym, ap, ◌∙◌, arith}
 use Rattle.std.specs.List.{filter, range_with_len}
 use Rattle.std.proofs.lemmas.List.{append-nil, get_or-set_same, get_or-set_other, length-set}
 use Rattle.std.proofs.lemmas.List.FromFn.{map-range_with_len_more, filter_of_map_range_with_len_more}
 use Rattle.mig_mem.specs.Place.{has_place, place_at}
 use Rattle.mig_mem.specs.PlaceSet.{PlaceSet}
 use Rattle.mig_c_loads.specs.declared.claimed_pages.ClaimedPages.{ClaimedPages}
-use Rattle.mig_c_loads.specs.Filling.{LeavesOut}
 
 -- some numbers of a list, from the nth on
 abbrev pub numbers : List ℕ → ℕ → ℕ → List ℕ
@@ -32,20 +31,11 @@ pub record HasLeft (filled : PlaceSet) (b : ℕ) (first all now : ClaimedPages) 
   pub normals : (k : ℕ) → k < all.normal → get_or now.pages k 0 ≡ get_or all.pages k 0
   pub zeros : numbers now.pages all.normal left ≡ filter (holds_more filled b) (numbers all.pages all.normal i)
 
-pub left_none : (filled : PlaceSet) (b : ℕ) (first : ClaimedPages) → HasLeft filled b first first first 0 0
-left_none filled b first = record {
-  same = refl;
-  few = omega arith;
-  same_length = refl;
-  same_block = refl;
-  same_normal = refl;
-  normals = λ k below. refl;
-  zeros = refl;
-}
-
 -- the next page of zeros holds something else
-pub left_more : (filled : PlaceSet) (b : ℕ) (first all now : ClaimedPages) (left i page at : ℕ) → HasLeft filled b first all now left i → page ≡ get_or all.pages (all.normal + i) 0
-    → at ≡ all.normal + left → at < length all.pages → holds_more filled b page ≡ true → HasLeft filled b first all (record now { pages = set now.pages at page }) (left + 1) (i + 1)
+pub left_more : (filled : PlaceSet) (b : ℕ) (first all now : ClaimedPages) (left i page at : ℕ)
+    → HasLeft filled b first all now left i → page ≡ get_or all.pages (all.normal + i) 0
+    → at ≡ all.normal + left → at < length all.pages → holds_more filled b page ≡ true
+    → HasLeft filled b first all (record now { pages = set now.pages at page }) (left + 1) (i + 1)
 left_more filled b first all now left i page at h is at_is room holds =
     let few = h.few in
     let n : ℕ = all.normal in
@@ -53,7 +43,8 @@ left_more filled b first all now left i page at h is at_is room holds =
     let before : numbers pages n left ≡ numbers now.pages n left =
     same_map (λ k. get_or pages (n + k) 0) (λ k. get_or now.pages (n + k) 0) 0 left (λ k below.
     get_or-set_other now.pages at (n + k) page 0 (λ e. absurd (omega (arith, below, at_is, e)))) in
-    let here : get_or pages (n + left) 0 ≡ page = ap (λ (j : ℕ). get_or pages j 0) (sym at_is) ∙ get_or-set_same now.pages at page 0 (let e = h.same_length in omega (arith, room, e)) in
+    let here : get_or pages (n + left) 0 ≡ page = ap (λ (j : ℕ). get_or pages j 0) (sym at_is)
+    ∙ get_or-set_same now.pages at page 0 (let e = h.same_length in omega (arith, room, e)) in
     let passes : holds_more filled b (get_or all.pages (n + i) 0) ≡ true = ap (λ (j : ℕ). holds_more filled b j) (sym is) ∙ holds in
     record {
       same = h.same;
@@ -71,7 +62,8 @@ left_more filled b first all now left i page at h is at_is room holds =
     }
 
 -- it doesn't
-pub left_as_it_is : (filled : PlaceSet) (b : ℕ) (first all now : ClaimedPages) (left i page : ℕ) → HasLeft filled b first all now left i → page ≡ get_or all.pages (all.normal + i) 0
+pub left_as_it_is : (filled : PlaceSet) (b : ℕ) (first all now : ClaimedPages) (left i page : ℕ)
+    → HasLeft filled b first all now left i → page ≡ get_or all.pages (all.normal + i) 0
     → holds_more filled b page ≡ false → HasLeft filled b first all now left (i + 1)
 left_as_it_is filled b first all now left i page h is none =
     let few = h.few in
@@ -89,13 +81,3 @@ left_as_it_is filled b first all now left i page h is none =
           ∙ ap (λ (x : Bool). filter (holds_more filled b) (numbers all.pages n i) ++ cond x (get_or all.pages (n + i) 0 ∷ []) []) (sym fails)
           ∙ sym (filter_of_map_range_with_len_more (holds_more filled b) (λ k. get_or all.pages (n + k) 0) 0 i i (omega arith));
     }
-
-pub left_all : (filled : PlaceSet) (b : ℕ) (first all now : ClaimedPages) (left i : ℕ) → HasLeft filled b first all now left i → i ≡ all.zero → LeavesOut filled b first (record now { zero = left })
-left_all filled b first all now left i h all_of =
-    let leaves : LeavesOut filled b all (record now { zero = left }) = record {
-      same_block = h.same_block;
-      same_normal = h.same_normal;
-      normals = h.normals;
-      zeros = ap (λ (n : ℕ). numbers now.pages n left) h.same_normal ∙ h.zeros ∙ ap (λ (n : ℕ). filter (holds_more filled b) (numbers all.pages all.normal n)) all_of;
-    } in
-    subst (λ (c : ClaimedPages). LeavesOut filled b c (record now { zero = left })) h.same leaves

@@ -15,7 +15,8 @@ use Rattle.mig_c_loads.proofs.HeldBlocks.{content_changes}
 pub block_written : (table : RamTable) (loans : List (MutBor (List ℕ))) (p : Place) (old new : MutBor (List ℕ)) (size : ℕ) (content : List ℕ)
     → FitTable table (mut_lent_bytes loans) → IsPlace table p → size ≡ table.page_size → old ≡ get_or loans p.block old → length content ≡ table.page_size
     → new.now ≡ with_content size old.now p.page content
-    → FitTable table (mut_lent_bytes (set loans p.block new)) × (with_page (lent_image table (mut_lent_bytes loans)) p content ≡ lent_image table (mut_lent_bytes (set loans p.block new)))
+    → FitTable table (mut_lent_bytes (set loans p.block new))
+    × (with_page (lent_image table (mut_lent_bytes loans)) p content ≡ lent_image table (mut_lent_bytes (set loans p.block new)))
 block_written table loans p old new size content fit is same there len written =
     let bytes : MutBor (List ℕ) → List ℕ = λ b. b.now in
     let here : (get_or loans p.block old).now ≡ old.now = ap bytes (sym there) in
@@ -24,5 +25,6 @@ block_written table loans p old new size content fit is same there len written =
     let becomes : new.now ≡ with_content table.page_size old.now p.page content = written ∙ ap (λ (n : ℕ). with_content n old.now p.page content) same in
     let changes : ChangesPart table.page_size (get_or loans p.block old).now new.now p.page content =
     subst (λ (l : List ℕ). ChangesPart table.page_size l new.now p.page content) (sym here)
-    (subst (λ (l : List ℕ). ChangesPart table.page_size old.now l p.page content) (sym becomes) (content_changes table.page_size p.page old.now content room len)) in
+    (subst (λ (l : List ℕ). ChangesPart table.page_size old.now l p.page content) (sym becomes)
+    (content_changes table.page_size p.page old.now content room len)) in
     loan_written bytes table loans p old new content fit is changes

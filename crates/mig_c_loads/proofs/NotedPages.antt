@@ -31,7 +31,8 @@ use Rattle.mig_c_loads.specs.Filling.{FillsPacket, FillsPages, PagesReadAreNoted
 -- ---- the set is of the table of the blocks
 
 -- at first
-pub noted_at_first : (zeros : Bool) (table other : RamTable) (filled : Option PlaceSet) → filled ≡ filled_at_first zeros table → table ≡ other → IfSome filled (λ f. f.table ≡ other)
+pub noted_at_first : (zeros : Bool) (table other : RamTable) (filled : Option PlaceSet) → filled ≡ filled_at_first zeros table
+    → table ≡ other → IfSome filled (λ f. f.table ≡ other)
 noted_at_first zeros table other filled is same = rw is (at_first zeros)
   where
     at_first : (z : Bool) → IfSome (filled_at_first z table) (λ f. f.table ≡ other)
@@ -39,7 +40,8 @@ noted_at_first zeros table other filled is same = rw is (at_first zeros)
     at_first false = tt
 
 -- and after a packet
-pub noted_after : (table : RamTable) (b : ℕ) (head : List ℕ) (old new : Option PlaceSet) → IfSome old (λ f. f.table ≡ table) → FillsPacket table b head old new → IfSome new (λ f. f.table ≡ table)
+pub noted_after : (table : RamTable) (b : ℕ) (head : List ℕ) (old new : Option PlaceSet) → IfSome old (λ f. f.table ≡ table)
+    → FillsPacket table b head old new → IfSome new (λ f. f.table ≡ table)
 noted_after table b head None None same fills = tt
 noted_after table b head None (Some g) same fills = absurd cc
 noted_after table b head (Some f) None same fills = absurd fills
@@ -67,12 +69,14 @@ none_each f (suc n) a p each =
 all_ranged : (P : Page → Type 0) (f : ℕ → Page) (n a : ℕ) → ((i : ℕ) → a ≤ i → i < a + n → P (f i)) → All P (map f (range_with_len a n))
 all_ranged P f zero a each = All-nil P
 all_ranged P f (suc n) a each =
-    All-cons P (f a) (map f (range_with_len (a + 1) n)) (each a (omega arith) (omega arith)) (all_ranged P f n (a + 1) (λ i low high. each i (omega (arith, low)) (omega (arith, high))))
+    All-cons P (f a) (map f (range_with_len (a + 1) n)) (each a (omega arith) (omega arith))
+    (all_ranged P f n (a + 1) (λ i low high. each i (omega (arith, low)) (omega (arith, high))))
 
 -- ---- a place whose pages are all zeros
 
 -- the last of them, or what was there before
-last_is : (p : Place) (z : List ℕ) (pages : List Page) (before : List ℕ) → All (λ x. place_eq x.place p ≡ true → x.content ≡ z) pages → (has_place (places_of pages) p ≡ false → before ≡ z)
+last_is : (p : Place) (z : List ℕ) (pages : List Page) (before : List ℕ)
+    → All (λ x. place_eq x.place p ≡ true → x.content ≡ z) pages → (has_place (places_of pages) p ≡ false → before ≡ z)
     → option_map_or (λ (x : Page). x.content) (last_at p pages) before ≡ z
 last_is p z [] before all none = ap (λ (o : Option Page). option_map_or (λ (x : Page). x.content) o before) (last_at-nil p) ∙ none refl
 last_is p z (x ∷ pages) before all none =
@@ -80,15 +84,18 @@ last_is p z (x ∷ pages) before all none =
     let rest : All P pages = All-tail P x pages all in
     elim (cases_Bool (place_eq x.place p)) [
       | inl here ↦
-          ap (λ (o : Option Page). option_map_or (λ (y : Page). y.content) o before) (last_at-cons p x pages ∙ ap (λ (b : Bool). option_or (last_at p pages) (cond b (Some x) None)) here)
+          ap (λ (o : Option Page). option_map_or (λ (y : Page). y.content) o before)
+          (last_at-cons p x pages ∙ ap (λ (b : Bool). option_or (last_at p pages) (cond b (Some x) None)) here)
           ∙ given_first (last_at p pages)
           ∙ last_is p z pages x.content rest (λ _. All-head P x pages all here)
       | inr other ↦
-          ap (λ (o : Option Page). option_map_or (λ (y : Page). y.content) o before) (last_at-cons p x pages ∙ ap (λ (b : Bool). option_or (last_at p pages) (cond b (Some x) None)) other ∙ or_none (last_at p pages))
+          ap (λ (o : Option Page). option_map_or (λ (y : Page). y.content) o before)
+          (last_at-cons p x pages ∙ ap (λ (b : Bool). option_or (last_at p pages) (cond b (Some x) None)) other ∙ or_none (last_at p pages))
           ∙ last_is p z pages before rest (λ lacks. none (ap (λ (b : Bool). b || has_place (places_of pages) p) other ∙ lacks))
     ]
   where
-    given_first : (o : Option Page) → option_map_or (λ (y : Page). y.content) (option_or o (Some x)) before ≡ option_map_or (λ (y : Page). y.content) o x.content
+    given_first : (o : Option Page) → option_map_or (λ (y : Page). y.content) (option_or o (Some x)) before ≡ option_map_or
+        (λ (y : Page). y.content) o x.content
     given_first None = refl
     given_first (Some y) = refl
 
@@ -98,8 +105,10 @@ last_is p z (x ∷ pages) before all none =
 
 -- ---- the law
 
-module _ (memory : Image) (head : List ℕ) (contents : List (List ℕ)) (b : ℕ) (old new : PlaceSet) (lie : LieIn memory.table b head) (many : length contents ≡ normal_count head)
-    (are : AreZeros memory old) (fills : FillsPages memory.table b head old new) (p : Place) (is : IsPlace memory.table p) (unmarked : has_place new.marked p ≡ false) where
+module _ (memory : Image) (head : List ℕ) (contents : List (List ℕ)) (b : ℕ)
+    (old new : PlaceSet) (lie : LieIn memory.table b head) (many : length contents ≡ normal_count head)
+    (are : AreZeros memory old) (fills : FillsPages memory.table b head old new) (p : Place) (is : IsPlace memory.table
+    p) (unmarked : has_place new.marked p ≡ false) where
   abbrev table : RamTable
   table = memory.table
 
@@ -119,33 +128,39 @@ module _ (memory : Image) (head : List ℕ) (contents : List (List ℕ)) (b : �
   block = block_is table b head lie
 
   parts : (has_place (normal_places table b head) p ≡ false) × ((has_place old.marked p && not (has_place (zero_places table b head) p)) ≡ false)
-  parts = or_parts (has_place (normal_places table b head) p) (has_place old.marked p && not (has_place (zero_places table b head) p)) (sym (fills p is) ∙ unmarked)
+  parts = or_parts (has_place (normal_places table b head) p)
+      (has_place old.marked p && not (has_place (zero_places table b head) p)) (sym (fills p is) ∙ unmarked)
 
   by_number : map (zero_page_at table (block_in table head) head) (range_with_len (normal_count head) (zero_count head)) ≡ zeros
   by_number = zero_by_number table (block_in table head) table.page_size head
 
   zeros_are : All Zero zeros
-  zeros_are = subst (λ (l : List Page). All Zero l) by_number (all_ranged Zero (zero_page_at table (block_in table head) head) (zero_count head) (normal_count head) (λ i low high here. refl))
+  zeros_are = subst (λ (l : List Page). All Zero l) by_number
+      (all_ranged Zero (zero_page_at table (block_in table head) head) (zero_count head) (normal_count head) (λ i low high here. refl))
 
   normals_are : All Zero normals
   normals_are = all_ranged Zero (normal_page table head contents) (length contents) 0 (λ i low high here.
       let lacks : place_eq (place_at b (offset_at head i / table.page_size)) p ≡ false =
       lacks_each (λ k. place_at b (offset_at head k / table.page_size)) (normal_count head) 0 p parts.0 i low (omega (arith, high, many)) in
-      let same : place_eq (place_at (block_in table head) (offset_at head i / table.page_size)) p ≡ false = ap (λ (k : ℕ). place_eq (place_at k (offset_at head i / table.page_size)) p) block ∙ lacks in
+      let same : place_eq (place_at (block_in table head) (offset_at head i / table.page_size)) p ≡ false =
+      ap (λ (k : ℕ). place_eq (place_at k (offset_at head i / table.page_size)) p) block ∙ lacks in
       absurd (let clash : true ≡ false = sym here ∙ same in cc))
 
   before_is : has_place (places_of (zeros ++ normals)) p ≡ false → content_at memory p ≡ z
   before_is none =
       let either = or_parts (has_place (places_of zeros) p) (has_place (places_of normals) p)
-      (sym (ap (λ (l : List Place). has_place l p) (map-append (λ (x : Page). x.place) zeros normals) ∙ list_any-append (λ (q : Place). place_eq q p) (places_of zeros) (places_of normals)) ∙ none) in
+      (sym (ap (λ (l : List Place). has_place l p) (map-append (λ (x : Page). x.place) zeros normals)
+      ∙ list_any-append (λ (q : Place). place_eq q p) (places_of zeros) (places_of normals)) ∙ none) in
       let n : ℕ = normal_count head in
       let f : ℕ → Place = λ i. place_at (block_in table head) (offset_at head i / table.page_size) in
       let lacks : has_place (map f (range_with_len n (zero_count head))) p ≡ false =
-      ap (λ (l : List Place). has_place l p) (sym (map-map (λ (x : Page). x.place) (zero_page_at table (block_in table head) head) (range_with_len n (zero_count head))))
+      ap (λ (l : List Place). has_place l p) (sym
+      (map-map (λ (x : Page). x.place) (zero_page_at table (block_in table head) head) (range_with_len n (zero_count head))))
       ∙ ap (λ (l : List Page). has_place (places_of l) p) by_number ∙ either.0 in
       let no_zero : has_place (zero_places table b head) p ≡ false =
       none_each (λ i. place_at b (offset_at head (n + i) / table.page_size)) (zero_count head) 0 p (λ i low high.
-      ap (λ (k : ℕ). place_eq (place_at k (offset_at head (n + i) / table.page_size)) p) (sym block) ∙ lacks_each f (zero_count head) n p lacks (n + i) (omega arith) (omega (arith, high))) in
+      ap (λ (k : ℕ). place_eq (place_at k (offset_at head (n + i) / table.page_size)) p) (sym block)
+      ∙ lacks_each f (zero_count head) n p lacks (n + i) (omega arith) (omega (arith, high))) in
       are.are_zeros p is (and_true (has_place old.marked p) (ap (λ (x : Bool). has_place old.marked p && not x) (sym no_zero) ∙ parts.1))
     where
       and_true : (x : Bool) → (x && true) ≡ false → x ≡ false
@@ -155,13 +170,15 @@ module _ (memory : Image) (head : List ℕ) (contents : List (List ℕ)) (b : �
   is_zeros : option_map_or (λ (x : Page). x.content) (last_at p (pages_taken table head contents)) (content_at memory p) ≡ z
   is_zeros = last_is p z (pages_taken table head contents) (content_at memory p) (All-append Zero zeros normals zeros_are normals_are) before_is
 
+-- memory that is zeros but for noted pages stays so as a page or a packet's pages are read in
 pub noted_law : PagesReadAreNoted
 noted_law = record {
   page = λ memory filled place content are. zeros_elsewhere memory filled place content are;
   packet = λ memory head contents b old new lie many are same fills. record {
     same_table = same ∙ are.same_table;
     are_zeros = λ p is none.
-        content_at-image_of memory.table (λ q. option_map_or (λ (x : Page). x.content) (last_at q (pages_taken memory.table head contents)) (content_at memory q)) p is
+        content_at-image_of memory.table (λ q. option_map_or (λ (x : Page). x.content)
+        (last_at q (pages_taken memory.table head contents)) (content_at memory q)) p is
         ∙ is_zeros memory head contents b old new lie many are fills p is none;
   };
 }

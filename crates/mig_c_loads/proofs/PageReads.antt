@@ -10,7 +10,8 @@ pub part_within : (size len k : ℕ) → k < len / size → k * size + size ≤ 
 part_within size len k lt = omega (arith, page_before size (len / size) k lt, div-mul-le_self len size)
 
 -- the parts before one, and then that one, are pages
-pub parts_on : (m : Image) (b page k : ℕ) (old new bytes : List ℕ) → ChangesPart m.table.page_size old new k bytes → content m (place_at b (page + k)) ≡ Some bytes
+pub parts_on : (m : Image) (b page k : ℕ) (old new bytes : List ℕ) → ChangesPart m.table.page_size old new k bytes
+    → content m (place_at b (page + k)) ≡ Some bytes
     → ((j : ℕ) → j < k → content m (place_at b (page + j)) ≡ Some (part_at m.table.page_size old j))
     → (j : ℕ) → j < k + 1 → content m (place_at b (page + j)) ≡ Some (part_at m.table.page_size new j)
 parts_on m b page k old new bytes changes here before =

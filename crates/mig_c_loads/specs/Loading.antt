@@ -5,7 +5,7 @@ use Rattle.mig_single_load.specs.declared.settings.LoadSettings.{LoadSettings}
 use Rattle.mig_single_load.specs.declared.fault.LoadFault.{LoadFault}
 use Rattle.mig_single_load.specs.Loader.{Loader, Loads, HasAllSections, Waits, Judges, TellsMissing as lacks}
 use Rattle.mig_mem.specs.PageSize.{IsPageSize}
-use Rattle.mig_stream.specs.Reader.{IsSettled, HasClosedAt, IsValidUpTo}
+use Rattle.mig_stream.specs.Reader.{IsFinal, HasClosedAt, IsValidUpTo}
 use Rattle.mig_c_loads.specs.declared.fault.FoundFault.{FoundFault}
 use Rattle.mig_c_calls.specs.Status.{IsOneOf, done, running, waits, no_memory, is_over, too_long, bad_page_size, bad_limit, bad_frame}
 use Rattle.mig_c_loads.specs.Frames.{frame_of, asked_settings}
@@ -50,7 +50,7 @@ pub record Feeds (piece : List ℕ) (status : ℕ) (old new : Loader) : Type 0 w
   pub takes_and_waits : status ≡ waits → TakesAndWaits piece old new
   pub same : status ≢ done → status ≢ waits → new ≡ old
   pub settled : status ≡ no_memory → (given : LoadSettings) (text : List ℕ) → Loads given old text false
-      → IsSettled (single_of given) text → ⊥
+      → IsFinal (single_of given) text → ⊥
   pub over : status ≡ is_over → IsTrue old.reader.ended
   pub goes_on : status ≢ is_over → IsFalse old.reader.ended
   pub long : status ≡ too_long → 2 ^ 63 ≤ old.reader.fed + length piece

@@ -120,8 +120,8 @@ fn feed_blocks(
     (table, status)
 }
 
-// Feeds a piece into C's blocks, which are zeros but for `filled`, with the load's table. It returns
-// both.
+// Feeds a piece into C's blocks, which are zeros but for `filled`, with the load's table. It
+// returns both.
 fn feed_zero_blocks(
     alloc: Global,
     session: &mut ApartSession<Global>,
@@ -201,7 +201,7 @@ impl HeldApart {
             waiting,
             round_end,
         };
-        let session = ApartSession::new_in(alloc, table, settings, uuid, channels)?;
+        let session = ApartSession::new(alloc, settings, table, uuid, channels)?;
         let filled = nothing_filled(alloc, table, zero_blocks)?;
         let table = Some(table.copy_in(alloc)?);
         Ok(HeldApart {
@@ -347,10 +347,10 @@ impl HeldApart {
     }
 
     /// Reports the fault of a source's own bytes, or that they have none.
-    pub fn fault_of(&self, source: Source, told: &mut FoundFault) -> u32
-        ensures { TellsFault source result told.old told.new self.now.load.load }
+    pub fn fault_of(&self, source: Source, found: &mut FoundFault) -> u32
+        ensures { TellsFault source result found.old found.new self.now.load.load }
     {
-        report_fault(self.session.load(), source, told)
+        report_fault(self.session.load(), source, found)
     }
 
     /// Returns whether all rounds are in.

@@ -183,7 +183,7 @@ impl HeldLoad {
             waiting,
             round_end: RoundEnd::Flush,
         };
-        let state = InPlaceState::new_in(alloc, table, settings)?;
+        let state = InPlaceState::new(alloc, settings, table)?;
         let filled = nothing_filled(alloc, table, zero_blocks)?;
         let table = Some(table.copy_in(alloc)?);
         Ok(HeldLoad {

@@ -132,8 +132,8 @@ fn feed_blocks(
     (table, status)
 }
 
-// Feeds a piece into C's blocks, which are zeros but for `filled`, with the load's table. It returns
-// both.
+// Feeds a piece into C's blocks, which are zeros but for `filled`, with the load's table. It
+// returns both.
 fn feed_zero_blocks(
     alloc: Global,
     session: &mut InPlaceSession<Global>,
@@ -209,15 +209,15 @@ pub(crate) fn valid_up_to(session: &InPlaceSession<Global>, source: Source, at: 
 pub(crate) fn report_fault(
     session: &InPlaceSession<Global>,
     source: Source,
-    told: &mut FoundFault,
+    found: &mut FoundFault,
 ) -> u32
-    ensures { TellsFault source result told.old told.new session.now }
+    ensures { TellsFault source result found.old found.new session.now }
 {
     if !session.has(source) {
         return BAD_SOURCE;
     }
     let fault = of_source(session.rounds(), source, session.fault_of(source));
-    *told = fault;
+    *found = fault;
     fault.number
 }
 
@@ -233,8 +233,8 @@ pub(crate) fn seen_verdict(session: &InPlaceSession<Global>) -> FoundFault
 }
 
 impl HeldSession {
-    /// Creates a load into blocks of `table`, which it copies. No bytes were taken. `zero_blocks` is
-    /// whether the blocks are zeros.
+    /// Creates a load into blocks of `table`, which it copies. No bytes were taken. `zero_blocks`
+    /// is whether the blocks are zeros.
     pub fn new(
         alloc: Global,
         table: &Table<Global>,
@@ -256,7 +256,7 @@ impl HeldSession {
             waiting,
             round_end,
         };
-        let session = InPlaceSession::new_in(alloc, table, settings, uuid, channels)?;
+        let session = InPlaceSession::new(alloc, settings, table, uuid, channels)?;
         let filled = nothing_filled(alloc, table, zero_blocks)?;
         let table = Some(table.copy_in(alloc)?);
         Ok(HeldSession {
@@ -266,8 +266,8 @@ impl HeldSession {
         })
     }
 
-    /// Takes the first bytes of a piece of a source, and writes their pages into C's blocks. If these
-    /// were zeros, a page of zeros that holds nothing else is left alone.
+    /// Takes the first bytes of a piece of a source, and writes their pages into C's blocks. If
+    /// these were zeros, a page of zeros that holds nothing else is left alone.
     pub fn feed(
         &mut self,
         alloc: Global,
@@ -344,10 +344,10 @@ impl HeldSession {
     }
 
     /// Reports the fault of a source's own bytes, or that they have none.
-    pub fn fault_of(&self, source: Source, told: &mut FoundFault) -> u32
-        ensures { TellsFault source result told.old told.new self.now.load }
+    pub fn fault_of(&self, source: Source, found: &mut FoundFault) -> u32
+        ensures { TellsFault source result found.old found.new self.now.load }
     {
-        report_fault(&self.session, source, told)
+        report_fault(&self.session, source, found)
     }
 
     /// Returns whether all rounds are in.

@@ -107,14 +107,14 @@ pub fn valid_up_to_of(session: &Session<Global>, source: Source, at: &mut u64) -
 }
 
 /// Reports the fault of a source's own bytes, or that they have none.
-pub fn source_fault_of(session: &Session<Global>, source: Source, told: &mut FoundFault) -> u32
-    ensures { TellsFault source result told.old told.new session.now }
+pub fn source_fault_of(session: &Session<Global>, source: Source, found: &mut FoundFault) -> u32
+    ensures { TellsFault source result found.old found.new session.now }
 {
     if !has_source(session, source) {
         return BAD_SOURCE;
     }
     let fault = of_source(session.rounds(), source, session.fault_of(source));
-    *told = fault;
+    *found = fault;
     fault.number
 }
 

@@ -69,7 +69,7 @@ impl Fields {
     }
 
     /// Appends the packet to `text`.
-    pub fn put(&self, page_size: u64, text: &mut Vec<u8>, contents: &[u8]) -> Done {
+    pub fn append(&self, page_size: u64, text: &mut Vec<u8>, contents: &[u8]) -> Done {
         if !is_page_size(page_size) {
             return Err(Trouble::Line);
         }

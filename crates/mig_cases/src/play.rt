@@ -134,7 +134,7 @@ impl Count {
     }
 
     /// Writes the line that ends a run.
-    pub fn put<W: Write>(&self, out: &mut W) -> io::Result<()> {
+    pub fn write_to<W: Write>(&self, out: &mut W) -> io::Result<()> {
         write!(out, "{} cases, {} answers, ", self.cases, self.answers)?;
         match self.wrong {
             0 => writeln!(out, "none wrong"),

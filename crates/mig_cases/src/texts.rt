@@ -55,7 +55,7 @@ impl Case {
         let page_size = self.page_size;
         let fields = Fields::read(self.alloc, page_size, &mut words)?;
         let contents = fields.contents(self.alloc, page_size)?;
-        fields.put(page_size, self.text()?, &contents)
+        fields.append(page_size, self.text()?, &contents)
     }
 
     // `put BYTES`

@@ -24,7 +24,7 @@ use Rattle.mig_single_load.specs.Settings.{ram_settings}
 use Rattle.mig_single_load.specs.declared.loaded.Loaded.{Loaded}
 use Rattle.mig_single_load.specs.declared.fault.LoadFault.{LoadFault}
 use Rattle.mig_answer.specs.declared.verdict.Verdict.TheVariants.{Done, Failed}
-use Rattle.mig_single_load.specs.SingleLoad.{loaded, no_memory_at}
+use Rattle.mig_single_load.specs.SingleLoad.{HasLoadedRounds, no_memory_at}
 use Rattle.mig_answer.specs.MultiLoad.{Answer as LoadAnswer, answer_of, as_verdict, IsWithoutMemory, bytes_of}
 use Rattle.mig_answer.specs.Texts.{ended_texts}
 use Rattle.mig_answer.specs.Sent.{IsSentInAnyOrder, sent_answer}
@@ -47,10 +47,13 @@ use Rattle.mig_command.specs.Report.{Report, refused, checked, single_line, same
 use Rattle.mig_command.specs.Answer.{comparison_of, Compares, Answers, IsReport, IsTold, IsToldAs, IsLoadOf, IsLoadOfSent, BringsBack, IsRoundTrip, HasGone, HasChannels, printed, channels_lines, snapshots_in, table_in}
 use Rattle.uuid.specs.Parts.{zero_bytes}
 use Rattle.mig_scenario.proofs.Faithful.{played_is_sent, played_are_rounds}
+use Rattle.mig_command.proofs.CommandLine.{some_same}
 
 -- ---- faults
 
-pub is_refused : (layout : Layout) (text : List ℕ) (f : ScenarioFault) → (f ≡ fault.NoMemory) ⊎ (refusal (bytes_in layout.page_size) text ≡ Some f) → Answers layout text (Refused f)
+-- a refused allocation answers any input, and so does the fault for which the input is refused
+pub is_refused : (layout : Layout) (text : List ℕ) (f : ScenarioFault)
+    → (f ≡ fault.NoMemory) ⊎ (refusal (bytes_in layout.page_size) text ≡ Some f) → Answers layout text (Refused f)
 is_refused layout text f (inl is) = rw is (record { text = refused fault.NoMemory; status = 1 }, refl, inr (refl, inl refl))
 is_refused layout text f (inr is) =
     let report : IsReport layout text (record { text = refused f; status = 1 }) = rw is refl in
@@ -64,12 +67,10 @@ ok_same r x y a b = cc
 
 -- ---- comparing
 
-some_same : {T : Type 0} (x y : T) → Some x ≡ Some y → x ≡ y
-some_same x y e = cc
-
 same_place : (m : Image) (p : Place) → differs m m p ≡ false
 same_place m p = let same : bytes_eq (content_at m p) (content_at m p) ≡ true = (bytes_eq-Decides (content_at m p) (content_at m p)).1 refl in rw same refl
 
+-- two equal memories compare as the same
 pub is_same : (a b : Image) (c : Comparison) → a ≡ b → Compares a b c → c ≡ Same
 is_same a b c e h =
     let none : (differing a b).marked ≡ [] = subst (λ (m : Image). (differing a m).marked ≡ []) e (where_none a.table (differs a a) (λ q _. same_place a q)) in
@@ -87,6 +88,7 @@ pub compared_same : (ps : List Place) → find (λ p. not (place_lt p (place_at 
 compared_same [] e = refl
 compared_same (p ∷ ps) e = let some = rw (from_start p) at e in absurd cc
 
+-- places that differ, of which a first one was found, compare by their number and that place
 pub compared_differs : (ps : List Place) (first : Place) (count : ℕ) → find (λ p. not (place_lt p (place_at 0 0))) ps ≡ Some first → count ≡ length ps
     → Differs count first ≡ comparison_of ps
 compared_differs [] first count e len = absurd cc
@@ -106,6 +108,7 @@ GivesBack image a = ((a.memory ≡ Some image) × (a.verdict ≡ Ok _)) ⊎ (a.v
 abbrev pub IsWanting : Answer → Type 0
 IsWanting answer = (r : Report) × (printed answer ≡ Some r) × IsWantOfMemory r
 
+-- an answer that reports a refused allocation answers any input
 pub want_answers : (layout : Layout) (text : List ℕ) (answer : Answer) → IsWanting answer → Answers layout text answer
 want_answers layout text answer want = (want.0, want.1, inr want.2)
 
@@ -113,6 +116,7 @@ want_answers layout text answer want = (want.0, want.1, inr want.2)
 abbrev pub HasCompared : {A : Type 0} → Loaded A → Result (ℕ × Comparison) Answer → Type 0
 HasCompared a r = ((a.verdict ≡ Ok _) × (r ≡ Ok (a.rounds, Same))) ⊎ ((answer : Answer) × (r ≡ Err answer) × IsWanting answer)
 
+-- a load that gives back the image is compared as the same, unless an allocation was refused
 pub compared_back : {A : Type 0} (image : Image) (a : Loaded A) (r : Result (ℕ × Comparison) Answer) → GivesBack image a
     → ((e : LoadFault) → a.verdict ≡ Err e → r ≡ Err (Unloaded e))
     → ((v : ⊤) → a.verdict ≡ Ok v → a.memory ≡ Some image → (r ≡ Ok (a.rounds, Same)) ⊎ (r ≡ Err (Refused fault.NoMemory)))
@@ -128,6 +132,7 @@ pub compared_err : {A : Type 0} (a : Loaded A) (r : Result (ℕ × Comparison) A
 compared_err a r answer (inl all) bad = let good = all.1 in absurd cc
 compared_err a r answer (inr want) bad = subst IsWanting (err_same r want.0 answer want.1 bad) want.2
 
+-- a comparison that isn't an error is of a load without a fault, with its rounds and `Same`
 pub compared_ok : {A : Type 0} (a : Loaded A) (r : Result (ℕ × Comparison) Answer) (p : ℕ × Comparison) → HasCompared a r → r ≡ Ok p
     → (a.verdict ≡ Ok _) × (p.0 ≡ a.rounds) × (p.1 ≡ Same)
 compared_ok a r p (inl all) good =
@@ -137,21 +142,23 @@ compared_ok a r p (inr want) good = let bad = want.1 in absurd cc
 
 -- ---- the single stream
 
+-- a round trip gives back the guest's image, unless an allocation was refused
 pub gives_back : {A : Type 0} (layout : Layout) (text sent : List ℕ) (image : Image) (a : Loaded A) → IsRoundTrip layout text image sent a → GivesBack image a
 gives_back layout text sent image a out = elim out.is_loaded [
-  | inl whole ↦ inl (ap (λ (x : Loaded _). x.memory) whole ∙ ap (λ (m : Image). let some : Option Image = Some m in some) (sym out.has_image), ap (λ (x : Loaded _). x.verdict) whole)
+  | inl whole ↦ inl (whole.has_memory ∙ ap (λ (m : Image). let some : Option Image = Some m in some) (sym out.has_image), whole.has_verdict)
   | inr want ↦ inr want.has_verdict
 ]
 
 -- so it is if there is such a stream
-pub text_back : {A B : Type 0} (layout : Layout) (text : List ℕ) (sent : Option (Vec ℕ B)) (image : Image) (a : Loaded A) → IsSomeAnd sent (λ t. IsRoundTrip layout text image t.items a)
+pub text_back : {A B : Type 0} (layout : Layout) (text : List ℕ) (sent : Option (Vec ℕ B)) (image : Image) (a : Loaded A)
+    → IsSomeAnd sent (λ t. IsRoundTrip layout text image t.items a)
     → GivesBack image a
 text_back layout text None image a out = absurd out
 text_back layout text (Some t) image a out = gives_back layout text t.items image a out
 
 -- if the verdict is Ok, all that was sent is loaded
 is_whole : {A : Type 0} (layout : Layout) (text sent : List ℕ) (image : Image) (a : Loaded A) → IsRoundTrip layout text image sent a → a.verdict ≡ Ok _
-    → a ≡ loaded (table_in layout text) (rounds_of (snapshots_in layout text))
+    → HasLoadedRounds (table_in layout text) (rounds_of (snapshots_in layout text)) a
 is_whole layout text sent image a out good = elim out.is_loaded [ inl whole ↦ whole | inr want ↦ let bad = want.has_verdict in absurd cc ]
 
 -- what is known once a scenario was played and its stream was loaded
@@ -167,7 +174,8 @@ outcome layout text table ls image sent a is same_table same_lines within all_se
     subst (λ (x : List ScenarioLine). All (λ l. IsTrue (is_within t l)) x) same_lines (subst (λ x. All (λ l. IsTrue (is_within x l)) ls) same_table within) in
     let same : played table ls ≡ played t lines = ap (λ (x : RamTable). played x ls) same_table ∙ ap (λ (x : List ScenarioLine). played t x) same_lines in
     let text_is : sent ≡ single t (rounds_of (snapshots_in layout text)) =
-    has_text ∙ ap (λ (x : RamTable). single x (rounds_of (played table ls).snapshots)) same_table ∙ ap (λ (g : ScenarioGuest). single t (rounds_of g.snapshots)) same in record {
+    has_text ∙ ap (λ (x : RamTable). single x (rounds_of (played table ls).snapshots)) same_table
+    ∙ ap (λ (g : ScenarioGuest). single t (rounds_of g.snapshots)) same in record {
       is_table = is_t;
       is_sent = text_is;
       has_image = has_image ∙ ap (λ (g : ScenarioGuest). g.image) same ∙ sym (played_is_sent t lines is_t within_t all_sent);
@@ -175,7 +183,8 @@ outcome layout text table ls image sent a is same_table same_lines within all_se
     }
 
 -- what is known of the stream that was sent, if there is one
-pub outcomes : {A B : Type 0} (layout : Layout) (text : List ℕ) (table : RamTable) (ls : List ScenarioLine) (image : Image) (sent : Option (Vec ℕ B)) (a : Loaded A)
+pub outcomes : {A B : Type 0} (layout : Layout) (text : List ℕ) (table : RamTable) (ls : List
+    ScenarioLine) (image : Image) (sent : Option (Vec ℕ B)) (a : Loaded A)
     → IsTable table → table ≡ table_in layout text → ls ≡ lines_of text → All (λ l. IsTrue (is_within table l)) ls → unsent (lines_of text) ≡ None
     → image ≡ (played table ls).image → IsSomeAnd sent (λ t. t.items ≡ single table (rounds_of (played table ls).snapshots))
     → IsSomeAnd sent (λ t. IsLoadOf (bytes_in layout.page_size) t.items a) → IsSomeAnd sent (λ t. IsRoundTrip layout text image t.items a)
@@ -186,9 +195,11 @@ outcomes layout text table ls image (Some t) a is same_table same_lines within a
 -- ---- several channels
 
 -- what was sent on channels is a sending of the scenario's snapshots
-pub gone : {B : Type 0} (layout : Layout) (text : List ℕ) (table : RamTable) (ls : List ScenarioLine) (uuid : List ℕ) (s : Option MultiSending) (sent : Option (Sent B))
+pub gone : {B : Type 0} (layout : Layout) (text : List ℕ) (table : RamTable) (ls : List ScenarioLine) (uuid : List ℕ) (s : Option
+    MultiSending) (sent : Option (Sent B))
     → table ≡ table_in layout text → ls ≡ lines_of text → uuid ≡ zero_bytes → MatchOption s (layout.channels ≡ 0) (λ x. IsNewSender table uuid layout x)
-    → MatchOption s (sent ≡ None) (λ x. IsSomeAnd sent (λ t. IsSentOf table x.uuid x.limit (length x.channels) (played table ls).snapshots t)) → HasGone layout text sent
+    → MatchOption s (sent ≡ None) (λ x. IsSomeAnd sent
+    (λ t. IsSentOf table x.uuid x.limit (length x.channels) (played table ls).snapshots t)) → HasGone layout text sent
 gone layout text table ls uuid None sent same_table same_lines nil new are = rw are new
 gone layout text table ls uuid (Some x) None same_table same_lines nil new are = absurd are
 gone layout text table ls uuid (Some x) (Some t) same_table same_lines nil new are =
@@ -201,16 +212,19 @@ gone layout text table ls uuid (Some x) (Some t) same_table same_lines nil new a
     subst (λ (y : RamTable). IsSentOf y zero_bytes layout.batch layout.channels (snapshots_in layout text) t) same_table step-4
 
 -- it has as many streams as channels
-texts_long : {B : Type 0} (table : RamTable) (uuid : List ℕ) (limit channels : ℕ) (snapshots : List Snapshot) (sent : Sent B) → IsSentOf table uuid limit channels snapshots sent
+texts_long : {B : Type 0} (table : RamTable) (uuid : List ℕ) (limit channels : ℕ) (snapshots : List Snapshot) (sent : Sent B)
+    → IsSentOf table uuid limit channels snapshots sent
     → length sent.channels.items ≡ channels
 texts_long table uuid limit channels snapshots sent is =
     sym (length-map sent.channels.items (λ (t : Vec ℕ _). t.items)) ∙ ap (λ (l : List (List ℕ)). length l) is.2.has_texts
     ∙ length-map-range_with_len (channel_text uuid is.0) 0 channels
 
+-- streams that were sent on a layout's channels are on 1 to 255 of them
 pub has_channels : {B : Type 0} (layout : Layout) (text : List ℕ) (sent : Option (Sent B)) → HasGone layout text sent → IfSome sent (λ t. HasChannels t)
 has_channels layout text None went = tt
 has_channels layout text (Some t) went =
-    let long : length t.channels.items ≡ layout.channels = texts_long (table_in layout text) zero_bytes layout.batch layout.channels (snapshots_in layout text) t went in
+    let long : length t.channels.items ≡ layout.channels =
+    texts_long (table_in layout text) zero_bytes layout.batch layout.channels (snapshots_in layout text) t went in
     let few = went.2.is_set.has_channels in
     (omega (arith, long, few.0), omega (arith, long, few.1))
 
@@ -225,7 +239,8 @@ verdict_failed (Err f) e is = cc
 -- what loading it answers
 pub sent_back : {A B : Type 0} (page_size : ℕ) (sent : Sent B) (uuid main : List ℕ) (channels : List (Vec ℕ B)) (a : Loaded A) → uuid ≡ zero_bytes
     → main ≡ sent.main.items → channels ≡ sent.channels.items
-    → ((table : RamTable) (rounds : List DealtRound) → IsSentInAnyOrder table uuid rounds main (bytes_of channels) → table.page_size ≡ page_size → total_bytes table ≤ 2 ^ 40
+    → ((table : RamTable) (rounds : List DealtRound) → IsSentInAnyOrder table uuid rounds main (bytes_of channels)
+    → table.page_size ≡ page_size → total_bytes table ≤ 2 ^ 40
     → (answer_of a ≡ sent_answer table rounds) ⊎ IsWithoutMemory (ram_settings page_size (2 ^ 40)) uuid (ended_texts main (bytes_of channels)) (answer_of a))
     → IsLoadOfSent page_size sent a
 sent_back page_size sent uuid main channels a nil same_main same_channels loads table limit count snapshots is size =
@@ -257,8 +272,10 @@ channels_back layout text image sent a went load is = go (load (table_in layout 
     go (inr want) = (inr want, λ good. absurd cc)
 
 -- what is reported of it
-pub told : {B : Type 0} (layout : Layout) (text : List ℕ) (sent : Sent B) (c : ChannelsChecked) → HasGone layout text (Some sent) → c.main ≡ length sent.main.items
-    → c.channels ≡ min (sum_by length (texts_of sent.channels.items)) (2 ^ 64 - 1) → c.rounds ≡ length (snapshots_in layout text) → IsTold (table_in layout text) layout (snapshots_in layout text) c
+pub told : {B : Type 0} (layout : Layout) (text : List ℕ) (sent : Sent B) (c : ChannelsChecked) → HasGone layout text (Some sent)
+    → c.main ≡ length sent.main.items
+    → c.channels ≡ min (sum_by length (texts_of sent.channels.items)) (2 ^ 64 - 1) → c.rounds ≡ length (snapshots_in layout text)
+    → IsTold (table_in layout text) layout (snapshots_in layout text) c
 told layout text sent c went main channels rounds = record {
   rounds = went.0;
   main = sent.main.items;
@@ -277,6 +294,7 @@ pub none_gone : {B : Type 0} (layout : Layout) (text : List ℕ) (several : Opti
 none_gone layout text None went is = went
 none_gone layout text (Some t) went is = absurd cc
 
+-- the streams on channels, if there are some, are a sending of the scenario's snapshots
 pub one_gone : {B : Type 0} (layout : Layout) (text : List ℕ) (several : Option (Sent B)) (sent : Sent B) → HasGone layout text several → several ≡ Some sent
     → HasGone layout text (Some sent)
 one_gone layout text several sent went is = subst (λ (o : Option (Sent _)). HasGone layout text o) is went
@@ -292,30 +310,34 @@ told_as layout text (Some c) is = inr (c, is, refl)
 
 -- the report of a scenario that loaded to the guest's memory
 is_checked : {A : Type 0} (layout : Layout) (text sent : List ℕ) (image : Image) (c : Checked) (a : Loaded A) → IsRoundTrip layout text image sent a
-    → refusal (bytes_in layout.page_size) text ≡ None → a.verdict ≡ Ok _ → c.single ≡ length sent → c.sections ≡ a.rounds → IsToldOf layout text c.several → c.comparison ≡ Same
+    → refusal (bytes_in layout.page_size) text ≡ None → a.verdict ≡ Ok _ → c.single ≡ length sent → c.sections ≡ a.rounds
+    → IsToldOf layout text c.several → c.comparison ≡ Same
     → Answers layout text (answers.Checked c)
 is_checked layout text sent image c a out none good len sections said same =
     let t : RamTable = table_in layout text in
     let rounds : List (List Page) = rounds_of (snapshots_in layout text) in
     let line : List ℕ = channels_lines c.several in
-    let whole : a ≡ loaded t rounds = is_whole layout text sent image a out good in
+    let whole : HasLoadedRounds t rounds a = is_whole layout text sent image a out good in
     let of_len : c.single ≡ length (single t rounds) = len ∙ ap (λ (x : List ℕ). length x) out.is_sent in
-    let of_sections : c.sections ≡ length rounds + 2 = sections ∙ ap (λ (x : Loaded _). x.rounds) whole in
+    let of_sections : c.sections ≡ length rounds + 2 = sections ∙ whole.has_rounds in
     let r : Report = record { text = checked t rounds line; status = 0 } in
     let is_report : IsReport layout text r = rw none (line, told_as layout text c.several said, refl) in
     let is_printed : printed (answers.Checked c) ≡ Some r =
-    rw same (ap₂ (λ (m n : ℕ). let some : Option Report = Some (record { text = single_line m n ++ line ++ same_line; status = 0 }) in some) of_len of_sections) in
+    rw same (ap₂ (λ (m n : ℕ). let some : Option Report =
+    Some (record { text = single_line m n ++ line ++ same_line; status = 0 }) in some) of_len of_sections) in
     (r, is_printed, inl is_report)
 
 -- so it is if there is such a stream
 pub are_checked : {A B : Type 0} (layout : Layout) (text : List ℕ) (sent : Option (Vec ℕ B)) (image : Image) (c : Checked) (a : Loaded A)
-    → IsSomeAnd sent (λ t. IsRoundTrip layout text image t.items a) → refusal (bytes_in layout.page_size) text ≡ None → a.verdict ≡ Ok _ → IfSome sent (λ t. c.single ≡ length t.items)
+    → IsSomeAnd sent (λ t. IsRoundTrip layout text image t.items a) → refusal (bytes_in layout.page_size) text ≡ None
+    → a.verdict ≡ Ok _ → IfSome sent (λ t. c.single ≡ length t.items)
     → c.sections ≡ a.rounds → IsToldOf layout text c.several → c.comparison ≡ Same → Answers layout text (answers.Checked c)
 are_checked layout text None image c a out none good len sections line same = absurd out
 are_checked layout text (Some t) image c a out none good len sections line same = is_checked layout text t.items image c a out none good len sections line same
 
 -- the image in the end is that after the rounds
-pub text_image : {A B : Type 0} (layout : Layout) (text : List ℕ) (sent : Option (Vec ℕ B)) (image : Image) (a : Loaded A) → IsSomeAnd sent (λ t. IsRoundTrip layout text image t.items a)
+pub text_image : {A B : Type 0} (layout : Layout) (text : List ℕ) (sent : Option (Vec ℕ B)) (image : Image) (a : Loaded A)
+    → IsSomeAnd sent (λ t. IsRoundTrip layout text image t.items a)
     → image ≡ after (table_in layout text) (rounds_of (snapshots_in layout text))
 text_image layout text None image a out = absurd out
 text_image layout text (Some t) image a out = out.has_image

@@ -79,32 +79,19 @@ abbrev rows_in : Option (Text × List Row) → List Row
 rows_in (Some met) = met.1
 rows_in None = []
 
-options_are_check : AskCheck all_options (record { page_size = Large; channels = 2; batch = 16 })
-unfolding clap_on_literals
-options_are_check =
-    let rows : List Row = rows_in (subcommand_of tool_app all_options) in
-    inr (
-      rows,
-      refl,
-      refl,
-      record {
-        gives_page = ((omega arith, (omega arith, (omega arith, (omega arith, (omega arith, tt))))), refl);
-        gives_channels = ((omega arith, (omega arith, tt)), refl);
-        gives_batch = ((omega arith, (omega arith, (omega arith, tt))), refl);
-        few_channels = omega arith;
-        has_room = (omega arith, omega arith);
-      },
-    )
-
 -- what words ask for that are some, and ask for a check
 abbrev pub AskOptions : List Text → Layout → Type 0
-AskOptions words layout = (rows : List Row) × (takes tool_app words ≡ true) × (subcommand_of tool_app words ≡ Some (codes "check", rows)) × GiveLayout rows layout
+AskOptions words layout = (rows : List Row) × (takes tool_app words ≡ true)
+    × (subcommand_of tool_app words ≡ Some (codes "check", rows)) × GiveLayout rows layout
 
-pub are_options : {A : Type 0} (ws : List (String A)) (layout : Layout) → (length ws == 0) ≡ false → AskCheck (texts_of ws) layout → AskOptions (texts_of ws) layout
+-- if there are arguments, and they ask for a check, its layout is that of their options
+pub are_options : {A : Type 0} (ws : List (String A)) (layout : Layout) → (length ws == 0) ≡ false → AskCheck (texts_of ws) layout
+    → AskOptions (texts_of ws) layout
 are_options [] layout some ask = absurd cc
 are_options (w ∷ ws) layout some (inl none) = let bad = none.0 in absurd cc
 are_options (w ∷ ws) layout some (inr is) = is
 
+-- a check that is asked for without arguments is of the plain layout
 pub no_options : {A : Type 0} (ws : List (String A)) (layout : Layout) → (length ws == 0) ≡ true → AskCheck (texts_of ws) layout → plain_layout ≡ layout
 no_options [] layout none (inl ask) = sym ask.1
 no_options [] layout none (inr ask) = absurd (not_met (codes "check") ask.0 ask.2)
@@ -120,7 +107,8 @@ pub passes_check : (app : App) (ws : List Text) → app ≡ tool_app → takes t
 passes_check app ws same taken = ap (λ (x : App). takes x ws) same ∙ taken
 
 -- and what they ask for is met
-pub meets : (app : App) (ws : List Text) (command : Text) (rows : List Row) (m : ArgMatches) → app ≡ tool_app → subcommand_of tool_app ws ≡ Some (command, rows) → HasMatchesOf app ws m
+pub meets : (app : App) (ws : List Text) (command : Text) (rows : List Row) (m : ArgMatches) → app ≡ tool_app
+    → subcommand_of tool_app ws ≡ Some (command, rows) → HasMatchesOf app ws m
     → subcommand_rows_of m ≡ Some (command, rows)
 meets app ws command rows m same is has = (has (ap is_simple same ∙ is_simple_tool)).1 ∙ ap (λ (x : App). subcommand_of x ws) same ∙ is
 
@@ -131,35 +119,38 @@ mapped_twice f g (Some x) = refl
 name_of_rows : (m : ArgMatches) → option_map (λ p. p.0) (subcommand_rows_of m) ≡ subcommand_name_of m
 name_of_rows m = mapped_twice _ _ (out-ArgMatches m).subcommand
 
-some_same : {X : Type 0} (x y : X) → Some x ≡ Some y → x ≡ y
+-- values are equal if they are as `Some`
+pub some_same : {X : Type 0} (x y : X) → Some x ≡ Some y → x ≡ y
 some_same x y e = cc
 
 -- the command that was met, by its name, and what of it was used
-pub met : (m : ArgMatches) (r : Option (Bor Text × Bor ArgMatches)) (name : Bor Text) (sub : Bor ArgMatches) (command : Text) (found : List Row) → subcommand_rows_of m ≡ Some (command, found)
+pub met : (m : ArgMatches) (r : Option (Bor Text
+    × Bor ArgMatches)) (name : Bor Text) (sub : Bor ArgMatches) (command : Text) (found : List Row) → subcommand_rows_of m ≡ Some (command, found)
     → option_map (λ p. p.0.now) r ≡ subcommand_name_of m → option_map (λ p. rows_of (found_of p.1.now)) r ≡ option_map (λ p. p.1) (subcommand_rows_of m)
     → r ≡ Some (name, sub) → (name.now ≡ command) × (rows_of (found_of sub.now) ≡ found)
 met m r name sub command found is names rows some = (
-  some_same name.now command (sym (ap (λ (o : Option (Bor Text × Bor ArgMatches)). option_map (λ p. p.0.now) o) some) ∙ names ∙ sym (name_of_rows m) ∙ ap (λ (o : Option (Text × List Row)). option_map (λ p. p.0) o) is),
-  some_same (rows_of (found_of sub.now)) found (sym (ap (λ (o : Option (Bor Text × Bor ArgMatches)). option_map (λ p. rows_of (found_of p.1.now)) o) some) ∙ rows ∙ ap (λ (o : Option (Text × List Row)). option_map (λ p. p.1) o) is),
+  some_same name.now command (sym (ap (λ (o : Option (Bor Text × Bor ArgMatches)). option_map (λ p. p.0.now) o) some) ∙ names
+      ∙ sym (name_of_rows m) ∙ ap (λ (o : Option (Text × List Row)). option_map (λ p. p.0) o) is),
+  some_same (rows_of (found_of sub.now)) found
+      (sym (ap (λ (o : Option (Bor Text × Bor ArgMatches)). option_map (λ p. rows_of (found_of p.1.now)) o) some) ∙ rows
+      ∙ ap (λ (o : Option (Text × List Row)). option_map (λ p. p.1) o) is),
 )
 
 -- there is one
-pub none_met : (m : ArgMatches) (r : Option (Bor Text × Bor ArgMatches)) (command : Text) (found : List Row) → subcommand_rows_of m ≡ Some (command, found) → option_map (λ p. p.0.now) r ≡ subcommand_name_of m → r ≡ None → ⊥
+pub none_met : (m : ArgMatches) (r : Option (Bor Text × Bor ArgMatches)) (command : Text) (found : List Row)
+    → subcommand_rows_of m ≡ Some (command, found) → option_map (λ p. p.0.now) r ≡ subcommand_name_of m → r ≡ None → ⊥
 none_met m r command found is names none =
-    let bad : None ≡ Some command = sym (ap (λ (o : Option (Bor Text × Bor ArgMatches)). option_map (λ p. p.0.now) o) none) ∙ names ∙ sym (name_of_rows m) ∙ ap (λ (o : Option (Text × List Row)). option_map (λ p. p.0) o) is in
+    let bad : None ≡ Some command = sym (ap (λ (o : Option (Bor Text × Bor ArgMatches)). option_map (λ p. p.0.now) o) none)
+    ∙ names ∙ sym (name_of_rows m) ∙ ap (λ (o : Option (Text × List Row)). option_map (λ p. p.0) o) is in
     absurd cc
 
 -- ---- results
 
-pub same_result : {T E : Type 0} (r : Result T E) (x y : T) → r ≡ Ok x → r ≡ Ok y → x ≡ y
-same_result r x y a b = cc
-
-pub ok_err : {T E : Type 0} (r : Result T E) (e : E) (y : T) → r ≡ Err e → r ≡ Ok y → ⊥
-ok_err r e y a b = absurd cc
-
+-- values are equal if they are as `Ok`
 pub ok_same : {T E : Type 0} (x y : T) → (let r : Result T E = Ok x in r) ≡ Ok y → x ≡ y
 ok_same x y is = cc
 
+-- no `Err` is an `Ok`
 pub err_ok : {T E : Type 0} (e : E) (y : T) → (let r : Result T E = Err e in r) ≡ Ok y → ⊥
 err_ok e y is = absurd cc
 
@@ -176,6 +167,7 @@ gives_none f id without number gives none = rw (sym (text_of_row f id) ∙ none)
 abbrev Says : Text → ℕ → Type 0
 Says text number = IsNumeral 10 (without_leading_plus text) × (number ≡ digits_value 10 (without_leading_plus text))
 
+-- the bytes of an option that is used are a numeral, and its value is the number that they give
 pub gives_text : (f : Found) (id t : Text) (without number : ℕ) → Gives (rows_of f) id without number → one_text f id ≡ Some t → Says t number
 gives_text f id t without number gives some = rw (sym (text_of_row f id) ∙ some) at gives
 
@@ -195,22 +187,27 @@ number_read {E} k f id without number r reads parses small gives none value = go
 
 -- ---- sizes of pages
 
+-- a page of either size has at most 8192 bytes
 pub page_bytes : (size : PageSize) → bytes_in size ≤ 8192
 page_bytes Small = omega arith
 page_bytes Large = omega arith
 
+-- a page size of 4096 bytes is `Small`
 pub is_small : (size : PageSize) (n : ℕ) → n ≡ bytes_in size → n ≡ 4096 → Small ≡ size
 is_small Small n is n_is = refl
 is_small Large n is n_is = absurd (omega (arith, is, n_is))
 
+-- a page size of 8192 bytes is `Large`
 pub is_large : (size : PageSize) (n : ℕ) → n ≡ bytes_in size → n ≡ 8192 → Large ≡ size
 is_large Small n is n_is = absurd (omega (arith, is, n_is))
 is_large Large n is n_is = refl
 
+-- each page size is 4096 or 8192 bytes
 pub is_neither : (size : PageSize) (n : ℕ) → n ≡ bytes_in size → (n ≡ 4096 → ⊥) → (n ≡ 8192 → ⊥) → ⊥
 is_neither Small n is small large = small is
 is_neither Large n is small large = large is
 
+-- a packet has room for at most 128 pages, whichever their size
 pub room_bound : (size : PageSize) → page_limit (bytes_in size) ≤ 128
 room_bound Small = omega arith
 room_bound Large = omega arith

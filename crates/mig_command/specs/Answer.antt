@@ -19,7 +19,7 @@ use Rattle.mig_single_load.specs.declared.fault.Fault.TheVariants as load_fault
 use Rattle.mig_answer.specs.declared.verdict.Verdict.{Verdict}
 use Rattle.mig_answer.specs.declared.verdict.Verdict.TheVariants.{Running, Done, Failed}
 use Rattle.mig_single_load.specs.declared.loaded.Loaded.{Loaded}
-use Rattle.mig_single_load.specs.SingleLoad.{IsSingleWithoutMemory, loaded, no_memory_at}
+use Rattle.mig_single_load.specs.SingleLoad.{IsSingleWithoutMemory, HasLoadedRounds, no_memory_at}
 use Rattle.mig_single_load.specs.declared.fault.LoadFault.{LoadFault}
 use Rattle.mig_single_load.specs.declared.fault.Origin.{Origin}
 use Rattle.mig_single_load.specs.declared.fault.Origin.TheVariants as origin
@@ -185,7 +185,7 @@ Answers layout text answer = (r : Report) × (printed answer ≡ Some r) × (IsR
 -- the result of loading a stream that is that of rounds of a table
 abbrev pub IsLoadOf : {A : Type 0} → ℕ → List ℕ → Loaded A → Type 0
 IsLoadOf page_size sent a = (table : RamTable) (rounds : List (List Page)) → IsTable table → table.page_size ≡ page_size → total_bytes table ≤ 2 ^ 40
-    → All (IsRound table) rounds → sent ≡ single table rounds → (a ≡ loaded table rounds) ⊎ IsSingleWithoutMemory (ram_settings page_size (2 ^ 40)) sent a
+    → All (IsRound table) rounds → sent ≡ single table rounds → HasLoadedRounds table rounds a ⊎ IsSingleWithoutMemory (ram_settings page_size (2 ^ 40)) sent a
 
 -- A scenario that was executed, and the result of loading the single stream that was sent: the
 -- guest's image at the end is that after the rounds.
@@ -193,7 +193,7 @@ pub record IsRoundTrip {A : Type 0} (layout : Layout) (text : List ℕ) (image :
   pub is_table : IsTable (table_in layout text)
   pub is_sent : sent ≡ single (table_in layout text) (rounds_of (snapshots_in layout text))
   pub has_image : image ≡ after (table_in layout text) (rounds_of (snapshots_in layout text))
-  pub is_loaded : (a ≡ loaded (table_in layout text) (rounds_of (snapshots_in layout text))) ⊎ IsSingleWithoutMemory (ram_settings (bytes_in layout.page_size) (2 ^ 40)) sent a
+  pub is_loaded : HasLoadedRounds (table_in layout text) (rounds_of (snapshots_in layout text)) a ⊎ IsSingleWithoutMemory (ram_settings (bytes_in layout.page_size) (2 ^ 40)) sent a
 
 -- there is a round trip with the single stream that was sent
 abbrev pub HasRoundTrip : {A : Type 0} → Layout → List ℕ → Played A → Loaded A → Type 0

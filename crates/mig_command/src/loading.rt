@@ -53,6 +53,7 @@ fn settled<A: Allocator>(loaded: Loaded<A>) -> Result<(Memory<A>, u64), Answer>
         memory,
         rounds,
         verdict,
+        ..
     } = loaded;
     if let Err(fault) = verdict {
         return Err(Answer::Unloaded(fault));

@@ -9,9 +9,11 @@ use Rattle.mig_deal.specs.History.{EachNumberOnce, EachNumberHasOneSeat, WordSta
 use Rattle.mig_deal.proofs.Counts.{count_by-flat_map, count_by-cons, each_once, one_alone}
 use Rattle.mig_deal.proofs.Steps.{stays_below}
 
+-- all seats together hold each number from the base up to the word once, and no other
 pub each_number_once : EachNumberOnce
 each_number_once terms word dealt = each_once _ _ _ dealt.begun dealt.whole
 
+-- each number from the base up to the word is held by one seat, and by no other
 pub each_number_has_one_seat : EachNumberHasOneSeat
 each_number_has_one_seat terms word dealt i below =
     let number : ℕ = terms.base + i in
@@ -23,6 +25,7 @@ each_number_has_one_seat terms word dealt i below =
       by_no_other = alone.others;
     }
 
+-- the word is at most the base plus the number of batches and of seats
 pub word_stays_below : WordStaysBelow
 word_stays_below = stays_below
 
@@ -35,6 +38,7 @@ one_last terms (x ∷ y ∷ ys) stops =
     let rest = one_last terms (y ∷ ys) (λ place before. stops (suc place) (omega arith)) in
     grind (arith, nat_tests)
 
+-- a seat drew at most one last number, and nothing after it
 pub seats_stop_at_last : SeatsStopAtLast
 seats_stop_at_last terms word dealt place seat at = let stops = (dealt.lawful place seat at).stops in record {
   one_last = one_last terms seat.drawn stops;

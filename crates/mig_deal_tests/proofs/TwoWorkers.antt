@@ -8,9 +8,11 @@ use Rattle.mig_send.specs.MultiSending.{MultiSending, HasSentOne}
 use Rattle.mig_send.specs.MultiRound.{OpenMulti, IsRoundSoFar, HasBegun, HandsOut, TakesBack, EndsRound, dirty_of, none_drained}
 use Rattle.mig_deal_tests.specs.Stepped.{HasRun}
 
+-- with no step a worker has run from its state to the same one
 pub rests : (image : Image) (work : ChannelWork) → HasRun image work work
 rests image work = record { same_terms = refl; same_channel = refl; has_packed = λ before drained packed. packed }
 
+-- a worker that has run from one state to a second, and on to a third, has run from first to third
 pub runs_on : (image : Image) (old mid new : ChannelWork) → HasRun image old mid → HasRun image mid new → HasRun image old new
 runs_on image old mid new first then = record {
   same_terms = then.same_terms ∙ first.same_terms;
@@ -28,7 +30,8 @@ runs_back image sender before after work done run back packed come =
     (run.has_packed (get_or sender.channels work.channel []) [] packed))
 
 -- A round of two workers in any interleaving is a round like any other.
-pub sent_by_two : (image : Image) (dirty : PlaceSet) (sender : MultiSending) (begun one two back both : OpenMulti) (a b a_done b_done : ChannelWork) (new : MultiSending)
+pub sent_by_two : (image : Image) (dirty : PlaceSet) (sender : MultiSending) (begun one two back both : OpenMulti)
+    (a b a_done b_done : ChannelWork) (new : MultiSending)
     → IsImage image → image.table ≡ sender.main.table → HasBegun dirty sender begun → HandsOut begun one a → HandsOut one two b
     → HasRun image a a_done → HasRun image b b_done → TakesBack a_done two back → TakesBack b_done back both → EndsRound both new
     → HasSentOne (record { image = image; dirty = dirty.marked }) sender new

@@ -2,7 +2,7 @@
 //! are those of the steps that its worker passed.
 
 use crate::multi::{Round, finish, uuid};
-use crate::working::Told;
+use crate::working::Reported;
 use mig_fixtures::{at, zeroed};
 use mig_mem::Dirty;
 use mig_packet::{ChannelReader, Gate, PacketRound, Step};
@@ -42,7 +42,7 @@ fn round_of(alloc: Global, pages: u64) -> Option<Round> {
 // the number of the other channel for which it is held, if it is held.
 #[derive(Drop)]
 struct Lane {
-    told: Told,
+    reported: Reported,
     drawn: AtomicU64,
     until: Option<u64>,
 }
@@ -50,7 +50,7 @@ struct Lane {
 impl Lane {
     fn new(rt: &(impl AllocGlobal + Abort), channel: usize, until: Option<u64>) -> Lane {
         Lane {
-            told: Told::new(rt, channel),
+            reported: Reported::new(rt, channel),
             drawn: AtomicU64::new(0),
             until,
         }
@@ -97,7 +97,7 @@ impl Gate for Holding {
         } else {
             (&self.second, &self.first)
         };
-        lane.told.pass(channel, step);
+        lane.reported.pass(channel, step);
         let Step::Drawn(number) = step else { return };
         let is_first = lane.drawn.swap(number.wrapping_add(1), Ordering::SeqCst) == 0;
         let Some(until) = lane.until else { return };
@@ -119,7 +119,7 @@ fn round_in(alloc: Global, channel: &[u8]) -> Option<PacketRound> {
     reader.take_round().ok()?
 }
 
-// Returns the steps of the worker that wrote a round, as `Told` keeps them: the draw and the
+// Returns the steps of the worker that wrote a round, as `Reported` keeps them: the draw and the
 // packing of each packet with pages, and the draw that gave the SYNC packet its number.
 fn steps_in(alloc: Global, round: &PacketRound) -> Option<Vec<u64>> {
     let mut steps = Vec::new(alloc);
@@ -134,12 +134,12 @@ fn steps_in(alloc: Global, round: &PacketRound) -> Option<Vec<u64>> {
 }
 
 // Returns whether a channel's packets are those of the steps that its gate was passed.
-fn is_reported(alloc: Global, told: &Told, channel: &[u8]) -> bool {
+fn is_reported(alloc: Global, reported: &Reported, channel: &[u8]) -> bool {
     let Some(round) = round_in(alloc, channel) else {
         return false;
     };
     match steps_in(alloc, &round) {
-        Some(steps) => told.is(&steps),
+        Some(steps) => reported.is(&steps),
         None => false,
     }
 }
@@ -152,8 +152,8 @@ fn are_reported(alloc: Global, gate: &Holding, sent: &Sent, len: usize) -> bool 
     };
     gate.given_up.load(Ordering::SeqCst) == 0
         && first.len().checked_add(second.len()) == Some(len)
-        && is_reported(alloc, &gate.first.told, first)
-        && is_reported(alloc, &gate.second.told, second)
+        && is_reported(alloc, &gate.first.reported, first)
+        && is_reported(alloc, &gate.second.reported, second)
 }
 
 // ---- two channels that are held
@@ -175,7 +175,7 @@ fn two_workers_at_once(rt: HostRuntime) {
     let gate = Holding::new(&rt, Some(0), Some(0));
     let sent = send(&rt, 129, &gate);
     assert!(rt; are_reported(rt.alloc(), &gate, &sent, 128 + 4 * 1344 + 129 * 4096));
-    assert!(rt; gate.first.told.count() == 3 && gate.second.told.count() == 3);
+    assert!(rt; gate.first.reported.count() == 3 && gate.second.reported.count() == 3);
 }
 
 // Four batches, so numbers from 4 on claim none. One worker is held at its first draw until the
@@ -187,8 +187,8 @@ fn one_worker_held(rt: HostRuntime) {
     let len = 128 + 6 * 1344 + 385 * 4096;
     let gate = Holding::new(&rt, Some(4), None);
     assert!(rt; are_reported(rt.alloc(), &gate, &send(&rt, 385, &gate), len));
-    assert!(rt; gate.first.told.count() <= 3);
+    assert!(rt; gate.first.reported.count() <= 3);
     let gate = Holding::new(&rt, None, Some(4));
     assert!(rt; are_reported(rt.alloc(), &gate, &send(&rt, 385, &gate), len));
-    assert!(rt; gate.second.told.count() <= 3);
+    assert!(rt; gate.second.reported.count() <= 3);
 }

@@ -1,6 +1,6 @@
 //! Rounds on several channels whose workers the caller steps: on threads of its own, and one after
-//! another, drained after each step, with the bytes made by hand; and workers that write heads alone,
-//! whose pages the caller sends.
+//! another, drained after each step, with the bytes made by hand; and workers that write heads
+//! alone, whose pages the caller sends.
 
 ghost use Rattle.std.specs.Prelude.{◌≡◌};
 ghost use Rattle.mig_send.specs.ChannelWork.{HasEnded};
@@ -229,7 +229,7 @@ fn next_pages(
 }
 
 // Writes the head of the next packet if it has pages, or makes a step, and appends the channel's
-// bytes with the contents behind them.
+// bytes with the contents after them.
 fn send_next(
     worker: &mut ChannelWorker,
     memory: &Memory,

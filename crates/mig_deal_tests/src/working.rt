@@ -16,20 +16,20 @@ const CHANNEL: usize = 3;
 /// A gate of one channel that keeps the steps that pass it, in order: twice the number of a draw,
 /// and one more if its packet was made.
 #[derive(Drop)]
-pub(crate) struct Told {
+pub(crate) struct Reported {
     channel: usize,
     count: AtomicU64,
     steps: Vec<AtomicU64>,
 }
 
-impl Told {
+impl Reported {
     /// Creates a gate that keeps up to 16 steps.
-    pub(crate) fn new(rt: &(impl AllocGlobal + Abort), channel: usize) -> Told {
+    pub(crate) fn new(rt: &(impl AllocGlobal + Abort), channel: usize) -> Reported {
         let mut steps = Vec::new(rt.alloc());
         for _ in 0..16 {
             assert!(rt; steps.push(AtomicU64::new(u64::MAX)).is_ok());
         }
-        Told {
+        Reported {
             channel,
             count: AtomicU64::new(0),
             steps,
@@ -43,8 +43,8 @@ impl Told {
 
     /// Returns whether exactly these steps have passed it.
     pub(crate) fn is(&self, wanted: &[u64]) -> bool {
-        for (told, step) in self.steps.iter().zip(wanted) {
-            if told.load(Ordering::SeqCst) != *step {
+        for (reported, step) in self.steps.iter().zip(wanted) {
+            if reported.load(Ordering::SeqCst) != *step {
                 return false;
             }
         }
@@ -52,9 +52,9 @@ impl Told {
     }
 }
 
-impl Gate for Told {
+impl Gate for Reported {
     fn pass(&self, channel: usize, step: Step) {
-        let told = match step {
+        let reported = match step {
             Step::Drawn(number) if channel == self.channel => number.wrapping_mul(2),
             Step::Packed(number) if channel == self.channel => number
                 .wrapping_mul(2)
@@ -63,7 +63,7 @@ impl Gate for Told {
         };
         let place = self.count.fetch_add(1, Ordering::SeqCst);
         if let Some(step) = self.steps.get(place as usize) {
-            step.store(told, Ordering::SeqCst);
+            step.store(reported, Ordering::SeqCst);
         }
     }
 }
@@ -80,7 +80,7 @@ fn are_one(alloc: Global, packets: &[Packed]) -> Option<bool> {
 fn one_batch(rt: HostRuntime) {
     let memory = memory_of(&rt, &[("a", 2)]);
     let batches = batches_of(&rt, memory.table(), &[at(0, 0), at(0, 1)], 128);
-    let gate = Told::new(&rt, CHANNEL);
+    let gate = Reported::new(&rt, CHANNEL);
     let alone = work_alone(&rt, rt.alloc(), 0, CHANNEL, &memory, &batches, &gate);
     assert!(rt; alone.last == 1 && alone.next == 2 && gate.is(&[0, 1, 2]));
     assert!(rt; are_one(rt.alloc(), &alone.packets.expect(&rt, "packets")) == Some(true));
@@ -122,7 +122,7 @@ fn are_packed(packets: &[Packed]) -> bool {
 fn batches_of_two_blocks(rt: HostRuntime) {
     let memory = memory_of(&rt, &[("a", 3), ("b", 2)]);
     let batches = batches_of(&rt, memory.table(), &PLACES, 1);
-    let gate = Told::new(&rt, CHANNEL);
+    let gate = Reported::new(&rt, CHANNEL);
     let alone = work_alone(&rt, rt.alloc(), 7, CHANNEL, &memory, &batches, &gate);
     assert!(rt; alone.last == 10 && alone.next == 11);
     assert!(rt; gate.is(&[14, 15, 16, 17, 18, 19, 20]));
@@ -135,7 +135,7 @@ fn draws_on_after_a_refusal(rt: HostRuntime) {
     let heap = TestHeap::new(rt.alloc());
     let memory = memory_of(&rt, &[("a", 3), ("b", 2)]);
     let batches = batches_of(&rt, memory.table(), &PLACES, 1);
-    let gate = Told::new(&rt, CHANNEL);
+    let gate = Reported::new(&rt, CHANNEL);
     heap.refuse(5);
     let alone = work_alone(&rt, &heap, 0, CHANNEL, &memory, &batches, &gate);
     assert!(rt; alone.last == 3 && alone.next == 4 && alone.packets.is_err());

@@ -34,7 +34,16 @@ module _ {M : Type 1} {𝓤 : Ura M} (𝓛 : Logic 𝓤) (at_mem : Memory → SP
   at_refuses κ q c t = (((κ, tt), (q, tt), tt, (record { ref_ptr = c; now = t }, tt), (vptr c.0 c.1 ∷ [], tt)), tt)
 
   abbrev pub at_counts : Lft → Share → ℕ × ℕ → Tallied.Denot → ℕ → ℕ → Counts.Ghost
-  at_counts κ q c t n m = (((κ, tt), (q, tt), tt, (record { ref_ptr = c; now = t }, (n, (m, tt))), (vptr c.0 c.1 ∷ [], (vint w64 n ∷ [], (vint w64 m ∷ [], tt)))), tt)
+  at_counts κ q c t n m = (
+    (
+      (κ, tt),
+      (q, tt),
+      tt,
+      (record { ref_ptr = c; now = t }, (n, (m, tt))),
+      (vptr c.0 c.1 ∷ [], (vint w64 n ∷ [], (vint w64 m ∷ [], tt))),
+    ),
+    tt,
+  )
 
 module _ {M : Type 1} {𝓤 : Ura M} (𝓛 : Logic 𝓤) (at_mem : Memory → SProp 𝓤) (run : Routine → Fun 𝓤) (κ : Lft) (q : Share) (c : ℕ × ℕ) (t : Tallied.Denot) where
   open 𝓛 use {H, A}
@@ -44,7 +53,8 @@ module _ {M : Type 1} {𝓤 : Ura M} (𝓛 : Logic 𝓤) (at_mem : Memory → SP
       qed 𝓛 (‵ (hidden_shr Tallied κ t c.0 c.1) ∷ ‵ (flft κ q) ∷ []) ∵ feq_i ! (List Val) (vptr c.0 c.1 ∷ []) (vptr c.0 c.1 ∷ []) refl $ fjoin ! $
       nothing ! $ move ! (1 ∷ []) $ fjoin ! $ nothing ! $ move ! (2 ∷ []) $ join ! $ join ! $ nothing ! $ move ! (1 ∷ []) $ done !
 
-  pub Counts-goes : (n m : ℕ) → n < 2 ^ 64 → m < 2 ^ 64 → ent 𝓤 (sep 𝓤 (sem 𝓛 (hidden_shr Tallied κ t c.0 c.1)) (A.lft κ q)) ((Counts 𝓛 at_mem run).pre (at_counts 𝓛 at_mem run κ q c t n m))
+  pub Counts-goes : (n m : ℕ) → n < 2 ^ 64 → m < 2 ^ 64
+      → ent 𝓤 (sep 𝓤 (sem 𝓛 (hidden_shr Tallied κ t c.0 c.1)) (A.lft κ q)) ((Counts 𝓛 at_mem run).pre (at_counts 𝓛 at_mem run κ q c t n m))
   Counts-goes n m fn fm =
       qed 𝓛 (‵ (hidden_shr Tallied κ t c.0 c.1) ∷ ‵ (flft κ q) ∷ []) ∵
       nothing ! $ flt_i ! m (2 ^ 64) fm $ feq_i ! (List Val) (vint w64 m ∷ []) (vint w64 m ∷ []) refl $ fjoin ! $ fjoin ! $
@@ -55,5 +65,7 @@ module _ {M : Type 1} {𝓤 : Ura M} (𝓛 : Logic 𝓤) (at_mem : Memory → SP
   pub Counts-gives : (n m : ℕ) (v : Val) → ent 𝓤 ((Counts 𝓛 at_mem run).post (at_counts 𝓛 at_mem run κ q c t n m) v) (H.⇛ (guard 𝓤 (v ≡ vunit) (A.lft κ q)))
   Counts-gives n m v =
       qed 𝓛 (raw ((Counts 𝓛 at_mem run).post (at_counts 𝓛 at_mem run κ q c t n m) v) ∷ []) ∵ updating ! $
-      use1 𝓛 (later (some (λ (r : Unit {0}). ((‵ (flft κ q) ⊛ ‵ ftrue) ⊛ ‵ (unit.own_val r (v ∷ []))) ⊛ some (λ (ws : Unit {0} × (Unit {0} × (Unit {0} × Unit {0}))). ‵ (fsep ftrue (fsep ftrue (fsep ftrue ftrue))) ⊛ ‵ ftrue)))) (id⊢ 𝓤 _) $ await ! tt $ pick ! (λ r.
+      use1 𝓛 (later (some (λ (r : Unit {0}). ((‵ (flft κ q) ⊛ ‵ ftrue) ⊛ ‵ (unit.own_val r (v ∷ []))) ⊛ some
+      (λ (ws : Unit {0} × (Unit {0} × (Unit {0} × Unit {0}))). ‵ (fsep ftrue (fsep ftrue (fsep ftrue ftrue))) ⊛ ‵ ftrue))))
+      (id⊢ 𝓤 _) $ await ! tt $ pick ! (λ r.
       split ! $ split ! $ move ! (1 ∷ []) $ feq_l ! (λ e. split ! $ at_once ! $ check ! (ap only e) $ keep ! (0 ∷ []) $ done !))

@@ -16,5 +16,5 @@ pub fn put_page_and_zeros<A: Allocator>(text: &mut Vec<u8, A>) -> Result<(), NoM
         contents: &page,
         zero: &[0],
     };
-    packet.put(4096, text)
+    packet.append(4096, text)
 }

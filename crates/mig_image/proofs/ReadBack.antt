@@ -32,7 +32,8 @@ range_shifted a b zero = refl
 range_shifted a b (suc n) = ap (λ (l : List ℕ). (a + b) ∷ l) (range_shifted a (b + 1) n ∙ ap (λ (k : ℕ). range_with_len k n) (omega arith))
 
 range_joined : (a n k : ℕ) → range_with_len a n ++ range_with_len (a + n) k ≡ range_with_len a (n + k)
-range_joined a zero k = let start : a + 0 ≡ a = omega arith in let len : k ≡ 0 + k = omega arith in ap (λ (i : ℕ). range_with_len i k) start ∙ ap (range_with_len a) len
+range_joined a zero k = let start : a + 0 ≡ a = omega arith in let len : k ≡ 0 + k = omega arith in
+    ap (λ (i : ℕ). range_with_len i k) start ∙ ap (range_with_len a) len
 range_joined a (suc n) k =
     let start : a + suc n ≡ a + 1 + n = omega arith in
     let len : suc (n + k) ≡ suc n + k = omega arith in
@@ -48,13 +49,15 @@ block_numbers blocks i =
     map-map (pages_before blocks) (place_at i) (range_with_len 0 (block blocks i).pages) ∙ range_shifted before 0 (block blocks i).pages
     ∙ ap (λ (k : ℕ). range_with_len k (block blocks i).pages) (omega arith)
 
-first_numbers : (blocks : List Block) (n : ℕ) → n ≤ length blocks → map (pages_before blocks) (first_places blocks n) ≡ range_with_len 0 (total_pages (take n blocks))
+first_numbers : (blocks : List Block) (n : ℕ) → n ≤ length blocks
+    → map (pages_before blocks) (first_places blocks n) ≡ range_with_len 0 (total_pages (take n blocks))
 unfolding first_places
 first_numbers blocks zero le = refl
 first_numbers blocks (suc n) le =
     let before : ℕ = total_pages (take n blocks) in
     let pages : ℕ = (block blocks n).pages in
-    let sum : total_pages (take (n + 1) blocks) ≡ before + pages = sum_by_more (λ (b : Block). b.pages) blocks n (record { id = []; pages = 0 }) (omega (arith, le)) in
+    let sum : total_pages (take (n + 1) blocks) ≡ before + pages =
+    sum_by_more (λ (b : Block). b.pages) blocks n (record { id = []; pages = 0 }) (omega (arith, le)) in
     let next : n + 1 ≡ suc n = omega arith in
     ap (λ (k : ℕ). map (pages_before blocks) (first_places blocks k)) (sym next)
     ∙ ap (λ (l : List ℕ). map (pages_before blocks) (flat_map (block_places blocks) l)) (range_more n)
@@ -66,6 +69,7 @@ first_numbers blocks (suc n) le =
     ∙ ap (range_with_len 0) (sym sum)
     ∙ ap (λ (k : ℕ). range_with_len 0 (total_pages (take k blocks))) next
 
+-- the places of a table, in their order, have as many pages before them as 0, 1, 2 and so on
 pub place_numbers : (table : RamTable) → map (pages_before table.blocks) (places table) ≡ range_with_len 0 (total_pages table.blocks)
 unfolding places first_places
 place_numbers table =
@@ -77,10 +81,12 @@ sizes_joined : {X : Type 0} (f : X → List ℕ) (size : ℕ) (xs : List X) → 
 sizes_joined f size [] all = omega arith
 sizes_joined {X} f size (x ∷ xs) all =
     length-append (f x) (flat_map f xs)
-    ∙ (let here = All-head (λ (y : X). length (f y) ≡ size) x xs all in let rest = sizes_joined f size xs (All-tail (λ (y : X). length (f y) ≡ size) x xs all) in
+    ∙ (let here = All-head (λ (y : X). length (f y) ≡ size) x xs all in
+    let rest = sizes_joined f size xs (All-tail (λ (y : X). length (f y) ≡ size) x xs all) in
     let sum = add-mul 1 (length xs) size in omega (arith, here, rest, sum))
 
-part_joined : {X : Type 0} (f : X → List ℕ) (size : ℕ) (xs : List X) (i : ℕ) (d : X) → All (λ x. length (f x) ≡ size) xs → i < length xs → part_at size (flat_map f xs) i ≡ f (get_or xs i d)
+part_joined : {X : Type 0} (f : X → List ℕ) (size : ℕ) (xs : List X) (i : ℕ) (d : X) → All (λ x. length (f x) ≡ size) xs
+    → i < length xs → part_at size (flat_map f xs) i ≡ f (get_or xs i d)
 part_joined f size [] i d all lt = absurd (omega arith)
 part_joined {X} f size (x ∷ xs) zero d all lt =
     let here = All-head (λ (y : X). length (f y) ≡ size) x xs all in
@@ -113,28 +119,34 @@ parts_are_whole size a (suc n) bytes =
 -- ---- the laws
 
 sizes : (m : Image) → IsImage m → All (λ p. length (content_at m p) ≡ m.table.page_size) (places m.table)
-sizes m is = All-weaker (IsPlace m.table) (λ p. length (content_at m p) ≡ m.table.page_size) (λ p at. content_size m p is at) (places m.table) (all_places m.table)
+sizes m is = All-weaker (IsPlace m.table) (λ p. length (content_at m p) ≡ m.table.page_size) (λ p at. content_size m p is at)
+    (places m.table) (all_places m.table)
 
 -- a place of the table is in the list of places where its page stands in the file
-place_found : (table : RamTable) (p : Place) → IsPlace table p → (pages_before table.blocks p < length (places table)) × (get_or (places table) (pages_before table.blocks p) p ≡ p)
+place_found : (table : RamTable) (p : Place) → IsPlace table p
+    → (pages_before table.blocks p < length (places table)) × (get_or (places table) (pages_before table.blocks p) p ≡ p)
 place_found table p at =
     let ps : List Place = places table in
     let some = Any-from_list_any (λ q. place_eq q p) ps (has_place-places table p at) in
     let found : get_or ps some.0 some.1 ≡ p = some.3 ∙ place_eq-true some.1 p some.4 in
     let number : pages_before table.blocks p ≡ some.0 =
     ap (pages_before table.blocks) (sym found) ∙ sym (get_or-map (pages_before table.blocks) ps some.0 some.1 0 some.2)
-    ∙ ap (λ (l : List ℕ). get_or l some.0 0) (place_numbers table) ∙ get_or-range_with_len 0 (total_pages table.blocks) some.0 0 (let lt = some.2 in let len = length-places table in omega (arith, lt, len)) ∙ omega arith in
+    ∙ ap (λ (l : List ℕ). get_or l some.0 0) (place_numbers table)
+    ∙ get_or-range_with_len 0 (total_pages table.blocks) some.0 0 (let lt = some.2 in let len = length-places table in omega (arith, lt, len)) ∙ omega arith in
     (let lt = some.2 in omega (arith, number, lt), ap (λ (i : ℕ). get_or ps i p) number ∙ get_or_default ps some.0 p some.1 some.2 ∙ found)
 
+-- the bytes that are written of a memory are read as that memory
 pub image_is_read_back : ImageIsReadBack
 image_is_read_back m is =
     let table : RamTable = m.table in
     let bytes : List ℕ = image_bytes m in
-    let len : length bytes ≡ file_len table = sizes_joined (content_at m) table.page_size (places table) (sizes m is) ∙ ap (λ (k : ℕ). k * table.page_size) (length-places table) in
+    let len : length bytes ≡ file_len table = sizes_joined (content_at m) table.page_size (places table) (sizes m is)
+    ∙ ap (λ (k : ℕ). k * table.page_size) (length-places table) in
     sym (is_read table bytes m len (image_is m is ∙ image_agree table (content_at m) (λ p. part_at table.page_size bytes (pages_before table.blocks p)) (λ p at.
     let found = place_found table p at in
     sym (part_joined (content_at m) table.page_size (places table) (pages_before table.blocks p) p (sizes m is) found.0 ∙ ap (content_at m) found.1))))
 
+-- a memory that was read of a file's bytes is written as these bytes
 pub file_is_written_back : FileIsWrittenBack
 file_is_written_back table bytes m read = elim (cases_Bool (length bytes == file_len table)) [
   | inr f ↦ (let none : None ≡ Some m = sym (cond-false (length bytes == file_len table) (Some (file_image table bytes)) None f) ∙ read in absurd cc)
@@ -147,7 +159,8 @@ file_is_written_back table bytes m read = elim (cases_Bool (length bytes == file
       let part : Place → List ℕ = λ p. part_at size bytes (pages_before table.blocks p) in
       ap image_bytes (sym is)
       ∙ flat_map_agree (content_at (file_image table bytes)) part (places table)
-      (All-weaker (IsPlace table) (λ p. content_at (file_image table bytes) p ≡ part p) (λ p at. content_at-image_of table part p at) (places table) (all_places table))
+      (All-weaker (IsPlace table) (λ p. content_at (file_image table bytes) p ≡ part p)
+      (λ p at. content_at-image_of table part p at) (places table) (all_places table))
       ∙ sym (flat_map-map (part_at size bytes) (pages_before table.blocks) (places table))
       ∙ ap (flat_map (part_at size bytes)) (place_numbers table)
       ∙ parts_are_whole size 0 (total_pages table.blocks) bytes

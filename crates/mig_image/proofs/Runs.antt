@@ -16,10 +16,14 @@ of_kind true wanted same e = refl
 of_kind false true same e = cc
 of_kind false false same e = e
 
-after_page : (bytes rest after : List ℕ) (k : ℕ) → length rest ≤ length bytes → k ≤ length rest → after ≡ drop k rest → run_of bytes after ≡ run_of bytes rest + k
-after_page bytes rest after k within fits is = let len : length after ≡ length rest - k = ap (λ l. length l) is ∙ length-drop k rest in omega (arith, len, within, fits)
+after_page : (bytes rest after : List ℕ) (k : ℕ) → length rest ≤ length bytes → k ≤ length rest → after ≡ drop k rest
+    → run_of bytes after ≡ run_of bytes rest + k
+after_page bytes rest after k within fits is = let len : length after ≡ length rest - k = ap (λ l. length l) is
+    ∙ length-drop k rest in omega (arith, len, within, fits)
 
-pub rest_after : (bytes rest after : List ℕ) (k : ℕ) → length rest ≤ length bytes → k ≤ length rest → rest ≡ drop (run_of bytes rest) bytes → after ≡ drop k rest
+-- an end of some bytes is still an end of them with its first k bytes taken off
+pub rest_after : (bytes rest after : List ℕ) (k : ℕ) → length rest ≤ length bytes → k ≤ length rest
+    → rest ≡ drop (run_of bytes rest) bytes → after ≡ drop k rest
     → (length after ≤ length bytes) × (after ≡ drop (run_of bytes after) bytes)
 rest_after bytes rest after k within fits from is =
     let len : length after ≡ length rest - k = ap (λ l. length l) is ∙ length-drop k rest in (
@@ -27,10 +31,13 @@ rest_after bytes rest after k within fits from is =
       is ∙ ap (drop k) from ∙ drop-drop k (run_of bytes rest) bytes ∙ ap (λ (n : ℕ). drop n bytes) (sym (after_page bytes rest after k within fits is)),
     )
 
-pub zeros_after : (bytes rest page after : List ℕ) (k : ℕ) → length rest ≤ length bytes → k ≤ length rest → rest ≡ drop (run_of bytes rest) bytes → page ≡ take k rest → after ≡ drop k rest
+-- if all bytes before an end are zeros, and its first k are, so are all before what is left of it
+pub zeros_after : (bytes rest page after : List ℕ) (k : ℕ) → length rest ≤ length bytes → k ≤ length rest
+    → rest ≡ drop (run_of bytes rest) bytes → page ≡ take k rest → after ≡ drop k rest
     → IsZero (take (run_of bytes rest) bytes) → IsZero page → IsZero (take (run_of bytes after) bytes)
 zeros_after bytes rest page after k within fits from front is before here =
     let n : ℕ = run_of bytes rest in
     let joined : take n bytes ++ page ≡ take (run_of bytes after) bytes =
-    ap (λ l. take n bytes ++ l) (front ∙ ap (take k) from) ∙ sym (take-add n k bytes) ∙ ap (λ (i : ℕ). take i bytes) (sym (after_page bytes rest after k within fits is)) in
+    ap (λ l. take n bytes ++ l) (front ∙ ap (take k) from) ∙ sym (take-add n k bytes)
+    ∙ ap (λ (i : ℕ). take i bytes) (sym (after_page bytes rest after k within fits is)) in
     subst IsZero joined (All-append (λ b. b ≡ 0) (take n bytes) page before here)

@@ -4,7 +4,7 @@ use Rattle.std.specs.Prelude.{if◌then◌else◌, IsTrue, IsFalse, IfSome, zip,
 use Rattle.std.specs.List.{AllZip, All, flat_map, range_with_len, list_all}
 use Rattle.std.specs.Option.{option_and_then, option_map_or, is_some}
 use Rattle.std.proofs.Math.ListN.{get_or-eq_default}
-use Rattle.std.proofs.lemmas.Bool.{cases_Bool, cases_order, and_parts}
+use Rattle.std.proofs.lemmas.Bool.{cases_Bool, cases_order, and_parts, or_right}
 use Rattle.std.proofs.lemmas.List.{append-nil, length-map, map-append}
 use Rattle.std.proofs.lemmas.List.Concat.{flat_map-append}
 use Rattle.std.proofs.lemmas.List.Folds.{list_any_none}
@@ -30,7 +30,7 @@ use Rattle.mig_assemble.specs.declared.fault.RoundFault.{RoundFault}
 use Rattle.mig_assemble.specs.Judging.{refusal, place_fault, packet_pages, places_of, numbers}
 use Rattle.mig_assemble.specs.Arrivals.{Arrival, Records, OnePacket, records_in, packets_in, pages_that_came}
 use Rattle.mig_assemble.specs.NamedPlaces.{HasPlaces, AddsArrivals}
-use Rattle.mig_assemble.proofs.Arriving.{came_in_order}
+use Rattle.mig_assemble.proofs.Arriving.{came_in_order, packets_push}
 use Rattle.mig_assemble.proofs.Bags.{SameBag, bag_permutation, bag_length, bag_behind, bag_flat_map}
 use Rattle.mig_assemble.proofs.OrderFree.{last_at-same, lawful_once}
 use Rattle.mig_assemble.proofs.Lawful.{lawful_lies_right}
@@ -50,22 +50,24 @@ use Rattle.mig_in_place.specs.Round.{KeptRound, Keeps, AlsoKeeps}
 use Rattle.mig_in_place.specs.Sources.{at_next_round, channel_count, IsChannelOf, KeptMain, KeptChannel, HoldsMain, HoldsChannel, HoldsRound, WritesPages, HasTakenRecords, StandsAt, so_far_of, heads_given, heads_begun, packets_given, pages_given, pages_begun, named_places, head_places, rounds_come}
 use Rattle.mig_in_place.specs.Session.{InPlaceLoad, IsRunning, Loading, Loads, IsDue, PassesAt, IsMainOf, records_come}
 use Rattle.mig_in_place.proofs.Channels.{rounds_are}
-use Rattle.mig_in_place.proofs.Keeping.{packets_push, same_table}
+use Rattle.mig_in_place.proofs.Keeping.{same_table}
 use Rattle.mig_answer.proofs.NamedRounds.{rounds_more}
 use Rattle.mig_in_place.proofs.MissingPages.{has_same, bag_places, heads_places}
 use Rattle.mig_in_place.proofs.Lawful.{packets_of, heads_whole, fields_mapped, main_whole, channels_have, has_table, judged_as, all_packets, all_records}
 use Rattle.mig_in_place.proofs.Mains.{same_found}
-use Rattle.mig_in_place.proofs.NamedSoFar.{in_second, or_left, or_right}
+use Rattle.mig_in_place.proofs.NamedSoFar.{in_second, or_left}
 
 -- ---- the pages of a round that all sources have
 
 abbrev pub pages_of : RamTable → List ℕ → List Page
 pages_of table packet = packet_pages table (fields_of table.page_size packet)
 
-all_given : (given : Settings) (table : RamTable) (k : ℕ) (texts : List Text) (gave : List GivenSoFar) (channels : List KeptChannel) (readings : List ChannelReading) → IsPageSize given.page_size
+all_given : (given : Settings) (table : RamTable) (k : ℕ) (texts : List Text) (gave : List GivenSoFar) (channels : List
+    KeptChannel) (readings : List ChannelReading) → IsPageSize given.page_size
     → length gave ≡ length texts → AllZip (λ c kept. HoldsChannel given table k c.0 c.1 kept) (zip texts gave) channels
     → AllZip (λ (text : Text) (reading : ChannelReading). IsReading given text.bytes text.ended reading) texts readings
-    → All (λ (r : ChannelReading). k < length r.rounds) readings → flat_map (pages_given table k) gave ≡ flat_map (packet_pages table) (flat_map (channel_packets_at table.page_size k) readings)
+    → All (λ (r : ChannelReading). k < length r.rounds) readings
+    → flat_map (pages_given table k) gave ≡ flat_map (packet_pages table) (flat_map (channel_packets_at table.page_size k) readings)
 all_given given table k [] [] channels [] size many holds are all = refl
 all_given given table k [] [] channels (r ∷ readings) size many holds are all = absurd are
 all_given given table k [] (g ∷ gave) channels readings size many holds are all = absurd (omega (arith, many))
@@ -74,14 +76,16 @@ all_given given table k (text ∷ texts) (g ∷ gave) [] readings size many hold
 all_given given table k (text ∷ texts) (g ∷ gave) (c ∷ channels) [] size many holds are all = absurd are
 all_given given table k (text ∷ texts) (g ∷ gave) (c ∷ channels) (r ∷ readings) size many holds are all =
     let here = heads_whole given table k text g c r size holds.0 are.0 (All-head (λ (x : ChannelReading). k < length x.rounds) r readings all) in
-    let bytes : packets_given k g ≡ packets_of k r = sym (append-nil (packets_given k g)) ∙ ap (λ (o : Option OpenPacket). packets_given k g ++ heads_begun o) (sym here.2) ∙ here.1 in
+    let bytes : packets_given k g ≡ packets_of k r = sym (append-nil (packets_given k g))
+    ∙ ap (λ (o : Option OpenPacket). packets_given k g ++ heads_begun o) (sym here.2) ∙ here.1 in
     let mine : pages_given table k g ≡ flat_map (packet_pages table) (channel_packets_at table.page_size k r) =
     ap (λ (o : Option OpenPacket). flat_map (pages_of table) (packets_given k g) ++ pages_begun table o) here.2
     ∙ append-nil (flat_map (pages_of table) (packets_given k g))
     ∙ ap (λ (l : List (List ℕ)). flat_map (pages_of table) l) bytes ∙ sym (mapped (packets_of k r)) in
     ap (λ (l : List Page). l ++ flat_map (pages_given table k) gave) mine
     ∙ ap (λ (l : List Page). flat_map (packet_pages table) (channel_packets_at table.page_size k r) ++ l)
-    (all_given given table k texts gave channels readings size (omega (arith, many)) holds.1 are.1 (All-tail (λ (x : ChannelReading). k < length x.rounds) r readings all))
+    (all_given given table k texts gave channels readings size (omega (arith, many)) holds.1 are.1
+    (All-tail (λ (x : ChannelReading). k < length x.rounds) r readings all))
     ∙ sym (flat_map-append (packet_pages table) (channel_packets_at table.page_size k r) (flat_map (channel_packets_at table.page_size k) readings))
   where
     mapped : (packets : List (List ℕ)) → flat_map (packet_pages table) (map (fields_of table.page_size) packets) ≡ flat_map (pages_of table) packets
@@ -131,9 +135,11 @@ module _ (f : Loading) (memory : Image) (s : InPlaceLoad) (loads : Loads f memor
   -- no page is misplaced
   pub right : IsFalse s.round.has_misplaced
   right =
-      let all : All (λ q. place_fault table q ≡ None) (packets_in holds.arrivals) = lawful_lies_right table s.base (records_in holds.arrivals) (packets_in holds.arrivals) lawful in
+      let all : All (λ q. place_fault table q ≡ None) (packets_in holds.arrivals) =
+      lawful_lies_right table s.base (records_in holds.arrivals) (packets_in holds.arrivals) lawful in
       let sound : All (λ q. is_some (place_fault table q) ≡ false) (packets_in holds.arrivals) =
-      All-weaker (λ q. place_fault table q ≡ None) (λ q. is_some (place_fault table q) ≡ false) (λ q none. ap (λ (o : Option RoundFault). is_some o) none) (packets_in holds.arrivals) all in
+      All-weaker (λ q. place_fault table q ≡ None) (λ q. is_some (place_fault table q) ≡ false)
+      (λ q none. ap (λ (o : Option RoundFault). is_some o) none) (packets_in holds.arrivals) all in
       holds.keeps.has_misplaced ∙ list_any_none (λ (q : Fields). is_some (place_fault table q)) (packets_in holds.arrivals) sound
 
   all_pages : IsPermutation holds.written (pages_at table k r.readings)
@@ -141,10 +147,12 @@ module _ (f : Loading) (memory : Image) (s : InPlaceLoad) (loads : Loads f memor
       let records : records_come table.page_size k r.readings s.sources.main ≡ record_pages_at table.page_size k r.readings =
       ap (λ (b : Bool). if b then record_pages_at table.page_size k r.readings else []) (main_whole f memory s loads due) in
       let packets : flat_map (pages_given table k) r.gave ≡ flat_map (packet_pages table) (packets_at table.page_size k r.readings) =
-      all_given channel_given table k f.texts.channels r.gave s.sources.channels r.readings.channels loads.is_table.has_page_size r.as_many r.channels r.are_readings.has_channels
+      all_given channel_given table k f.texts.channels r.gave s.sources.channels r.readings.channels loads.is_table.has_page_size
+      r.as_many r.channels r.are_readings.has_channels
       (channels_have f memory s loads due) in
       subst (λ (l : List Page). IsPermutation holds.written l)
-      (ap (λ (l : List Page). l ++ flat_map (pages_given table k) r.gave) records ∙ ap (λ (l : List Page). record_pages_at table.page_size k r.readings ++ l) packets)
+      (ap (λ (l : List Page). l ++ flat_map (pages_given table k) r.gave) records
+      ∙ ap (λ (l : List Page). record_pages_at table.page_size k r.readings ++ l) packets)
       (holds.are_all right)
 
   -- the memory has the round
@@ -153,11 +161,14 @@ module _ (f : Loading) (memory : Image) (s : InPlaceLoad) (loads : Loads f memor
       let pages : List Page = pages_at table k r.readings in
       let bag : SameBag holds.written pages = bag_permutation holds.written pages all_pages in
       let same_refusal : refusal table (base_at k r.readings) (record_pages_at table.page_size k r.readings) (packets_at table.page_size k r.readings) ≡ None =
-      subst (λ (o : Option RamTable). option_and_then (λ t. refusal t (base_at k r.readings) (record_pages_at t.page_size k r.readings) (packets_at t.page_size k r.readings)) o ≡ None)
+      subst (λ (o : Option RamTable). option_and_then
+      (λ t. refusal t (base_at k r.readings) (record_pages_at t.page_size k r.readings) (packets_at t.page_size k r.readings)) o ≡ None)
       (has_table f memory s loads due) lawful_here in
-      let once = lawful_once table (base_at k r.readings) (record_pages_at table.page_size k r.readings) (packets_at table.page_size k r.readings) same_refusal in
+      let once = lawful_once table (base_at k r.readings) (record_pages_at table.page_size k r.readings)
+      (packets_at table.page_size k r.readings) same_refusal in
       holds.has_memory
-      ∙ image_agree kept.table (λ p. option_map_or (λ (x : Page). x.content) (last_at p holds.written) (content_at kept p)) (λ p. option_map_or (λ (x : Page). x.content) (last_at p pages) (content_at kept p))
+      ∙ image_agree kept.table (λ p. option_map_or (λ (x : Page). x.content) (last_at p holds.written) (content_at kept p))
+      (λ p. option_map_or (λ (x : Page). x.content) (last_at p pages) (content_at kept p))
       (λ p _. ap (λ (o : Option Page). option_map_or (λ (x : Page). x.content) o (content_at kept p)) (last_at-same p holds.written pages bag once))
       ∙ sym (onto-push f.first (map (λ i. pages_at table i r.readings) (range_with_len 0 k)) pages)
       ∙ ap (λ (l : List (List Page)). with_rounds f.first l) (sym (map-range_with_len_more (λ i. pages_at table i r.readings) 0 k k (omega arith)))
@@ -188,7 +199,8 @@ module _ (f : Loading) (memory : Image) (s : InPlaceLoad) (loads : Loads f memor
       let before : List Place = places_in_rounds table k r.readings in
       let last : List Place = places_of (pages_at table k r.readings) in
       subst (λ (l : List Place). HasPlaces table l named) (sym (rounds_more table k r.readings))
-      (has_same table before (places_of (pages_that_came table holds.arrivals)) last named came_named (adds table before holds.arrivals holds.keeps.has_come r.has_named))
+      (has_same table before (places_of (pages_that_came table holds.arrivals)) last named came_named
+      (adds table before holds.arrivals holds.keeps.has_come r.has_named))
 
   -- nothing more was written
   pub put_nothing : rounds_onto f.first (k + 1) r.readings ≡ with_round (rounds_onto f.first (k + 1) r.readings) []
@@ -223,9 +235,11 @@ module _ (f : Loading) (memory : Image) (s : InPlaceLoad) (loads : Loads f memor
 -- ---- the next round begins
 
 -- each channel goes on
-channels_next : (given : Settings) (table : RamTable) (k : ℕ) (texts : List Text) (gave : List GivenSoFar) (channels : List KeptChannel) (readings : List ChannelReading) → IsPageSize given.page_size
+channels_next : (given : Settings) (table : RamTable) (k : ℕ) (texts : List Text) (gave : List GivenSoFar) (channels : List
+    KeptChannel) (readings : List ChannelReading) → IsPageSize given.page_size
     → length gave ≡ length texts → AllZip (λ c kept. HoldsChannel given table k c.0 c.1 kept) (zip texts gave) channels
-    → AllZip (λ (text : Text) (reading : ChannelReading). IsReading given text.bytes text.ended reading) texts readings → All (λ (r : ChannelReading). k < length r.rounds) readings
+    → AllZip (λ (text : Text) (reading : ChannelReading). IsReading given text.bytes text.ended reading) texts readings
+    → All (λ (r : ChannelReading). k < length r.rounds) readings
     → AllZip (λ c kept. HoldsChannel given table (k + 1) c.0 c.1 kept) (zip texts gave) (map at_next_round channels)
     × (flat_map (heads_given (k + 1)) gave ≡ []) × (flat_map (pages_given table (k + 1)) gave ≡ []) × AllZip WritesPages gave (map at_next_round channels)
 channels_next given table k [] [] [] readings size many holds are all = (tt, refl, refl, tt)
@@ -236,13 +250,16 @@ channels_next given table k (text ∷ texts) (g ∷ gave) [] readings size many 
 channels_next given table k (text ∷ texts) (g ∷ gave) (c ∷ channels) [] size many holds are all = absurd are
 channels_next given table k (text ∷ texts) (g ∷ gave) (c ∷ channels) (r ∷ readings) size many holds are all =
     let whole = heads_whole given table k text g c r size holds.0 are.0 (All-head (λ (x : ChannelReading). k < length x.rounds) r readings all) in
-    let rest = channels_next given table k texts gave channels readings size (omega (arith, many)) holds.1 are.1 (All-tail (λ (x : ChannelReading). k < length x.rounds) r readings all) in
+    let rest = channels_next given table k texts gave channels readings size (omega (arith, many)) holds.1 are.1
+    (All-tail (λ (x : ChannelReading). k < length x.rounds) r readings all) in
     let h : HoldsChannel given table k text g c = holds.0 in
     let count : length g.read.rounds ≡ k + 1 = h.has_rounds ∙ ap (rounds_come k) whole.0 in
     let none : packets_given (k + 1) g ≡ [] = get_or-eq_default g.read.rounds g.read.packets (omega (arith, count)) ∙ whole.3 in
-    let heads : heads_given (k + 1) g ≡ [] = ap (λ (o : Option OpenPacket). packets_given (k + 1) g ++ heads_begun o) whole.2 ∙ ap (λ (l : List (List ℕ)). l ++ []) none in
+    let heads : heads_given (k + 1) g ≡ [] = ap (λ (o : Option OpenPacket). packets_given (k + 1) g ++ heads_begun o) whole.2
+    ∙ ap (λ (l : List (List ℕ)). l ++ []) none in
     let pages : pages_given table (k + 1) g ≡ [] =
-    ap (λ (o : Option OpenPacket). flat_map (pages_of table) (packets_given (k + 1) g) ++ pages_begun table o) whole.2 ∙ ap (λ (l : List (List ℕ)). flat_map (pages_of table) l ++ []) none in (
+    ap (λ (o : Option OpenPacket). flat_map (pages_of table) (packets_given (k + 1) g) ++ pages_begun table o) whole.2
+    ∙ ap (λ (l : List (List ℕ)). flat_map (pages_of table) l ++ []) none in (
       (
         record {
           gives = h.gives;
@@ -266,14 +283,17 @@ channels_next given table k (text ∷ texts) (g ∷ gave) (c ∷ channels) (r �
 pub own_named : (pages : List Page) (N : List Place) → All (λ page. IsTrue (has_place (places_of pages ++ N) page.place)) pages
 own_named [] N = All-nil (λ page. IsTrue (has_place N page.place))
 own_named (x ∷ pages) N =
-    All-cons (λ page. IsTrue (has_place (places_of (x ∷ pages) ++ N) page.place)) x pages (or_left (place_eq x.place x.place) (has_place (places_of pages ++ N) x.place) (place_eq-from x.place x.place refl))
+    All-cons (λ page. IsTrue (has_place (places_of (x ∷ pages) ++ N) page.place)) x pages
+    (or_left (place_eq x.place x.place) (has_place (places_of pages ++ N) x.place) (place_eq-from x.place x.place refl))
     (All-weaker (λ page. IsTrue (has_place (places_of pages ++ N) page.place)) (λ page. IsTrue (has_place (places_of (x ∷ pages) ++ N) page.place))
     (λ page t. or_right (place_eq x.place page.place) (has_place (places_of pages ++ N) page.place) t) pages (own_named pages N))
 
 -- the records of a round are added to one that has none
-pub records_added : (table : RamTable) (kept : Image) (k : ℕ) (pages : List Page) (channels : List GivenSoFar) (r after : KeptRound) (memory changed : Image) → AlsoKeeps (Records pages) r after
+pub records_added : (table : RamTable) (kept : Image) (k : ℕ) (pages : List Page) (channels : List GivenSoFar)
+    (r after : KeptRound) (memory changed : Image) → AlsoKeeps (Records pages) r after
     → after.has_misplaced ≡ r.has_misplaced → (IsFalse r.has_misplaced → changed ≡ with_round memory pages) → (IsTrue r.has_misplaced → changed ≡ memory)
-    → HoldsRound table kept k (record { records = []; channels = channels }) r memory → HoldsRound table kept k (record { records = pages; channels = channels }) after changed
+    → HoldsRound table kept k (record { records = []; channels = channels }) r memory
+    → HoldsRound table kept k (record { records = pages; channels = channels }) after changed
 records_added table kept k pages channels r after memory changed also misplaced put same holds =
     let N : List Place = flat_map (head_places table) (flat_map (heads_given k) channels) in
     let more : List Arrival = holds.arrivals ++ Records pages ∷ [] in
@@ -282,7 +302,8 @@ records_added table kept k pages channels r after memory changed also misplaced 
     let has_packets : IsPermutation (packets_in more) (map as_zeros (flat_map (heads_given k) channels)) =
     subst (λ (l : List Fields). IsPermutation l (map as_zeros (flat_map (heads_given k) channels))) (sym packets) holds.has_packets in
     let named : All (λ page. IsTrue (has_place (places_of pages ++ N) page.place)) holds.written =
-    All-weaker (λ page. IsTrue (has_place N page.place)) (λ page. IsTrue (has_place (places_of pages ++ N) page.place)) (λ page t. in_second (places_of pages) N page.place t) holds.written holds.are_named in
+    All-weaker (λ page. IsTrue (has_place N page.place)) (λ page. IsTrue (has_place (places_of pages ++ N) page.place))
+    (λ page t. in_second (places_of pages) N page.place t) holds.written holds.are_named in
     elim (cases_Bool r.has_misplaced) [
       | inl wrong ↦ record {
         arrivals = more;
@@ -302,8 +323,10 @@ records_added table kept k pages channels r after memory changed also misplaced 
         written = holds.written ++ pages;
         has_memory = put right ∙ ap (λ (m : Image). with_round m pages) holds.has_memory ∙ put_after kept holds.written pages;
         are_named = All-append (λ page. IsTrue (has_place (places_of pages ++ N) page.place)) holds.written pages named (own_named pages N);
-        are_all = λ _. IsPermutation-trans (holds.written ++ pages) (flat_map (pages_given table k) channels ++ pages) (pages ++ flat_map (pages_given table k) channels)
-            (IsPermutation-append_left pages holds.written (flat_map (pages_given table k) channels) (holds.are_all right)) (IsPermutation-append_comm (flat_map (pages_given table k) channels) pages);
+        are_all = λ _. IsPermutation-trans (holds.written ++ pages) (flat_map (pages_given table k) channels ++ pages)
+            (pages ++ flat_map (pages_given table k) channels)
+            (IsPermutation-append_left pages holds.written (flat_map (pages_given table k) channels) (holds.are_all right))
+            (IsPermutation-append_comm (flat_map (pages_given table k) channels) pages);
       }
     ]
   where
@@ -313,7 +336,8 @@ records_added table kept k pages channels r after memory changed also misplaced 
     records_more (OnePacket q ∷ came) = records_more came
 
 -- the records that a main stream gave are those of its reading
-records_are : (given : LoadSettings) (size k : ℕ) (text : Text) (readings : Readings) (records : List PageRecord) → IsPageSize given.page_size → given.page_size ≡ size → IsMainReading given text readings.main
+records_are : (given : LoadSettings) (size k : ℕ) (text : Text) (readings : Readings) (records : List PageRecord)
+    → IsPageSize given.page_size → given.page_size ≡ size → IsMainReading given text readings.main
     → HasRound (main_of given) text.bytes k records → map (page_of given.page_size) records ≡ record_pages_at size k readings
 records_are given size k text readings records is_size same is has =
     let rounds : readings.main.rounds ≡ has.0.rounds = ap (λ (x : StreamReading). x.rounds) (same_found given text has.0 readings.main is_size has.1 is) in
@@ -321,10 +345,13 @@ records_are given size k text readings records is_size same is has =
     ap (λ (n : ℕ). map (page_of n) records) same ∙ ap (λ (l : List PageRecord). map (page_of size) l) (sym here)
 
 -- what the main stream gave is taken
-pub main_taken : (given : LoadSettings) (table : RamTable) (kept : Image) (k : ℕ) (text : Text) (readings : Readings) (gave : List GivenSoFar) (m next : KeptMain) (r after : KeptRound) (memory changed : Image)
-    → IsPageSize given.page_size → given.page_size ≡ table.page_size → IsMainReading given text readings.main → StandsAt (main_of given) k text m → IsFalse m.is_whole
+pub main_taken : (given : LoadSettings) (table : RamTable) (kept : Image) (k : ℕ) (text : Text) (readings : Readings) (gave : List
+    GivenSoFar) (m next : KeptMain) (r after : KeptRound) (memory changed : Image)
+    → IsPageSize given.page_size → given.page_size ≡ table.page_size → IsMainReading given text readings.main
+    → StandsAt (main_of given) k text m → IsFalse m.is_whole
     → HasTakenRecords (main_of given) k text m r memory next after changed → HoldsRound table kept k (record { records = []; channels = gave }) r memory
-    → HoldsMain (main_of given) k text next × HoldsRound table kept k (record { records = records_come table.page_size k readings next; channels = gave }) after changed × (after.has_misplaced ≡ r.has_misplaced)
+    → HoldsMain (main_of given) k text next × HoldsRound table kept k
+    (record { records = records_come table.page_size k readings next; channels = gave }) after changed × (after.has_misplaced ≡ r.has_misplaced)
 main_taken given table kept k text readings gave m next r after memory changed size same is stands open_ taken holds = elim taken [
   | inl none ↦
       let at : HoldsMain (main_of given) k text m = record { stands = stands; has_none = none.3 } in
@@ -332,15 +359,19 @@ main_taken given table kept k text readings gave m next r after memory changed s
       let here : HoldsRound table kept k (record { records = records_come table.page_size k readings m; channels = gave }) r memory =
       subst (λ (l : List Page). HoldsRound table kept k (record { records = l; channels = gave }) r memory) (sym come) holds in (
         subst (λ (x : KeptMain). HoldsMain (main_of given) k text x) (sym none.0) at,
-        subst (λ (x : KeptMain). HoldsRound table kept k (record { records = records_come table.page_size k readings x; channels = gave }) after changed) (sym none.0)
-            (subst (λ (x : KeptRound). HoldsRound table kept k (record { records = records_come table.page_size k readings m; channels = gave }) x changed) (sym none.1)
-            (subst (λ (x : Image). HoldsRound table kept k (record { records = records_come table.page_size k readings m; channels = gave }) r x) (sym none.2) here)),
+        subst (λ (x : KeptMain). HoldsRound table kept k
+            (record { records = records_come table.page_size k readings x; channels = gave }) after changed) (sym none.0)
+            (subst (λ (x : KeptRound). HoldsRound table kept k
+            (record { records = records_come table.page_size k readings m; channels = gave }) x changed) (sym none.1)
+            (subst (λ (x : Image). HoldsRound table kept k
+            (record { records = records_come table.page_size k readings m; channels = gave }) r x) (sym none.2) here)),
         ap (λ (x : KeptRound). x.has_misplaced) none.1,
       )
   | inr t ↦
       let pages : List Page = map (page_of given.page_size) t.records in
       let come : records_come table.page_size k readings next ≡ pages =
-      ap (λ (b : Bool). if b then record_pages_at table.page_size k readings else []) t.is_whole ∙ sym (records_are given table.page_size k text readings t.records size same is t.has_records) in
+      ap (λ (b : Bool). if b then record_pages_at table.page_size k readings else []) t.is_whole
+      ∙ sym (records_are given table.page_size k text readings t.records size same is t.has_records) in
       let here : HoldsRound table kept k (record { records = pages; channels = gave }) after changed =
       records_added table kept k pages gave r after memory changed t.also t.same_misplaced t.right t.wrong holds in (
         record { stands = t.stands; has_none = λ f. absurd (let whole = t.is_whole in cc) },
@@ -355,9 +386,11 @@ main_taken given table kept k text readings gave m next r after memory changed s
 pub stands_next : (f : Loading) (memory : Image) (s : InPlaceLoad) (loads : Loads f memory s) (due : IsDue f s.rounds)
     → StandsAt (main_of (for_table f.first.table f.given)) (s.rounds + 1) f.texts.main (record s.sources.main { is_whole = false })
 stands_next f memory s loads due =
-    subst (λ (n : ℕ). Stands (main_of (for_table f.first.table f.given)) (so_far_of f.texts.main n) s.sources.main.reader) (ap (rounds_come s.rounds) (main_whole f memory s loads due))
+    subst (λ (n : ℕ). Stands (main_of (for_table f.first.table f.given)) (so_far_of f.texts.main n) s.sources.main.reader)
+    (ap (rounds_come s.rounds) (main_whole f memory s loads due))
     loads.is_running.main.stands
 
+-- a main stream of the memory's table, or of none yet, stays so at the next round
 pub next_main : (table : RamTable) (m : KeptMain) → IsMainOf table m → IsMainOf table (record m { is_whole = false })
 next_main _ m is = record {
   given = is.given;
@@ -369,6 +402,7 @@ next_main _ m is = record {
   is_own = is.is_own;
 }
 
+-- the channels of a load into a table's memory stay so at the next round
 pub next_channels : (table : RamTable) (channels : List KeptChannel) → All (IsChannelOf table) channels → All (IsChannelOf table) (map at_next_round channels)
 next_channels t [] all = All-nil (IsChannelOf t)
 next_channels t (c ∷ channels) all =
@@ -377,13 +411,18 @@ next_channels t (c ∷ channels) all =
     (record { given = is.given; text = is.text; so_far = is.so_far; has_page_size = is.has_page_size; gives = is.gives; has_block = is.has_block })
     (next_channels t channels (All-tail (IsChannelOf t) c channels all))
 
+-- going on to the next round changes no count of a channel
 pub next_counts : (channels : List KeptChannel) → map channel_count (map at_next_round channels) ≡ map channel_count channels
 next_counts [] = refl
 next_counts (c ∷ channels) = ap (λ (l : List Count). channel_count c ∷ l) (next_counts channels)
 
-pub advanced : (f : Loading) (memory : Image) (s : InPlaceLoad) (loads : Loads f memory s) (due : IsDue f s.rounds) (passing : PassesAt f s.rounds) (cleared after : KeptRound) (next : KeptMain) (changed : Image) (base : ℕ) (named : PlaceSet)
+-- once a due round has passed, the load goes on with that round counted, and with the main
+-- stream's next records taken, if they are complete
+pub advanced : (f : Loading) (memory : Image) (s : InPlaceLoad) (loads : Loads f memory s) (due : IsDue f
+    s.rounds) (passing : PassesAt f s.rounds) (cleared after : KeptRound) (next : KeptMain) (changed : Image) (base : ℕ) (named : PlaceSet)
     → Keeps s.round.arrivals.seen.table [] cleared → AddsArrivals s.round.arrivals s.named named → base ≡ s.base + length s.round.arrivals.numbers
-    → HasTakenRecords (main_of (for_table f.first.table f.given)) (s.rounds + 1) f.texts.main (record s.sources.main { is_whole = false }) cleared memory next after changed
+    → HasTakenRecords (main_of (for_table f.first.table f.given)) (s.rounds + 1) f.texts.main
+    (record s.sources.main { is_whole = false }) cleared memory next after changed
     → Loads f changed (record {
       table = s.table;
       sources = record { main = next; channels = map at_next_round s.sources.channels };
@@ -401,7 +440,8 @@ advanced f memory s loads due passing cleared after next changed base named keep
     let size : IsPageSize given.page_size = loads.is_table.has_page_size in
     let known = has_table f memory s loads due in
     let holds = r.own known in
-    let channels = channels_next (channel_of given f.uuid (length f.texts.channels)) table k f.texts.channels r.gave s.sources.channels r.readings.channels size r.as_many r.channels
+    let channels = channels_next (channel_of given f.uuid (length f.texts.channels)) table k f.texts.channels r.gave
+    s.sources.channels r.readings.channels size r.as_many r.channels
     r.are_readings.has_channels (channels_have f memory s loads due) in
     let seen : s.round.arrivals.seen.table ≡ table = same_table table holds.arrivals s.round.arrivals holds.keeps.has_come in
     let begun : HoldsRound table (rounds_onto f.first (k + 1) r.readings) (k + 1) (record { records = []; channels = r.gave }) cleared memory = record {
@@ -415,7 +455,8 @@ advanced f memory s loads due passing cleared after next changed base named keep
       are_all = λ _. subst (λ (l : List Page). IsPermutation [] l) (sym channels.2) (IsPermutation-refl []);
     } in
     let stands : StandsAt (main_of given) (k + 1) f.texts.main (record s.sources.main { is_whole = false }) = stands_next f memory s loads due in
-    let main = main_taken given table (rounds_onto f.first (k + 1) r.readings) (k + 1) f.texts.main r.readings r.gave (record s.sources.main { is_whole = false }) next cleared after memory changed size refl
+    let main = main_taken given table (rounds_onto f.first (k + 1) r.readings) (k + 1) f.texts.main r.readings r.gave
+    (record s.sources.main { is_whole = false }) next cleared after memory changed size refl
     r.are_readings.has_main stands refl taken begun in
     let no : r.readings.main.table ≡ None → ⊥ = λ none. (let clash : None ≡ Some table = sym none ∙ known in cc) in
     record {
@@ -444,25 +485,32 @@ advanced f memory s loads due passing cleared after next changed base named keep
 
 -- ---- no round is due right after another
 
+-- at the next round no channel has that round complete
 pub next_open : (channels : List KeptChannel) → All (λ c. IsFalse c.is_whole) (map at_next_round channels)
 next_open [] = All-nil (λ (c : KeptChannel). IsFalse c.is_whole)
 next_open (c ∷ channels) = All-cons (λ (c : KeptChannel). IsFalse c.is_whole) (at_next_round c) (map at_next_round channels) refl (next_open channels)
 
-none_has : (given : Settings) (t : RamTable) (k : ℕ) (texts : List Text) (gave : List GivenSoFar) (channels : List KeptChannel) (readings : List ChannelReading) → IsPageSize given.page_size → 1 ≤ length texts
+none_has : (given : Settings) (t : RamTable) (k : ℕ) (texts : List Text) (gave : List GivenSoFar) (channels : List
+    KeptChannel) (readings : List ChannelReading) → IsPageSize given.page_size → 1 ≤ length texts
     → length gave ≡ length texts → AllZip (λ c kept. HoldsChannel given t k c.0 c.1 kept) (zip texts gave) channels
-    → AllZip (λ (text : Text) (reading : ChannelReading). IsReading given text.bytes text.ended reading) texts readings → All (λ (r : ChannelReading). k < length r.rounds) readings
+    → AllZip (λ (text : Text) (reading : ChannelReading). IsReading given text.bytes text.ended reading) texts readings
+    → All (λ (r : ChannelReading). k < length r.rounds) readings
     → All (λ c. IsFalse c.is_whole) channels → ⊥
 none_has given t k [] gave channels readings size some many holds are all open_ = omega (arith, some)
 none_has given t k (text ∷ texts) [] channels readings size some many holds are all open_ = omega (arith, many)
 none_has given t k (text ∷ texts) (g ∷ gave) [] readings size some many holds are all open_ = holds
 none_has given t k (text ∷ texts) (g ∷ gave) (c ∷ channels) [] size some many holds are all open_ = are
 none_has given t k (text ∷ texts) (g ∷ gave) (c ∷ channels) (r ∷ readings) size some many holds are all open_ =
-    let count : length r.rounds ≡ k = rounds_are given t k text g c r size holds.0 are.0 ∙ ap (rounds_come k) (All-head (λ (c : KeptChannel). IsFalse c.is_whole) c channels open_) in
+    let count : length r.rounds ≡ k = rounds_are given t k text g c r size holds.0 are.0
+    ∙ ap (rounds_come k) (All-head (λ (c : KeptChannel). IsFalse c.is_whole) c channels open_) in
     let below = All-head (λ (x : ChannelReading). k < length x.rounds) r readings all in omega (arith, count, below)
 
-pub never_twice : (f : Loading) (memory : Image) (s : InPlaceLoad) (loads : Loads f memory s) → All (λ c. IsFalse c.is_whole) s.sources.channels → IsDue f s.rounds → ⊥
+-- a round that no channel has complete isn't due
+pub never_twice : (f : Loading) (memory : Image) (s : InPlaceLoad) (loads : Loads f memory s)
+    → All (λ c. IsFalse c.is_whole) s.sources.channels → IsDue f s.rounds → ⊥
 never_twice f memory s loads open_ due =
     let given : LoadSettings = for_table f.first.table f.given in
     let r : IsRunning given f.uuid f.first f.texts memory s = loads.is_running in
-    none_has (channel_of given f.uuid (length f.texts.channels)) f.first.table s.rounds f.texts.channels r.gave s.sources.channels r.readings.channels loads.is_table.has_page_size r.has_channel r.as_many r.channels
+    none_has (channel_of given f.uuid (length f.texts.channels)) f.first.table s.rounds f.texts.channels r.gave s.sources.channels
+    r.readings.channels loads.is_table.has_page_size r.has_channel r.as_many r.channels
     r.are_readings.has_channels (channels_have f memory s loads due) open_

@@ -4,7 +4,7 @@ use Rattle.std.proofs.Common.{ℕ, ◌≡◌, ◌≢◌, Bool, true, false, List
 use Rattle.std.specs.Prelude.{if◌then◌else◌, ◌⊎◌, IsTrue, IsFalse, zip}
 use Rattle.std.specs.List.{All, AllZip, flat_map, list_all, range_with_len}
 use Rattle.std.proofs.lemmas.Bool.{cases_Bool, cases_order, and_parts}
-use Rattle.std.proofs.lemmas.List.{append-nil, length-map}
+use Rattle.std.proofs.lemmas.List.{append-nil, length-map, nil_from_length}
 use Rattle.std.proofs.lemmas.List.Elements.{All-head}
 use Rattle.mig_mem.specs.PageSize.{IsPageSize}
 use Rattle.mig_mem.specs.declared.place.Place.{Place}
@@ -45,10 +45,6 @@ use Rattle.mig_in_place.proofs.Done.{own_or_other}
 use Rattle.mig_in_place.proofs.NamedSoFar.{channel_has}
 use Rattle.mig_in_place.proofs.Exact.{exact_law}
 
-none_left : {X : Type 0} (xs : List X) → length xs ≡ 0 → xs ≡ []
-none_left [] e = refl
-none_left (x ∷ xs) e = absurd cc
-
 none_written : (pages : List Page) (places : List Place) → places ≡ [] → All (λ page. IsTrue (has_place places page.place)) pages → pages ≡ []
 none_written [] places none all = refl
 none_written (x ∷ pages) places none all = absurd (
@@ -62,7 +58,8 @@ rounds_stay first rounds = put_after first (all_pages rounds) [] ∙ ap (λ (l :
 
 -- ---- while it runs
 
-module _ (f : Loading) (memory : Image) (s : InPlaceLoad) (loads : Loads f memory s) (none : length s.round.arrivals.numbers ≡ 0) (open_ : IsFalse s.sources.main.is_whole) where
+module _ (f : Loading) (memory : Image) (s : InPlaceLoad) (loads : Loads f memory s) (none : length s.round.arrivals.numbers
+    ≡ 0) (open_ : IsFalse s.sources.main.is_whole) where
   abbrev given : LoadSettings
   given = for_table f.first.table f.given
 
@@ -76,19 +73,21 @@ module _ (f : Loading) (memory : Image) (s : InPlaceLoad) (loads : Loads f memor
   table = f.first.table
 
   -- the round names no place
-  names_none : (holds : HoldsRound table (rounds_onto f.first k r.readings) k (record { records = records_come table.page_size k r.readings s.sources.main; channels = r.gave }) s.round memory)
+  names_none : (holds : HoldsRound table (rounds_onto f.first k r.readings) k
+      (record { records = records_come table.page_size k r.readings s.sources.main; channels = r.gave }) s.round memory)
       → named_places table k (record { records = records_come table.page_size k r.readings s.sources.main; channels = r.gave }) ≡ []
   names_none holds =
       let came : List Fields = packets_in holds.arrivals in
       let H : List (List ℕ) = flat_map (heads_given k) r.gave in
-      let records : records_come table.page_size k r.readings s.sources.main ≡ [] = ap (λ (b : Bool). if b then record_pages_at table.page_size k r.readings else []) open_ in
+      let records : records_come table.page_size k r.readings s.sources.main ≡ [] =
+      ap (λ (b : Bool). if b then record_pages_at table.page_size k r.readings else []) open_ in
       let counted : length came ≡ length s.round.arrivals.numbers =
       sym (length-map came (λ (q : Fields). q.number))
       ∙ bag_length (numbers came) s.round.arrivals.numbers (bag_permutation (numbers came) s.round.arrivals.numbers holds.keeps.has_come.has_numbers) in
       let heads : length H ≡ 0 =
       sym (length-map H as_zeros) ∙ sym (bag_length came (map as_zeros H) (bag_permutation came (map as_zeros H) holds.has_packets)) ∙ counted ∙ none in
       ap (λ (l : List Page). places_of l ++ flat_map (head_places table) H) records
-      ∙ ap (λ (l : List (List ℕ)). flat_map (head_places table) l) (none_left H heads)
+      ∙ ap (λ (l : List (List ℕ)). flat_map (head_places table) l) (nil_from_length H heads)
 
   pub has_rounds_alone : memory ≡ rounds_onto f.first k r.readings
   has_rounds_alone = elim r.is_own [
@@ -98,12 +97,15 @@ module _ (f : Loading) (memory : Image) (s : InPlaceLoad) (loads : Loads f memor
     | inr own ↦
         let holds = r.own own in
         let nothing : holds.written ≡ [] =
-        none_written holds.written (named_places table k (record { records = records_come table.page_size k r.readings s.sources.main; channels = r.gave })) (names_none holds) holds.are_named in
+        none_written holds.written (named_places table k
+        (record { records = records_come table.page_size k r.readings s.sources.main; channels = r.gave })) (names_none holds) holds.are_named in
         holds.has_memory ∙ ap (λ (l : List Page). with_round (rounds_onto f.first k r.readings) l) nothing
         ∙ rounds_stay f.first (map (λ i. pages_at table i r.readings) (range_with_len 0 k))
   ]
 
-pub all_in : (f : Loading) (memory : Image) (s : InPlaceLoad) (status : Status) (loads : Loads f memory s) → TellsMainStatus s.sources.main status → (IsTrue s.sources.main.is_whole → status ≡ Whole)
+-- with a clean main stream, and no packet of a further round, all rounds are in
+pub all_in : (f : Loading) (memory : Image) (s : InPlaceLoad) (status : Status) (loads : Loads f memory s)
+    → TellsMainStatus s.sources.main status → (IsTrue s.sources.main.is_whole → status ≡ Whole)
     → is_clean status ≡ true → length s.round.arrivals.numbers ≡ 0 → HasAllRounds (for_table f.first.table f.given) f.uuid f.first f.texts memory s.rounds
 all_in f memory s status loads tells whole clean none =
     let given : LoadSettings = for_table f.first.table f.given in
@@ -128,7 +130,8 @@ all_in f memory s status loads tells whole clean none =
 -- ---- while more may come
 
 -- some channel gave a head
-some_has : (given : channel.Settings) (table : RamTable) (k : ℕ) (texts : List Text) (gave : List GivenSoFar) (channels : List KeptChannel) → length gave ≡ length texts
+some_has : (given : channel.Settings) (table : RamTable) (k : ℕ) (texts : List Text) (gave : List GivenSoFar) (channels : List
+    KeptChannel) → length gave ≡ length texts
     → AllZip (λ c kept. HoldsChannel given table k c.0 c.1 kept) (zip texts gave) channels → flat_map (heads_given k) gave ≢ [] → SomeHasPacket given k texts
 some_has given table k texts [] channels same holds some = absurd (some refl)
 some_has given table k [] (g ∷ gave) channels same holds some = absurd (omega (arith, same))
@@ -136,11 +139,16 @@ some_has given table k (text ∷ texts) (g ∷ gave) [] same holds some = absurd
 some_has given table k (text ∷ texts) (g ∷ gave) (c ∷ channels) same holds some =
     by_heads (heads_given k g) refl (λ none. some_has given table k texts gave channels (omega (arith, same)) holds.1 none)
   where
-    by_heads : (heads : List (List ℕ)) → heads_given k g ≡ heads → (flat_map (heads_given k) gave ≢ [] → SomeHasPacket given k texts) → SomeHasPacket given k (text ∷ texts)
+    by_heads : (heads : List (List ℕ)) → heads_given k g ≡ heads
+        → (flat_map (heads_given k) gave ≢ [] → SomeHasPacket given k texts) → SomeHasPacket given k (text ∷ texts)
     by_heads [] none later =
         let rest = later (λ e. some (ap (λ (l : List (List ℕ)). l ++ flat_map (heads_given k) gave) none ∙ e)) in
         (rest.0, contains_later text texts rest.0 rest.1, rest.2)
-    by_heads (head ∷ heads) is later = (text, contains_here text texts, channel_has given table k text g c holds.0 (λ e. let clash : head ∷ heads ≡ [] = sym is ∙ e in cc))
+    by_heads (head ∷ heads) is later = (
+      text,
+      contains_here text texts,
+      channel_has given table k text g c holds.0 (λ e. let clash : head ∷ heads ≡ [] = sym is ∙ e in cc),
+    )
 
 -- the round has packets, so a channel has one
 round_has : (f : Loading) (memory : Image) (s : InPlaceLoad) → Loads f memory s → length s.round.arrivals.numbers ≢ 0
@@ -159,9 +167,11 @@ round_has f memory s loads some =
           sym (bag_length (numbers came) s.round.arrivals.numbers (bag_permutation (numbers came) s.round.arrivals.numbers holds.keeps.has_come.has_numbers))
           ∙ length-map came (λ (q : Fields). q.number)
           ∙ bag_length came (map as_zeros heads) (bag_permutation came (map as_zeros heads) holds.has_packets) ∙ length-map heads as_zeros in
-          some_has _ f.first.table s.rounds f.texts.channels r.gave s.sources.channels r.as_many r.channels (λ none. some (counted ∙ ap (λ (l : List (List ℕ)). length l) none))
+          some_has _ f.first.table s.rounds f.texts.channels r.gave s.sources.channels r.as_many r.channels
+          (λ none. some (counted ∙ ap (λ (l : List (List ℕ)). length l) none))
     ]
 
+-- if a packet of the current round has arrived, more rounds may come
 pub packets_come : (f : Loading) (memory : Image) (s : InPlaceLoad) → Loads f memory s → length s.round.arrivals.numbers ≢ 0
     → MoreMayCome (for_table f.first.table f.given) f.uuid f.texts s.rounds
 packets_come f memory s loads some = record {
@@ -173,17 +183,21 @@ packets_come f memory s loads some = record {
 not_closed : (k : ℕ) (r : StreamReading) → is_clean (main_status k r) ≡ false → (r.state ≢ stream_state.Closed) ⊎ (length r.rounds ≢ k)
 not_closed k r unclean = elim (cases_order k (length r.rounds)) [
   | inl e ↦ inl (λ closed.
-      let clean : is_clean (main_status k r) ≡ true = ap is_clean (status_end k (length r.rounds) (stream_end r.state) e) ∙ ap (λ (t : StreamState). is_clean (stream_end t)) closed in
+      let clean : is_clean (main_status k r) ≡ true = ap is_clean (status_end k (length r.rounds) (stream_end r.state) e)
+      ∙ ap (λ (t : StreamState). is_clean (stream_end t)) closed in
       let clash : false ≡ true = sym unclean ∙ clean in cc)
   | inr ne ↦ inr (λ e. elim ne [ inl lt ↦ omega (arith, lt, e) | inr gt ↦ omega (arith, gt, e) ])
 ]
 
-pub main_goes_on : (f : Loading) (memory : Image) (s : InPlaceLoad) (status : Status) → Loads f memory s → TellsMainStatus s.sources.main status → is_clean status ≡ false
+-- while the main stream isn't clean, more rounds may come
+pub main_goes_on : (f : Loading) (memory : Image) (s : InPlaceLoad) (status : Status) → Loads f memory s
+    → TellsMainStatus s.sources.main status → is_clean status ≡ false
     → MoreMayCome (for_table f.first.table f.given) f.uuid f.texts s.rounds
 main_goes_on f memory s status loads tells unclean =
     let given : LoadSettings = for_table f.first.table f.given in
     let r : IsRunning given f.uuid f.first f.texts memory s = loads.is_running in
-    let here : status ≡ main_status s.rounds r.readings.main = tells given s.rounds f.texts.main r.readings.main loads.is_table.has_page_size r.main r.are_readings.has_main in
+    let here : status ≡ main_status s.rounds r.readings.main =
+    tells given s.rounds f.texts.main r.readings.main loads.is_table.has_page_size r.main r.are_readings.has_main in
     record {
       readings = r.readings;
       are_readings = r.are_readings;
@@ -192,7 +206,9 @@ main_goes_on f memory s status loads tells unclean =
 
 -- ---- once it is done
 
-pub done_has_all : (given : LoadSettings) (uuid : List ℕ) (first : Image) (texts : Texts) (memory : Image) (k : ℕ) → IsTable first.table → IsImage first → IsImage memory
+-- if the verdict is Done, all rounds are in
+pub done_has_all : (given : LoadSettings) (uuid : List ℕ) (first : Image) (texts : Texts) (memory : Image) (k : ℕ)
+    → IsTable first.table → IsImage first → IsImage memory
     → IsInPlaceAnswer given uuid first texts memory k Done → HasAllRounds (for_table first.table given) uuid first texts memory k
 done_has_all given uuid first texts memory k is_table is_image is_memory here = elim (own_or_other first here.readings.main) [
   | inr other ↦ absurd (let bad = (here.other other).has_verdict in cc)

@@ -46,7 +46,9 @@ not_closed false stream_state.Closed e closed = absurd cc
 not_closed over stream_state.Reading e closed = absurd cc
 not_closed over (stream_state.Bad f) e closed = absurd cc
 
-pub takes_open : (given : LoadSettings) (uuid : List ℕ) (first : Image) (texts : Texts) (memory : Image) (load : InPlaceLoad) → StandsFor given uuid first texts memory load → Takes source.Main memory load
+-- a main stream of which a load takes bytes isn't closed
+pub takes_open : (given : LoadSettings) (uuid : List ℕ) (first : Image) (texts : Texts) (memory : Image) (load : InPlaceLoad)
+    → StandsFor given uuid first texts memory load → Takes source.Main memory load
     → HasClosedAt (main_of (for_table first.table given)) texts.main.bytes None
 takes_open given uuid first texts memory load stands t =
     let full : LoadSettings = for_table first.table given in
@@ -72,7 +74,17 @@ first_piece given main none =
     record {
       before = [];
       has_text = sym none;
-      was_open = (record { table = None; rounds = []; state = stream_state.Reading }, record { to = begin; rest = []; reads = reads_short begin [] (omega arith); has_table = refl; has_rounds = refl }, λ e. absurd cc);
+      was_open = (
+        record { table = None; rounds = []; state = stream_state.Reading },
+        record {
+          to = begin;
+          rest = [];
+          reads = reads_short begin [] (omega arith);
+          has_table = refl;
+          has_rounds = refl;
+        },
+        λ e. absurd cc,
+      );
     }
 
 -- none of the last piece was taken
@@ -81,20 +93,25 @@ none_of_it given text main none unclosed =
     record { before = text; has_text = sym (append-nil text) ∙ ap (λ (l : List ℕ). text ++ l) (sym none); was_open = unclosed }
 
 -- a piece is read, or waits
-pub with_bytes_read : (given : Settings) (text : List ℕ) (old full : KeptSource) → HasBytes old full → HasClosedAt given text None → EndsWithTaken given text old → EndsWithTaken given text full
+pub with_bytes_read : (given : Settings) (text : List ℕ) (old full : KeptSource) → HasBytes old full → HasClosedAt given text None
+    → EndsWithTaken given text old → EndsWithTaken given text full
 with_bytes_read given text old full has unclosed ends = elim has [
   | inl had ↦ subst (λ (s : KeptSource). EndsWithTaken given text s) (sym had.1) ends
   | inr fills ↦ none_of_it given text full fills.none_taken unclosed
 ]
 
-pub with_failed_read : (given : Settings) (text : List ℕ) (old new : KeptSource) → FailsToRead old new → HasClosedAt given text None → EndsWithTaken given text old → EndsWithTaken given text new
+-- a main stream that isn't closed, and ends with the bytes taken of its source's last piece, still
+-- does after a failed read
+pub with_failed_read : (given : Settings) (text : List ℕ) (old new : KeptSource) → FailsToRead old new
+    → HasClosedAt given text None → EndsWithTaken given text old → EndsWithTaken given text new
 with_failed_read given text old new fails unclosed ends = elim fails.reads_on [
   | inl read ↦ none_of_it given text new read.0 unclosed
   | inr none ↦ subst (λ (s : KeptSource). EndsWithTaken given text s) (sym none.1) ends
 ]
 
 -- the first n of its bytes are taken
-pub with_bytes_taken : (given : Settings) (text : List ℕ) (full : KeptSource) (n : ℕ) → EndsWithTaken given text full → EndsWithTaken given (text ++ take n full.waiting) (without_first n full)
+pub with_bytes_taken : (given : Settings) (text : List ℕ) (full : KeptSource) (n : ℕ) → EndsWithTaken given text full
+    → EndsWithTaken given (text ++ take n full.waiting) (without_first n full)
 with_bytes_taken given text full n ends = record {
   before = ends.before;
   has_text = ap (λ (l : List ℕ). l ++ take n full.waiting) ends.has_text ∙ append_assoc ends.before full.taken (take n full.waiting);
@@ -111,9 +128,11 @@ closed_later : (given : Settings) (before more : List ℕ) (n : ℕ) → HasClos
 closed_later given before more n unclosed c = elim (cases_lt (length before) n) [
   | inl lt ↦ lt
   | inr le ↦ absurd (
-      let s : HasState given (take n before) false stream_state.Closed = subst (λ (l : List ℕ). HasState given l false stream_state.Closed) (take-append-le n before more le) c.is_closed in
+      let s : HasState given (take n before) false stream_state.Closed =
+      subst (λ (l : List ℕ). HasState given l false stream_state.Closed) (take-append-le n before more le) c.is_closed in
       let is : IsReading given (take n before) s.0 = s.1 in
-      let there : Reads (from given) (take n before) is.to is.rest stream_state.Closed = subst (λ (x : StreamState). Reads (from given) (take n before) is.to is.rest x) (sym s.2) is.reads in
+      let there : Reads (from given) (take n before) is.to is.rest stream_state.Closed =
+      subst (λ (x : StreamState). Reads (from given) (take n before) is.to is.rest x) (sym s.2) is.reads in
       let on = Reads-more (from given) (take n before) is.to is.rest (drop n before) stream_state.Closed (λ e. absurd cc) there in
       let whole : Reads (from given) before is.to (is.rest ++ drop n before) stream_state.Closed =
       subst (λ (x : List ℕ). Reads (from given) x is.to (is.rest ++ drop n before) stream_state.Closed) (take-append-drop n before) on in
@@ -128,7 +147,8 @@ rest_of : (items : List ℕ) (first a b : ℕ) → first ≤ a → a ≤ b → t
 rest_of items first a b le within =
     let there : a ≡ first + (a - first) = omega (arith, le) in
     let parts : b - first ≡ (a - first) + (b - a) = omega (arith, le, within) in
-    let front : drop first (take a items) ≡ take (a - first) (drop first items) = ap (λ (k : ℕ). drop first (take k items)) there ∙ drop-take first (a - first) items in
+    let front : drop first (take a items) ≡ take (a - first) (drop first items) = ap (λ (k : ℕ). drop first (take k items)) there
+    ∙ drop-take first (a - first) items in
     let rest : drop (a - first) (drop first items) ≡ drop a items = drop-drop (a - first) first items ∙ ap (λ (k : ℕ). drop k items) (sym there) in
     ap (λ (k : ℕ). take k (drop first items)) parts ∙ take-add (a - first) (b - a) (drop first items)
     ∙ ap (λ (l : List ℕ). take (a - first) (drop first items) ++ take (b - a) l) rest
@@ -136,7 +156,8 @@ rest_of items first a b le within =
 
 -- A source whose buffer has these bytes, of which those before a were taken, and those up to b wait.
 -- Its stream of so many bytes is closed by the first n of them.
-module _ (given : Settings) (text items : List ℕ) (main : KeptSource) (a b n : ℕ) (le : a ≤ b) (within : b ≤ length items) (taken : main.taken ≡ take a items) (waits : main.waiting ≡ take (b - a) (drop a items))
+module _ (given : Settings) (text items : List ℕ) (main : KeptSource)
+    (a b n : ℕ) (le : a ≤ b) (within : b ≤ length items) (taken : main.taken ≡ take a items) (waits : main.waiting ≡ take (b - a) (drop a items))
     (ends : EndsWithTaken given text main) (closed : IsClosedAt given text n) where
   pub behind_before : length ends.before < n
   behind_before = closed_later given ends.before main.taken n ends.was_open (subst (λ (l : List ℕ). IsClosedAt given l n) ends.has_text closed)
@@ -154,5 +175,9 @@ module _ (given : Settings) (text items : List ℕ) (main : KeptSource) (a b n :
       let cut : drop n text ≡ drop first (take a items) =
       ap (λ (l : List ℕ). drop n l) ends.has_text ∙ ap (λ (k : ℕ). drop k (ends.before ++ main.taken)) at
       ∙ sym (drop-drop first (length ends.before) (ends.before ++ main.taken))
-      ∙ ap (λ (l : List ℕ). drop first l) (drop_at ends.before main.taken (length ends.before) refl ∙ taken) in
-      (n, closed, rest_of items first a b (omega (arith, here)) le ∙ ap (λ (l : List ℕ). l ++ take (b - a) (drop a items)) (sym cut) ∙ ap (λ (l : List ℕ). drop n text ++ l) (sym waits))
+      ∙ ap (λ (l : List ℕ). drop first l) (drop_at ends.before main.taken (length ends.before) refl ∙ taken) in (
+        n,
+        closed,
+        rest_of items first a b (omega (arith, here)) le
+            ∙ ap (λ (l : List ℕ). l ++ take (b - a) (drop a items)) (sym cut) ∙ ap (λ (l : List ℕ). drop n text ++ l) (sym waits),
+      )

@@ -35,6 +35,7 @@ block_cases a b = elim (list_cases cases_eq a.id b.id) [
   ]
 ]
 
+-- two tables are equal or differ
 pub table_cases : (a b : RamTable) → (a ≡ b) ⊎ (a ≢ b)
 table_cases a b = elim (cases_eq a.page_size b.page_size) [
   | inr n ↦ inr (λ e. n (ap (λ (x : RamTable). x.page_size) e))
@@ -57,12 +58,14 @@ own_or_other first reading = go reading.table refl
 
 -- ---- the answer is that of any load
 
+-- a load in place has the rounds and the verdict of any load, unless the stream has another table
 pub alike_law : InPlaceTellsAlike
 alike_law given uuid first texts memory rounds verdict answer is_table here told not_other = elim (own_or_other first here.readings.main) [
   | inr other ↦ absurd (not_other (here.other other).has_verdict)
   | inl own ↦
       let own_answer = here.own own in
-      let same : here.readings ≡ told.readings = same_readings (for_table first.table given) uuid texts here.readings told.readings is_table.has_page_size here.are_readings told.are_readings in
+      let same : here.readings ≡ told.readings =
+      same_readings (for_table first.table given) uuid texts here.readings told.readings is_table.has_page_size here.are_readings told.are_readings in
       let stop : IsFirstStop told.readings rounds = subst (λ (r : Readings). IsFirstStop r rounds) same own_answer.has_rounds in
       let e : rounds ≡ answer.rounds = same_stop told.readings rounds answer.rounds stop told.has_rounds in (
         e,

@@ -24,6 +24,7 @@ use Rattle.mig_in_place.proofs.Done.{own_or_other}
 use Rattle.mig_in_place.proofs.Exact.{exact_law}
 use Rattle.mig_in_place.proofs.Waiting.{same_rounds_onto}
 
+-- a load that is done stays done
 pub stays_law : InPlaceDoneStays
 stays_law given uuid first old new memory k is_table is_image is_memory goes here = elim (own_or_other first here.readings.main) [
   | inr other ↦ absurd (let bad = (here.other other).has_verdict in cc)

@@ -32,23 +32,10 @@ use Rattle.mig_session.specs.declared.source.Source.{Source}
 use Rattle.mig_session.specs.declared.source.Source.TheVariants as source
 use Rattle.mig_session.specs.Session.{end_step, no_count}
 use Rattle.mig_session.proofs.Telling.{due_sources}
+use Rattle.mig_session.proofs.Sessions.{SameBytes, whole_below, all_bytes, same_at}
 use Rattle.mig_in_place.specs.Sources.{KeptChannel, IsChannelOf, channel_count}
 use Rattle.mig_in_place.specs.Session.{InPlaceLoad, Loading, Loads, Stands, IsDue}
-use Rattle.mig_in_place.proofs.Lawful.{has_it}
 use Rattle.mig_in_place.proofs.Waiting.{running_waits, not_all_whole}
-
--- the same bytes, ended or not
-abbrev pub SameBytes : Text → Text → Type 0
-SameBytes old new = new.bytes ≡ old.bytes
-
-pub all_same_bytes : (texts : List Text) → AllZip SameBytes texts texts
-all_same_bytes [] = tt
-all_same_bytes (text ∷ texts) = (refl, all_same_bytes texts)
-
-pub over_same : (texts : List Text) (j : ℕ) → AllZip SameBytes texts (set texts j (over (get_or texts j no_text)))
-over_same [] j = tt
-over_same (text ∷ texts) zero = (refl, all_same_bytes texts)
-over_same (text ∷ texts) (suc j) = (refl, over_same texts j)
 
 abbrev AreRead : Settings → List Text → List ChannelReading → Type 0
 AreRead given texts readings = AllZip (λ (text : Text) (reading : ChannelReading). IsReading given text.bytes text.ended reading) texts readings
@@ -60,24 +47,31 @@ both_true : (a b : Bool) → a ≡ true → b ≡ true → (a && b) ≡ true
 both_true true b t e = e
 both_true false b t e = absurd cc
 
-whole_before : (given : Settings) (k n : ℕ) (olds news : List Text) (befores nows : List ChannelReading) → AllZip SameBytes olds news → AreRead given olds befores → AreRead given news nows
-    → All IsWhole (map (standing k) (enumerate_from n nows)) → list_all (λ (s : Standing). is_whole s.status) (map (standing k) (enumerate_from n befores)) ≡ true
+whole_before : (given : Settings) (k n : ℕ) (olds news : List Text) (befores nows : List ChannelReading)
+    → AllZip SameBytes olds news → AreRead given olds befores → AreRead given news nows
+    → All IsWhole (map (standing k) (enumerate_from n nows))
+    → list_all (λ (s : Standing). is_whole s.status) (map (standing k) (enumerate_from n befores)) ≡ true
 whole_before given k n olds news [] nows same are_before are_now all = refl
 whole_before given k n [] news (b ∷ befores) nows same are_before are_now all = absurd are_before
 whole_before given k n (old ∷ olds) [] (b ∷ befores) nows same are_before are_now all = absurd same
 whole_before given k n (old ∷ olds) (new ∷ news) (b ∷ befores) [] same are_before are_now all = absurd are_now
 whole_before given k n (old ∷ olds) (new ∷ news) (b ∷ befores) (r ∷ nows) same are_before are_now all =
     let below : k < length r.rounds =
-    has_it k (length r.rounds) (channel_end r.state) (channel_ends r.state) (All-head IsWhole (standing k (n, r)) (map (standing k) (enumerate_from (n + 1) nows)) all) in
+    whole_below k (length r.rounds) (channel_end r.state) (channel_ends r.state)
+    (All-head IsWhole (standing k (n, r)) (map (standing k) (enumerate_from (n + 1) nows)) all) in
     let again : IsReading given old.bytes new.ended r = subst (λ (l : List ℕ). IsReading given l new.ended r) same.0 are_now.0 in
     let rounds : b.rounds ≡ r.rounds = (same_rounds given old.bytes old.ended new.ended b r are_before.0 again).0 in
     let count : length b.rounds ≡ length r.rounds = ap (λ (l : List (List (List ℕ))). length l) rounds in
     both_true (is_whole (channel_status k b)) (list_all (λ (s : Standing). is_whole s.status) (map (standing k) (enumerate_from (n + 1) befores)))
     (ap is_whole (status_whole k (length b.rounds) (channel_end b.state) (omega (arith, count, below))))
-    (whole_before given k (n + 1) olds news befores nows same.1 are_before.1 are_now.1 (All-tail IsWhole (standing k (n, r)) (map (standing k) (enumerate_from (n + 1) nows)) all))
+    (whole_before given k (n + 1) olds news befores nows same.1 are_before.1 are_now.1
+    (All-tail IsWhole (standing k (n, r)) (map (standing k) (enumerate_from (n + 1) nows)) all))
 
-pub never_due : (f : Loading) (memory after : Image) (s now : InPlaceLoad) (texts : Texts) → Stands f memory s → s.verdict ≡ Running → texts.main.bytes ≡ f.texts.main.bytes
-    → AllZip SameBytes f.texts.channels texts.channels → length texts.channels ≡ length f.texts.channels → now.rounds ≡ s.rounds → (loads : Loads (record f { texts = texts }) after now)
+-- if a load runs, its round isn't due on streams of the same bytes, whichever have ended
+pub never_due : (f : Loading) (memory after : Image) (s now : InPlaceLoad) (texts : Texts) → Stands f memory s
+    → s.verdict ≡ Running → texts.main.bytes ≡ f.texts.main.bytes
+    → AllZip SameBytes f.texts.channels texts.channels → length texts.channels ≡ length f.texts.channels → now.rounds ≡ s.rounds
+    → (loads : Loads (record f { texts = texts }) after now)
     → IsDue (record f { texts = texts }) now.rounds → ⊥
 never_due f memory after s now texts stands running main_same same many rounds loads due =
     let given : LoadSettings = for_table f.first.table f.given in
@@ -93,16 +87,22 @@ never_due f memory after s now texts stands running main_same same many rounds l
     let all : All IsWhole (sources_at k n) = (due_sources k n told).0 in
     let found = loads.is_running.are_readings.has_main in
     let one = one_reading_law (main_of given) f.texts.main.bytes size in
-    let here : IsStreamReading (main_of given) f.texts.main.bytes found.found = subst (λ (l : List ℕ). IsStreamReading (main_of given) l found.found) main_same found.is_reading in
-    let same_found : b.are_readings.has_main.found ≡ found.found = one.2 b.are_readings.has_main.found b.are_readings.has_main.is_reading ∙ sym (one.2 found.found here) in
+    let here : IsStreamReading (main_of given) f.texts.main.bytes found.found =
+    subst (λ (l : List ℕ). IsStreamReading (main_of given) l found.found) main_same found.is_reading in
+    let same_found : b.are_readings.has_main.found ≡ found.found =
+    one.2 b.are_readings.has_main.found b.are_readings.has_main.is_reading ∙ sym (one.2 found.found here) in
     let main_rounds : b.readings.main.rounds ≡ n.main.rounds =
-    ap (λ (x : StreamReading). x.rounds) b.are_readings.has_main.has_end ∙ ap (λ (x : StreamReading). x.rounds) same_found ∙ sym (ap (λ (x : StreamReading). x.rounds) found.has_end) in
+    ap (λ (x : StreamReading). x.rounds) b.are_readings.has_main.has_end ∙ ap (λ (x : StreamReading). x.rounds) same_found
+    ∙ sym (ap (λ (x : StreamReading). x.rounds) found.has_end) in
     let count : length b.readings.main.rounds ≡ length n.main.rounds = ap (λ (l : List (List PageRecord)). length l) main_rounds in
-    let below : k < length n.main.rounds = has_it k (length n.main.rounds) (stream_end n.main.state) (stream_ends n.main.state) (All-head IsWhole (main_at k n) (channels_at k n) all) in
-    let main_whole : is_whole (main_status k b.readings.main) ≡ true = ap is_whole (status_whole k (length b.readings.main.rounds) (stream_end b.readings.main.state) (omega (arith, count, below))) in
+    let below : k < length n.main.rounds = whole_below k (length n.main.rounds) (stream_end n.main.state)
+    (stream_ends n.main.state) (All-head IsWhole (main_at k n) (channels_at k n) all) in
+    let main_whole : is_whole (main_status k b.readings.main) ≡ true =
+    ap is_whole (status_whole k (length b.readings.main.rounds) (stream_end b.readings.main.state) (omega (arith, count, below))) in
     let channels : AreRead (channel_of given f.uuid (length f.texts.channels)) texts.channels n.channels =
     subst (λ (m : ℕ). AreRead (channel_of given f.uuid m) texts.channels n.channels) many loads.is_running.are_readings.has_channels in
-    let rest = whole_before (channel_of given f.uuid (length f.texts.channels)) k 0 f.texts.channels texts.channels b.readings.channels n.channels same b.are_readings.has_channels channels
+    let rest = whole_before (channel_of given f.uuid (length f.texts.channels)) k 0 f.texts.channels texts.channels
+    b.readings.channels n.channels same b.are_readings.has_channels channels
     (All-tail IsWhole (main_at k n) (channels_at k n) all) in
     let whole : list_all (λ (x : Standing). is_whole x.status) (sources_at k b.readings) ≡ true =
     both_true (is_whole (main_status k b.readings.main)) (list_all (λ (x : Standing). is_whole x.status) (channels_at k b.readings)) main_whole rest in
@@ -110,14 +110,22 @@ never_due f memory after s now texts stands running main_same same many rounds l
 
 -- ---- a source ends
 
-pub end_bytes : (from : Source) (texts : Texts) → ((end_step from texts).main.bytes ≡ texts.main.bytes) × AllZip SameBytes texts.channels (end_step from texts).channels
+-- the end of a source changes the bytes of no stream
+pub end_bytes : (from : Source) (texts : Texts)
+    → ((end_step from texts).main.bytes ≡ texts.main.bytes) × AllZip SameBytes texts.channels (end_step from texts).channels
     × (length (end_step from texts).channels ≡ length texts.channels)
-end_bytes source.Main texts = (refl, all_same_bytes texts.channels, refl)
-end_bytes (source.Channel j) texts = (refl, over_same texts.channels j, length-set texts.channels j (over (get_or texts.channels j no_text)))
+end_bytes source.Main texts = (refl, all_bytes texts.channels, refl)
+end_bytes (source.Channel j) texts = (refl, same_at j texts.channels, length-set texts.channels j (over (get_or texts.channels j no_text)))
 
+-- a stream goes on to itself ended
 pub ended_goes : (text : Text) → GoesOn text (over text)
-ended_goes text = record { more = []; has_bytes = sym (append-nil text.bytes); stays_ended = λ e. ap (λ (b : Bool). record { bytes = text.bytes; ended = b }) (sym e) }
+ended_goes text = record {
+  more = [];
+  has_bytes = sym (append-nil text.bytes);
+  stays_ended = λ e. ap (λ (b : Bool). record { bytes = text.bytes; ended = b }) (sym e);
+}
 
+-- a channel of a load into a table's memory stays so once its reader is ended
 pub ended_channel : (t : RamTable) (c : KeptChannel) → IsChannelOf t c → IsChannelOf t (record c { reader = record c.reader { ended = true } })
 ended_channel t c is =
     let g = is.gives in
@@ -141,10 +149,13 @@ ended_channel t c is =
       has_block = is.has_block;
     }
 
-pub channel_over : (channels : List KeptChannel) (j : ℕ) (q next : KeptChannel) → slice_get channels j ≡ Some q → next ≡ record q { reader = record q.reader { ended = true } }
+-- ending one channel's reader sets the end in its count, and changes no other count
+pub channel_over : (channels : List KeptChannel) (j : ℕ) (q next : KeptChannel) → slice_get channels j ≡ Some q
+    → next ≡ record q { reader = record q.reader { ended = true } }
     → map channel_count (set channels j next) ≡ set (map channel_count channels) j (record (get_or (map channel_count channels) j no_count) { ended = true })
 channel_over [] j q next is same = absurd cc
 channel_over (c ∷ channels) zero q next is same =
     let e : c ≡ q = cc in
-    ap (λ (x : KeptChannel). channel_count x ∷ map channel_count channels) same ∙ ap (λ (x : KeptChannel). record (channel_count x) { ended = true } ∷ map channel_count channels) (sym e)
+    ap (λ (x : KeptChannel). channel_count x ∷ map channel_count channels) same
+    ∙ ap (λ (x : KeptChannel). record (channel_count x) { ended = true } ∷ map channel_count channels) (sym e)
 channel_over (c ∷ channels) (suc j) q next is same = ap (λ (l : List Count). channel_count c ∷ l) (channel_over channels j q next is same)

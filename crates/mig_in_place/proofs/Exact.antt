@@ -54,29 +54,35 @@ main_is_not_single as_shown = refl
 none_here : {X : Type 0} (rounds : List (List X)) (k : ℕ) (in_hand : List X) → k ≡ length rounds → in_hand ≡ [] → round_so_far k rounds in_hand ≡ []
 none_here rounds k in_hand e none = get_or-eq_default rounds in_hand (omega (arith, e)) ∙ none
 
-main_names_none : (given : LoadSettings) (k : ℕ) (text : Text) (reading : StreamReading) (p : Place) → IsMainReading given text reading → k ≡ length reading.rounds
+main_names_none : (given : LoadSettings) (k : ℕ) (text : Text) (reading : StreamReading) (p : Place)
+    → IsMainReading given text reading → k ≡ length reading.rounds
     → is_clean (stream_end reading.state) ≡ true → MainNames (main_of given) k text.bytes p → ⊥
 main_names_none given k text reading p is e clean names =
     let mine = is.is_reading in
     let its = names.is_reading in
     let same = one_stream _ text.bytes its.to mine.to its.rest mine.rest names.reading.state is.found.state its.reads mine.reads in
-    let closed : is.found.state ≡ stream_state.Closed = stream_closed text.ended is.found.state (sym (ap (λ (r : StreamReading). is_clean (stream_end r.state)) is.has_end) ∙ clean) in
+    let closed : is.found.state ≡ stream_state.Closed =
+    stream_closed text.ended is.found.state (sym (ap (λ (r : StreamReading). is_clean (stream_end r.state)) is.has_end) ∙ clean) in
     let ends : Ends mine.to mine.rest stream_state.Closed = subst (λ (s : StreamState). Ends mine.to mine.rest s) closed mine.reads.ends in
-    let none : mine.to.records ≡ [] = closed_has_none given.frame (mode_of given.round_end) given.page_size given.limit given.waiting mine.reads.front mine.to (main_is_not_single given.round_end) mine.reads.leads ends in
+    let none : mine.to.records ≡ [] = closed_has_none given.frame
+    (mode_of given.round_end) given.page_size given.limit given.waiting mine.reads.front mine.to (main_is_not_single given.round_end) mine.reads.leads ends in
     let rounds : length names.reading.rounds ≡ k =
-    ap (λ (l : List (List PageRecord)). length l) (its.has_rounds ∙ ap (λ (c : StreamProgress). c.rounds) same.0 ∙ sym mine.has_rounds ∙ sym (ap (λ (r : StreamReading). r.rounds) is.has_end)) ∙ sym e in
+    ap (λ (l : List (List PageRecord)). length l)
+    (its.has_rounds ∙ ap (λ (c : StreamProgress). c.rounds) same.0 ∙ sym mine.has_rounds ∙ sym (ap (λ (r : StreamReading). r.rounds) is.has_end)) ∙ sym e in
     let here : round_so_far k names.reading.rounds its.to.records ≡ [] =
     none_here names.reading.rounds k its.to.records (sym rounds) (ap (λ (c : StreamProgress). c.records) same.0 ∙ none) in
     let t : has_place [] p ≡ true = subst (λ (l : List PageRecord). has_place (map (λ (r : PageRecord). r.place) l) p ≡ true) here names.has_record in absurd cc
 
-closed_is_used_up : (hello : Option ℕ) (rest : List ℕ) (packets : List (List ℕ)) → state_at_end hello rest packets ≡ channel_state.Closed → (rest ≡ []) × (packets ≡ [])
+closed_is_used_up : (hello : Option ℕ) (rest : List ℕ) (packets : List (List ℕ))
+    → state_at_end hello rest packets ≡ channel_state.Closed → (rest ≡ []) × (packets ≡ [])
 closed_is_used_up None rest packets e = absurd cc
 closed_is_used_up (Some id) (byte ∷ rest) packets e = absurd cc
 closed_is_used_up (Some id) [] (packet ∷ packets) e = absurd cc
 closed_is_used_up (Some id) [] [] e = (refl, refl)
 
 -- no byte closes a channel
-closed_at_end : (ended : Bool) (c : ChannelProgress) (rest : List ℕ) (found : ChannelState) → channel.Ends c rest found → channel.state_at ended c rest found ≡ channel_state.Closed
+closed_at_end : (ended : Bool) (c : ChannelProgress) (rest : List ℕ) (found : ChannelState) → channel.Ends c rest found
+    → channel.state_at ended c rest found ≡ channel_state.Closed
     → (rest ≡ []) × (c.packets ≡ [])
 closed_at_end true c rest channel_state.Reading ends e = closed_is_used_up c.hello rest c.packets e
 closed_at_end false c rest channel_state.Reading ends e = absurd cc
@@ -109,13 +115,15 @@ channel_names_none given table k text reading p size is clean names =
 abbrev standing_at : ℕ → (ℕ × ChannelReading) → Standing
 standing_at k c = record { source = origin.Channel c.0; status = channel_status k c.1 }
 
-channels_name_none : (given : Settings) (table : RamTable) (k n : ℕ) (texts : List Text) (readings : List ChannelReading) (p : Place) → IsPageSize given.page_size
+channels_name_none : (given : Settings) (table : RamTable)
+    (k n : ℕ) (texts : List Text) (readings : List ChannelReading) (p : Place) → IsPageSize given.page_size
     → AllZip (λ (text : Text) (reading : ChannelReading). IsReading given text.bytes text.ended reading) texts readings
     → list_all (λ (s : Standing). is_clean s.status) (map (standing_at k) (enumerate_from n readings)) ≡ true → SomeChannelNames given table k texts p → ⊥
 channels_name_none given table k n [] readings p size are clean names = let before : names.1.0 < 0 = names.1.1 in absurd (omega (arith, before))
 channels_name_none given table k n (text ∷ texts) [] p size are clean names = absurd are
 channels_name_none given table k n (text ∷ texts) (reading ∷ readings) p size are clean names =
-    let parts = and_parts (is_clean (channel_status k reading)) (list_all (λ (s : Standing). is_clean s.status) (map (standing_at k) (enumerate_from (n + 1) readings))) clean in
+    let parts = and_parts (is_clean (channel_status k reading))
+    (list_all (λ (s : Standing). is_clean s.status) (map (standing_at k) (enumerate_from (n + 1) readings))) clean in
     elim (contains_cases text texts names.0 names.1) [
       | inl e ↦ channel_names_none given table k text reading p size are.0 parts.0 (subst (λ (t : Text). ChannelNames given table k t p) (sym e) names.2)
       | inr later ↦ channels_name_none given table k (n + 1) texts readings p size are.1 parts.1 (names.0, later, names.2)
@@ -123,6 +131,7 @@ channels_name_none given table k n (text ∷ texts) (reading ∷ readings) p siz
 
 -- ---- the law
 
+-- a load that is done has all rounds on top of the earlier memory, and nothing else
 pub exact_law : InPlaceDoneIsExact
 exact_law given uuid first texts memory rounds is_table is_image is_memory here = elim (own_or_other first here.readings.main) [
   | inr other ↦ absurd (let bad = (here.other other).has_verdict in cc)
@@ -132,10 +141,12 @@ exact_law given uuid first texts memory rounds is_table is_image is_memory here 
       (done_is_clean rounds here.readings (sym mine.has_verdict)) in
       let main = clean_at rounds (length here.readings.main.rounds) (stream_end here.readings.main.state) all.0 in
       let page_given : LoadSettings = for_table first.table given in
-      let f : Place → List ℕ = λ p. option_map_or (λ (x : Page). x.content) (last_at p (all_pages (map (λ i. pages_at first.table i here.readings) (range_with_len 0 rounds)))) (content_at first p) in
+      let f : Place → List ℕ = λ p. option_map_or (λ (x : Page). x.content)
+      (last_at p (all_pages (map (λ i. pages_at first.table i here.readings) (range_with_len 0 rounds)))) (content_at first p) in
       let none : (p : Place) → IsNamed page_given uuid first.table rounds texts p → ⊥ = λ p names. elim names [
         | inl m ↦ main_names_none page_given rounds texts.main here.readings.main p here.are_readings.has_main main.0 main.1 m
-        | inr c ↦ channels_name_none (channel_of page_given uuid (length texts.channels)) first.table rounds 0 texts.channels here.readings.channels p is_table.has_page_size
+        | inr c ↦ channels_name_none (channel_of page_given uuid (length texts.channels)) first.table rounds 0 texts.channels
+            here.readings.channels p is_table.has_page_size
             here.are_readings.has_channels all.1 c
       ] in
       image_is memory is_memory

@@ -12,7 +12,9 @@ use Rattle.mig_in_place.specs.Sources.{KeptChannel, HasGiven, TellsChannelFault}
 abbrev AreRead : Settings → List Text → List ChannelReading → Type 0
 AreRead given texts readings = AllZip (λ (text : Text) (reading : ChannelReading). IsReading given text.bytes text.ended reading) texts readings
 
-pub fault_at : (given : Settings) (texts : List Text) (channels : List KeptChannel) (readings : List ChannelReading) (j : ℕ) (q : KeptChannel) (found : Option Fault) → IsPageSize given.page_size
+-- the fault that channel j's reader has of the bytes taken is the one of its reading
+pub fault_at : (given : Settings) (texts : List Text) (channels : List KeptChannel) (readings : List
+    ChannelReading) (j : ℕ) (q : KeptChannel) (found : Option Fault) → IsPageSize given.page_size
     → slice_get channels j ≡ Some q → AllZip (HasGiven given) texts channels → AreRead given texts readings → TellsChannelFault q found
     → found ≡ get_or (map (λ (r : ChannelReading). fault_of (channel_end r.state)) readings) j None
 fault_at given [] [] readings j q found size is gave are tells = absurd cc
@@ -21,4 +23,5 @@ fault_at given (text ∷ texts) [] readings j q found size is gave are tells = a
 fault_at given (text ∷ texts) (c ∷ channels) [] j q found size is gave are tells = absurd are
 fault_at given (text ∷ texts) (c ∷ channels) (r ∷ readings) zero q found size is gave are tells =
     tells given text r size (subst (λ (x : KeptChannel). HasGiven given text x) (let e : c ≡ q = cc in e) gave.0) are.0
-fault_at given (text ∷ texts) (c ∷ channels) (r ∷ readings) (suc j) q found size is gave are tells = fault_at given texts channels readings j q found size is gave.1 are.1 tells
+fault_at given (text ∷ texts) (c ∷ channels) (r ∷ readings) (suc j) q found size is gave are tells =
+    fault_at given texts channels readings j q found size is gave.1 are.1 tells

@@ -1,9 +1,9 @@
 -- A round that all sources have is judged by what is kept of it.
-use Rattle.std.proofs.Common.{ℕ, ◌≡◌, ◌+◌, ◌<◌, Bool, true, false, List, [], ◌∷◌, ◌++◌, length, map, get_or, Option, Some, None, refl, sym, ap, subst, ◌∙◌, inl, inr, arith}
+use Rattle.std.proofs.Common.{ℕ, ◌≡◌, ◌+◌, ◌<◌, Bool, false, List, [], ◌∷◌, ◌++◌, length, map, get_or, Option, Some, None, refl, sym, ap, subst, ◌∙◌, inl, inr, arith}
 use Rattle.std.specs.Prelude.{if◌then◌else◌, IsTrue, IsFalse, zip, IsPermutation}
 use Rattle.std.specs.List.{AllZip, All, flat_map, enumerate_from}
 use Rattle.std.specs.Option.{option_and_then}
-use Rattle.std.proofs.lemmas.Bool.{cases_Bool, cases_order}
+use Rattle.std.proofs.lemmas.Bool.{cases_Bool}
 use Rattle.std.proofs.lemmas.List.{append-nil, get_or_default, map-append}
 use Rattle.std.proofs.lemmas.List.Elements.{All-head, All-tail, All-nil, All-cons}
 use Rattle.mig_mem.specs.PageSize.{IsPageSize}
@@ -24,17 +24,17 @@ use Rattle.mig_single_load.specs.Settings.{main_of, for_table, channel_of}
 use Rattle.mig_single_load.specs.declared.settings.LoadSettings.{LoadSettings}
 use Rattle.mig_single_load.specs.declared.fault.Origin.TheVariants as origin
 use Rattle.mig_single_load.specs.declared.fault.Fault.TheVariants as fault
-use Rattle.mig_answer.specs.declared.status.Status.{Status}
-use Rattle.mig_answer.specs.Status.{status_at, channel_end, stream_end, channel_status, is_whole}
+use Rattle.mig_answer.specs.Status.{channel_end, stream_end, channel_status, is_whole}
 use Rattle.mig_answer.specs.Texts.{Text, Readings, AreReadings}
 use Rattle.mig_answer.specs.Rounds.{record_pages_at, channel_packets_at, base_at, refusal_at, refusal_of as refusal_of_table}
 use Rattle.mig_answer.specs.MultiLoad.{Standing, main_at, channels_at, passes, verdict_at, failed}
-use Rattle.mig_answer.proofs.Statuses.{status_end, stream_ends, channel_ends, status_behind}
+use Rattle.mig_answer.proofs.Statuses.{stream_ends, channel_ends}
 use Rattle.mig_answer.proofs.ToldSources.{told_at}
 use Rattle.mig_answer.proofs.Judged.{IsWhole}
 use Rattle.mig_answer.proofs.OneAnswer.{same_readings}
 use Rattle.mig_answer.proofs.GrowingMain.{main_table_first}
 use Rattle.mig_session.proofs.Telling.{due_sources, due_passes, due_refused}
+use Rattle.mig_session.proofs.Sessions.{whole_below}
 use Rattle.mig_in_place.specs.Answer.{rounds_onto}
 use Rattle.mig_packet.specs.PacketHead.{as_zeros}
 use Rattle.mig_in_place.specs.Round.{KeptRound, KeepsSame}
@@ -47,20 +47,14 @@ use Rattle.mig_in_place.proofs.Told.{stands_at}
 
 -- ---- a source that has the round
 
-pub has_it : (k n : ℕ) (end : Status) → is_whole end ≡ false → is_whole (status_at k n end) ≡ true → k < n
-has_it k n end open_ t = elim (cases_order k n) [
-  | inl e ↦ absurd (let bad : is_whole (status_at k n end) ≡ false = ap is_whole (status_end k n end e) ∙ open_ in cc)
-  | inr ne ↦ elim ne [
-    | inl lt ↦ lt
-    | inr gt ↦ absurd (let bad : is_whole (status_at k n end) ≡ false = ap is_whole (status_behind k n end gt) in cc)
-  ]
-]
-
 -- how many packets of the round a reading has, as bytes
 abbrev pub packets_of : ℕ → ChannelReading → List (List ℕ)
 packets_of k reading = get_or reading.rounds k []
 
-pub heads_whole : (given : Settings) (table : RamTable) (k : ℕ) (text : Text) (so_far : GivenSoFar) (c : KeptChannel) (reading : ChannelReading) → IsPageSize given.page_size
+-- a channel whose reading has round k has it complete: the heads given are the packets of that
+-- round, and no packet of the next one has begun
+pub heads_whole : (given : Settings) (table : RamTable) (k : ℕ) (text : Text) (so_far : GivenSoFar) (c : KeptChannel) (reading : ChannelReading)
+    → IsPageSize given.page_size
     → HoldsChannel given table k text so_far c → IsReading given text.bytes text.ended reading → k < length reading.rounds
     → IsTrue c.is_whole × (heads_given k so_far ≡ packets_of k reading) × (so_far.packet ≡ None) × (so_far.read.packets ≡ [])
 heads_whole given table k text so_far c reading size holds is below =
@@ -82,7 +76,8 @@ heads_whole given table k text so_far c reading size holds is below =
 abbrev AreRead : Settings → List Text → List ChannelReading → Type 0
 AreRead given texts readings = AllZip (λ (text : Text) (reading : ChannelReading). IsReading given text.bytes text.ended reading) texts readings
 
-all_heads : (given : Settings) (table : RamTable) (k : ℕ) (texts : List Text) (gave : List GivenSoFar) (channels : List KeptChannel) (readings : List ChannelReading) → IsPageSize given.page_size
+all_heads : (given : Settings) (table : RamTable) (k : ℕ) (texts : List Text) (gave : List GivenSoFar) (channels : List
+    KeptChannel) (readings : List ChannelReading) → IsPageSize given.page_size
     → length gave ≡ length texts → AllZip (λ c kept. HoldsChannel given table k c.0 c.1 kept) (zip texts gave) channels → AreRead given texts readings
     → All (λ (r : ChannelReading). k < length r.rounds) readings → flat_map (heads_given k) gave ≡ flat_map (packets_of k) readings
 all_heads given table k [] [] channels [] size many holds are all = refl
@@ -95,22 +90,31 @@ all_heads given table k (text ∷ texts) (g ∷ gave) (c ∷ channels) (r ∷ re
     let here = heads_whole given table k text g c r size holds.0 are.0 (All-head (λ (x : ChannelReading). k < length x.rounds) r readings all) in
     ap (λ (l : List (List ℕ)). l ++ flat_map (heads_given k) gave) here.1
     ∙ ap (λ (l : List (List ℕ)). packets_of k r ++ l)
-    (all_heads given table k texts gave channels readings size (omega (arith, many)) holds.1 are.1 (All-tail (λ (x : ChannelReading). k < length x.rounds) r readings all))
+    (all_heads given table k texts gave channels readings size (omega (arith, many)) holds.1 are.1
+    (All-tail (λ (x : ChannelReading). k < length x.rounds) r readings all))
 
 -- the standings of the channels are whole
-each_whole : (k n : ℕ) (readings : List ChannelReading) → All IsWhole (map (λ (c : ℕ × ChannelReading). record { source = origin.Channel c.0; status = channel_status k c.1 }) (enumerate_from n readings))
+each_whole : (k n : ℕ) (readings : List ChannelReading)
+    → All IsWhole (map (λ (c : ℕ × ChannelReading). record { source = origin.Channel c.0; status = channel_status k c.1 }) (enumerate_from n readings))
     → All (λ (r : ChannelReading). k < length r.rounds) readings
 each_whole k n [] all = All-nil (λ (r : ChannelReading). k < length r.rounds)
 each_whole k n (r ∷ readings) all =
-    let more : List Standing = map (λ (c : ℕ × ChannelReading). record { source = origin.Channel c.0; status = channel_status k c.1 }) (enumerate_from (n + 1) readings) in
+    let more : List Standing = map (λ (c : ℕ × ChannelReading). record {
+      source = origin.Channel c.0;
+      status = channel_status k c.1;
+    }) (enumerate_from (n + 1) readings) in
     let one : Standing = record { source = origin.Channel n; status = channel_status k r } in
     All-cons (λ (x : ChannelReading). k < length x.rounds) r readings
-    (has_it k (length r.rounds) (channel_end r.state) (channel_ends r.state) (All-head IsWhole one more all)) (each_whole k (n + 1) readings (All-tail IsWhole one more all))
+    (whole_below k (length r.rounds) (channel_end r.state) (channel_ends r.state) (All-head IsWhole one more all))
+    (each_whole k (n + 1) readings (All-tail IsWhole one more all))
 
-pub fields_mapped : (size k : ℕ) (readings : List ChannelReading) → map (fields_of size) (flat_map (packets_of k) readings) ≡ flat_map (channel_packets_at size k) readings
+-- the fields of all channels' packets of round k are those that the readings have at round k
+pub fields_mapped : (size k : ℕ) (readings : List ChannelReading)
+    → map (fields_of size) (flat_map (packets_of k) readings) ≡ flat_map (channel_packets_at size k) readings
 fields_mapped size k [] = refl
 fields_mapped size k (r ∷ readings) =
-    map-append (fields_of size) (packets_of k r) (flat_map (packets_of k) readings) ∙ ap (λ (l : List Fields). channel_packets_at size k r ++ l) (fields_mapped size k readings)
+    map-append (fields_of size) (packets_of k r) (flat_map (packets_of k) readings)
+    ∙ ap (λ (l : List Fields). channel_packets_at size k r ++ l) (fields_mapped size k readings)
 
 -- ---- the round
 
@@ -134,7 +138,7 @@ module _ (f : Loading) (memory : Image) (s : InPlaceLoad) (loads : Loads f memor
   none_told = due r.readings r.are_readings
 
   pub main_has : k < length r.readings.main.rounds
-  main_has = has_it k (length r.readings.main.rounds) (stream_end r.readings.main.state) (stream_ends r.readings.main.state)
+  main_has = whole_below k (length r.readings.main.rounds) (stream_end r.readings.main.state) (stream_ends r.readings.main.state)
       (All-head IsWhole (main_at k r.readings) (channels_at k r.readings) (due_sources k r.readings none_told).0)
 
   pub channels_have : All (λ (x : ChannelReading). k < length x.rounds) r.readings.channels
@@ -146,7 +150,8 @@ module _ (f : Loading) (memory : Image) (s : InPlaceLoad) (loads : Loads f memor
     | inr open_ ↦
         let holds : HoldsMain (main_of given) k f.texts.main (record { reader = s.sources.main.reader; is_whole = false }) =
         subst (λ (b : Bool). HoldsMain (main_of given) k f.texts.main (record { reader = s.sources.main.reader; is_whole = b })) open_ r.main in
-        let none : k ≡ length r.readings.main.rounds = none_waits given k f.texts.main s.sources.main.reader r.readings.main size holds r.are_readings.has_main in
+        let none : k ≡ length r.readings.main.rounds =
+        none_waits given k f.texts.main s.sources.main.reader r.readings.main size holds r.are_readings.has_main in
         absurd (omega (arith, none, main_has))
   ]
 
@@ -154,7 +159,8 @@ module _ (f : Loading) (memory : Image) (s : InPlaceLoad) (loads : Loads f memor
   pub has_table : r.readings.main.table ≡ Some f.first.table
   has_table = elim r.is_own [
     | inr own ↦ own
-    | inl none ↦ absurd (let empty : length r.readings.main.rounds ≡ 0 = ap (λ (l : List (List PageRecord)). length l) (main_table_first given f.texts.main r.readings.main size r.are_readings.has_main none) in
+    | inl none ↦ absurd (let empty : length r.readings.main.rounds ≡ 0 =
+        ap (λ (l : List (List PageRecord)). length l) (main_table_first given f.texts.main r.readings.main size r.are_readings.has_main none) in
         omega (arith, empty, main_has))
   ]
 
@@ -166,7 +172,8 @@ module _ (f : Loading) (memory : Image) (s : InPlaceLoad) (loads : Loads f memor
   all_records = holds.has_records ∙ ap (λ (b : Bool). if b then record_pages_at f.first.table.page_size k r.readings else []) main_whole
 
   pub given_heads : flat_map (heads_given k) r.gave ≡ flat_map (packets_of k) r.readings.channels
-  given_heads = all_heads channel_given f.first.table k f.texts.channels r.gave s.sources.channels r.readings.channels size r.as_many r.channels r.are_readings.has_channels channels_have
+  given_heads = all_heads channel_given f.first.table k f.texts.channels r.gave s.sources.channels r.readings.channels size
+      r.as_many r.channels r.are_readings.has_channels channels_have
 
   pub all_packets : IsPermutation (packets_in holds.arrivals) (map as_zeros (flat_map (packets_of k) r.readings.channels))
   all_packets = subst (λ (l : List (List ℕ)). IsPermutation (packets_in holds.arrivals) (map as_zeros l)) given_heads holds.has_packets
@@ -181,14 +188,16 @@ module _ (f : Loading) (memory : Image) (s : InPlaceLoad) (loads : Loads f memor
       ap (λ (o : Option RamTable). option_and_then (λ t. refusal_of_table t k r.readings) o) has_table
       ∙ ap (λ (l : List Fields). refusal table (base_at k r.readings) records l) (sym (fields_mapped p k r.readings.channels))
       ∙ sym (heads_judged table (base_at k r.readings) records (map as_zeros H) (map (fields_of p) H) (same_heads p H))
-      ∙ sym (refusal_bag table (base_at k r.readings) records (packets_in holds.arrivals) (map as_zeros H) (bag_permutation (packets_in holds.arrivals) (map as_zeros H) all_packets))
+      ∙ sym (refusal_bag table (base_at k r.readings) records (packets_in holds.arrivals) (map as_zeros H)
+      (bag_permutation (packets_in holds.arrivals) (map as_zeros H) all_packets))
       ∙ ap (λ (l : List Page). refusal table (base_at k r.readings) l (packets_in holds.arrivals)) (sym all_records)
       ∙ ap (λ (n : ℕ). refusal table n (records_in holds.arrivals) (packets_in holds.arrivals)) (sym r.has_base)
 
   pub lawful_passes : IsJudged s.base s.round.arrivals None → PassesAt f k
   lawful_passes judged = λ readings are.
       let same : r.readings ≡ readings = same_readings given f.uuid f.texts r.readings readings size r.are_readings are in
-      subst (λ (x : Readings). IsTrue (passes k x)) same (due_passes k r.readings none_told (judged_as ∙ judged f.first.table holds.arrivals holds.keeps.has_come))
+      subst (λ (x : Readings). IsTrue (passes k x)) same
+      (due_passes k r.readings none_told (judged_as ∙ judged f.first.table holds.arrivals holds.keeps.has_come))
 
   refused_at : (why : RoundFault) → IsJudged s.base s.round.arrivals (Some why) → (readings : Readings) → AreReadings given f.uuid f.texts readings
       → IsFalse (passes k readings) × (failed k origin.Round (fault.Round why) ≡ verdict_at k readings)
@@ -204,7 +213,8 @@ module _ (f : Loading) (memory : Image) (s : InPlaceLoad) (loads : Loads f memor
       stands_at f memory (record s { round = now }) (failed k origin.Round (fault.Round why)) after stops.0 stops.1
 
 -- what was judged is the same round
-pub judged_loads : (f : Loading) (memory : Image) (s : InPlaceLoad) (now : KeptRound) → KeepsSame s.round now → now.has_misplaced ≡ s.round.has_misplaced → Loads f memory s
+pub judged_loads : (f : Loading) (memory : Image) (s : InPlaceLoad) (now : KeptRound) → KeepsSame s.round now
+    → now.has_misplaced ≡ s.round.has_misplaced → Loads f memory s
     → Loads f memory (record s { round = now })
 judged_loads f memory s now same misplaced loads =
     let r = loads.is_running in

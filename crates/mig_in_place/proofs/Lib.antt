@@ -11,7 +11,7 @@ pub mod SomeTakes
 pub mod Zips
 pub mod Steps
 pub mod Lying
-pub mod Came
+pub mod ChannelEvents
 pub mod Midway
 pub mod MissingPages
 pub mod Heading

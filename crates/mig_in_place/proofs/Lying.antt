@@ -36,6 +36,7 @@ has_at (p ∷ ps) (suc i) d lt = or_later (place_eq p (get_or ps i d)) (has_plac
     or_later true b t = refl
     or_later false b t = t
 
+-- a head whose pages lie in a block names that block
 pub block_is : (table : RamTable) (b : ℕ) (head : List ℕ) → LieIn table b head → block_in table head ≡ b
 block_is table b head lie = ap (λ (o : Option ℕ). unwrap_or o 0) lie.has_block
 
@@ -47,6 +48,7 @@ places_are table b head lie =
     let all : head_places table head ≡ places_of (packet_pages table q) = rw none refl in
     all ∙ ap places_of (packet_places table q b lie.has_block) ∙ places-in table q b
 
+-- if a packet's pages lie in a block, its head names the place there of each of its offsets
 pub offset_named : (table : RamTable) (b : ℕ) (head : List ℕ) (i : ℕ) → LieIn table b head → i < length (offsets_in head)
     → has_place (head_places table head) (place_at b (offset_at head i / table.page_size)) ≡ true
 offset_named table b head i lie lt =
@@ -58,7 +60,9 @@ offset_named table b head i lie lt =
     ap (λ (l : List Place). has_place l (place_at b (offset_at head i / table.page_size))) (places_are table b head lie)
     ∙ subst (λ (p : Place). has_place ps p ≡ true) here (has_at ps i d there)
 
-pub zeros_named : (table : RamTable) (b : ℕ) (head : List ℕ) → LieIn table b head → All (λ page. IsTrue (has_place (head_places table head) page.place)) (zeros_begun table head)
+-- if a packet's pages lie in a block, its head names the places of its pages of zeros
+pub zeros_named : (table : RamTable) (b : ℕ) (head : List ℕ) → LieIn table b head
+    → All (λ page. IsTrue (has_place (head_places table head) page.place)) (zeros_begun table head)
 zeros_named table b head lie =
     let n : ℕ = normal_count head in
     let z : ℕ = zero_count head in
@@ -75,11 +79,14 @@ zeros_named table b head lie =
 pub no_zeros : (table : RamTable) (head : List ℕ) → length (offsets_in head) ≡ 0 → zeros_begun table head ≡ []
 no_zeros table head none =
     let z : zero_count head ≡ 0 = (let e = count head in omega (arith, e, none)) in
-    sym (zero_by_number table (block_in table head) table.page_size head) ∙ ap (λ (k : ℕ). map (zero_page_at table (block_in table head) head) (range_with_len (normal_count head) k)) z
+    sym (zero_by_number table (block_in table head) table.page_size head)
+    ∙ ap (λ (k : ℕ). map (zero_page_at table (block_in table head) head) (range_with_len (normal_count head) k)) z
 
 -- ---- what was written
 
-pub wrote_in : (table : RamTable) (b p : ℕ) (head : List ℕ) (r : KeptRound) (before after : Image) → LieIn table b head → p ≡ table.page_size → IsFalse r.has_misplaced
+-- the zeros of a packet are written to the places that its head names
+pub wrote_in : (table : RamTable) (b p : ℕ) (head : List ℕ) (r : KeptRound) (before after : Image) → LieIn table b head
+    → p ≡ table.page_size → IsFalse r.has_misplaced
     → after ≡ with_round before (zero_pages table b (fields_of p head)) → WroteZeros table head r before after
 wrote_in table b p head r before after lie size right put = record {
   right = λ _. inl (put ∙ ap (λ (n : ℕ). with_round before (zero_pages table b (fields_of n head))) size
@@ -88,22 +95,31 @@ wrote_in table b p head r before after lie size right put = record {
   wrong = λ wrong. absurd cc;
 }
 
-pub wrote_nowhere : (table : RamTable) (head : List ℕ) (r : KeptRound) (before after : Image) → length (offsets_in head) ≡ 0 → after ≡ before → WroteZeros table head r before after
+-- for a head without offsets an unchanged memory has its zeros written
+pub wrote_nowhere : (table : RamTable) (head : List ℕ) (r : KeptRound) (before after : Image) → length (offsets_in head) ≡ 0
+    → after ≡ before → WroteZeros table head r before after
 wrote_nowhere table head r before after none same = record {
   right = λ _. inr (same, no_zeros table head none);
-  named = λ _. subst (λ (l : List Page). All (λ page. IsTrue (has_place (head_places table head) page.place)) l) (sym (no_zeros table head none)) (All-nil (λ page. IsTrue (has_place (head_places table head) page.place)));
+  named = λ _. subst (λ (l : List Page). All (λ page. IsTrue (has_place (head_places table head) page.place)) l)
+      (sym (no_zeros table head none)) (All-nil (λ page. IsTrue (has_place (head_places table head) page.place)));
   wrong = λ _. same;
 }
 
-pub wrote_wrong : (table : RamTable) (head : List ℕ) (r : KeptRound) (before after : Image) → IsTrue r.has_misplaced → after ≡ before → WroteZeros table head r before after
+-- if pages are known to be misplaced, the zeros of a head leave the memory unchanged
+pub wrote_wrong : (table : RamTable) (head : List ℕ) (r : KeptRound) (before after : Image) → IsTrue r.has_misplaced
+    → after ≡ before → WroteZeros table head r before after
 wrote_wrong table head r before after wrong same = record {
   right = λ right. absurd cc;
   named = λ right. absurd cc;
   wrong = λ _. same;
 }
 
-pub wrote_page : (table : RamTable) (b : ℕ) (head : List ℕ) (i offset : ℕ) (content : List ℕ) (r : KeptRound) (before after : Image) → LieIn table b head → i < normal_count head → offset ≡ offset_at head i
-    → (IsFalse r.has_misplaced → after ≡ with_page before (place_at b (offset / table.page_size)) content) → (IsTrue r.has_misplaced → after ≡ before) → WrotePage table head offset content r before after
+-- a normal page of a packet in a block is written at its place there, unless pages are known to be
+-- misplaced, and the head names that place
+pub wrote_page : (table : RamTable) (b : ℕ) (head : List ℕ) (i offset : ℕ) (content : List ℕ) (r : KeptRound)
+    (before after : Image) → LieIn table b head → i < normal_count head → offset ≡ offset_at head i
+    → (IsFalse r.has_misplaced → after ≡ with_page before (place_at b (offset / table.page_size)) content)
+    → (IsTrue r.has_misplaced → after ≡ before) → WrotePage table head offset content r before after
 wrote_page table b head i offset content r before after lie lt is right wrong = record {
   right = λ f. right f ∙ ap (λ (k : ℕ). with_page before (place_at k (offset / table.page_size)) content) (sym (block_is table b head lie));
   named = λ _.
@@ -115,8 +131,10 @@ wrote_page table b head i offset content r before after lie lt is right wrong = 
 
 -- ---- a page is added
 
+-- a page is written to its place, unless a page of the round was misplaced
 pub adds_page : (offset : ℕ) (content : List ℕ) (block : Option ℕ) (r : KeptRound) (memory then : Image)
-    → ((b : ℕ) → block ≡ Some b → IsFalse r.has_misplaced → then ≡ with_page memory (place_at b (offset / memory.table.page_size)) content) → (IsTrue r.has_misplaced → then ≡ memory)
+    → ((b : ℕ) → block ≡ Some b → IsFalse r.has_misplaced
+    → then ≡ with_page memory (place_at b (offset / memory.table.page_size)) content) → (IsTrue r.has_misplaced → then ≡ memory)
     → AddsPage offset content block r memory then
 adds_page offset content block r memory then put same = λ f so_far packet is lt is_offset size writes holds.
     let table : RamTable = memory.table in

@@ -43,20 +43,24 @@ use Rattle.mig_in_place.proofs.MissingPages.{named_still}
 use Rattle.mig_in_place.proofs.Waiting.{main_goes, same_rounds_onto}
 
 -- channels of which only hellos have come gave nothing of a round
-pub alone_none : (table : RamTable) (k : ℕ) (gave : List GivenSoFar) → All HasHelloAlone gave → (flat_map (heads_given k) gave ≡ []) × (flat_map (pages_given table k) gave ≡ [])
+pub alone_none : (table : RamTable) (k : ℕ) (gave : List GivenSoFar) → All HasHelloAlone gave
+    → (flat_map (heads_given k) gave ≡ []) × (flat_map (pages_given table k) gave ≡ [])
 alone_none table k [] all = (refl, refl)
 alone_none table k (g ∷ gave) all =
     let here = All-head HasHelloAlone g gave all in
     let rest = alone_none table k gave (All-tail HasHelloAlone g gave all) in
     let none : packets_given k g ≡ [] = ap (λ (l : List (List (List ℕ))). get_or l k g.read.packets) here.no_rounds ∙ here.no_packets in
-    let heads : heads_given k g ≡ [] = ap (λ (o : Option OpenPacket). packets_given k g ++ heads_begun o) here.none_begun ∙ ap (λ (l : List (List ℕ)). l ++ []) none in
+    let heads : heads_given k g ≡ [] = ap (λ (o : Option OpenPacket). packets_given k g ++ heads_begun o) here.none_begun
+    ∙ ap (λ (l : List (List ℕ)). l ++ []) none in
     let pages : pages_given table k g ≡ [] =
-    ap (λ (o : Option OpenPacket). flat_map (pages_of table) (packets_given k g) ++ pages_begun table o) here.none_begun ∙ ap (λ (l : List (List ℕ)). flat_map (pages_of table) l ++ []) none in (
+    ap (λ (o : Option OpenPacket). flat_map (pages_of table) (packets_given k g) ++ pages_begun table o) here.none_begun
+    ∙ ap (λ (l : List (List ℕ)). flat_map (pages_of table) l ++ []) none in (
       ap (λ (l : List (List ℕ)). l ++ flat_map (heads_given k) gave) heads ∙ rest.0,
       ap (λ (l : List Page). l ++ flat_map (pages_given table k) gave) pages ∙ rest.1,
     )
 
-alone_writes : (given : Settings) (table : RamTable) (k : ℕ) (texts : List Text) (gave : List GivenSoFar) (channels : List KeptChannel) → length gave ≡ length texts
+alone_writes : (given : Settings) (table : RamTable) (k : ℕ) (texts : List Text) (gave : List GivenSoFar) (channels : List
+    KeptChannel) → length gave ≡ length texts
     → AllZip (λ c kept. HoldsChannel given table k c.0 c.1 kept) (zip texts gave) channels → All HasHelloAlone gave → AllZip WritesPages gave channels
 alone_writes given table k [] [] [] same holds all = tt
 alone_writes given table k [] [] (c ∷ channels) same holds all = absurd holds
@@ -64,7 +68,8 @@ alone_writes given table k [] (g ∷ gave) channels same holds all = absurd (ome
 alone_writes given table k (text ∷ texts) [] channels same holds all = absurd (omega (arith, same))
 alone_writes given table k (text ∷ texts) (g ∷ gave) [] same holds all = absurd holds
 alone_writes given table k (text ∷ texts) (g ∷ gave) (c ∷ channels) same holds all = (
-  subst (λ (o : Option OpenPacket). IfSome o (λ packet. length (offsets_in packet.head) ≢ 0 → c.block ≢ None)) (sym (All-head HasHelloAlone g gave all).none_begun) tt,
+  subst (λ (o : Option OpenPacket). IfSome o (λ packet. length (offsets_in packet.head) ≢ 0 → c.block ≢ None))
+      (sym (All-head HasHelloAlone g gave all).none_begun) tt,
   alone_writes given table k texts gave channels (omega (arith, same)) holds.1 (All-tail HasHelloAlone g gave all),
 )
 
@@ -74,7 +79,8 @@ cases_state stream_state.Closed = inr (λ e. absurd cc)
 cases_state (stream_state.Bad f) = inr (λ e. absurd cc)
 
 -- a piece more of a stream that isn't ended
-pub piece_goes : (f : Loading) (memory : Image) (s : InPlaceLoad) (loads : Loads f memory s) (piece : List ℕ) → IsFalse s.sources.main.reader.ended → GoesOn f.texts.main (with_piece piece f.texts.main)
+pub piece_goes : (f : Loading) (memory : Image) (s : InPlaceLoad) (loads : Loads f memory s) (piece : List ℕ)
+    → IsFalse s.sources.main.reader.ended → GoesOn f.texts.main (with_piece piece f.texts.main)
 piece_goes f memory s loads piece open_ = record {
   more = piece;
   has_bytes = refl;
@@ -133,12 +139,15 @@ module _ (f : Loading) (memory : Image) (s : InPlaceLoad) (loads : Loads f memor
   ])
 
   -- what is kept of the round, but for the records that come now
-  pub known : IsFalse s.sources.main.is_whole → now.main.table ≡ Some table → HoldsRound table (rounds_onto f.first k now) k (record { records = []; channels = r.gave }) s.round memory
+  pub known : IsFalse s.sources.main.is_whole → now.main.table ≡ Some table
+      → HoldsRound table (rounds_onto f.first k now) k (record { records = []; channels = r.gave }) s.round memory
   known open_ is = elim r.is_own [
     | inr own ↦
-        let come : records_come table.page_size k r.readings s.sources.main ≡ [] = ap (λ (b : Bool). if b then record_pages_at table.page_size k r.readings else []) open_ in
+        let come : records_come table.page_size k r.readings s.sources.main ≡ [] =
+        ap (λ (b : Bool). if b then record_pages_at table.page_size k r.readings else []) open_ in
         subst (λ (m : Image). HoldsRound table m k (record { records = []; channels = r.gave }) s.round memory) (sym same_onto)
-        (subst (λ (l : List Page). HoldsRound table (rounds_onto f.first k r.readings) k (record { records = l; channels = r.gave }) s.round memory) come (r.own own))
+        (subst (λ (l : List Page). HoldsRound table (rounds_onto f.first k r.readings) k
+        (record { records = l; channels = r.gave }) s.round memory) come (r.own own))
     | inl none ↦
         let alone = alone_none table k r.gave (r.awaited none (was_reading none is)) in
         let nothing = r.unknown none in
@@ -158,12 +167,14 @@ module _ (f : Loading) (memory : Image) (s : InPlaceLoad) (loads : Loads f memor
   pub writes_now : now.main.table ≡ Some table → IsFalse s.round.has_misplaced → AllZip WritesPages r.gave s.sources.channels
   writes_now is right = elim r.is_own [
     | inr own ↦ r.writes own right
-    | inl none ↦ alone_writes (channel_of given f.uuid (length f.texts.channels)) table k f.texts.channels r.gave s.sources.channels r.as_many r.channels (r.awaited none (was_reading none is))
+    | inl none ↦ alone_writes (channel_of given f.uuid (length f.texts.channels)) table k f.texts.channels r.gave
+        s.sources.channels r.as_many r.channels (r.awaited none (was_reading none is))
   ]
 
   -- the load with more bytes of the main stream
   pub main_goes_on : (m : KeptMain) (round : KeptRound) (changed : Image) → IsOfOwnTable f.first now.main → HoldsMain (main_of given) k text m
-      → (now.main.table ≡ Some table → HoldsRound table (rounds_onto f.first k now) k (record { records = records_come table.page_size k now m; channels = r.gave }) round changed)
+      → (now.main.table ≡ Some table → HoldsRound table (rounds_onto f.first k now) k
+      (record { records = records_come table.page_size k now m; channels = r.gave }) round changed)
       → round.has_misplaced ≡ s.round.has_misplaced → (now.main.table ≡ None → (changed ≡ memory) × (round ≡ s.round))
       → Loads (record f { texts = texts }) changed (record s { sources = record s.sources { main = m }; round = round })
   main_goes_on m round changed own holds come misplaced same = record {
@@ -195,13 +206,16 @@ module _ (f : Loading) (memory : Image) (s : InPlaceLoad) (loads : Loads f memor
   }
 
   -- bytes of the stream came, and its records were taken
-  pub main_read : (m next : KeptMain) (round : KeptRound) (changed : Image) → IsFalse m.is_whole → IsFalse s.sources.main.is_whole → StandsAt (main_of given) k text m
-      → HasTable (main_of given) text.bytes None ⊎ HasTable (main_of given) text.bytes (Some table) → HasTakenRecords (main_of given) k text m s.round memory next round changed
+  pub main_read : (m next : KeptMain) (round : KeptRound) (changed : Image) → IsFalse m.is_whole → IsFalse s.sources.main.is_whole
+      → StandsAt (main_of given) k text m
+      → HasTable (main_of given) text.bytes None ⊎ HasTable (main_of given) text.bytes (Some table)
+      → HasTakenRecords (main_of given) k text m s.round memory next round changed
       → Loads (record f { texts = texts }) changed (record s { sources = record s.sources { main = next }; round = round })
   main_read m next round changed open_ was_open stands found taken = elim found [
     | inr has ↦
         let is : now.main.table ≡ Some table = table_is given text (Some table) now.main size has are_now.has_main in
-        let come = main_taken given table (rounds_onto f.first k now) k text now r.gave m next s.round round memory changed size refl are_now.has_main stands open_ taken (known was_open is) in
+        let come = main_taken given table (rounds_onto f.first k now) k text now r.gave m next s.round round memory changed size
+        refl are_now.has_main stands open_ taken (known was_open is) in
         main_goes_on next round changed (inr is) come.0 (λ _. come.1) come.2 (λ none. absurd (let clash : None ≡ Some table = sym none ∙ is in cc))
     | inl has ↦
         let none : now.main.table ≡ None = table_is given text None now.main size has are_now.has_main in
@@ -216,13 +230,15 @@ module _ (f : Loading) (memory : Image) (s : InPlaceLoad) (loads : Loads f memor
       none_to_take empty = elim taken [
         | inl nothing ↦ nothing
         | inr t ↦ absurd (
-            let rounds : now.main.rounds ≡ t.has_records.0.rounds = ap (λ (x : StreamReading). x.rounds) (same_found given text t.has_records.0 now.main size t.has_records.1 are_now.has_main) in
+            let rounds : now.main.rounds ≡ t.has_records.0.rounds =
+            ap (λ (x : StreamReading). x.rounds) (same_found given text t.has_records.0 now.main size t.has_records.1 are_now.has_main) in
             let count : length t.has_records.0.rounds ≡ 0 = ap (λ (l : List (List PageRecord)). length l) (sym rounds ∙ empty) in
             omega (arith, count, t.has_records.2))
       ]
 
   -- the stream ended
-  pub main_ended : (m : KeptMain) → m.is_whole ≡ s.sources.main.is_whole → text.bytes ≡ f.texts.main.bytes → HoldsMain (main_of given) k text m → Loads (record f { texts = texts }) memory (record s { sources = record s.sources { main = m } })
+  pub main_ended : (m : KeptMain) → m.is_whole ≡ s.sources.main.is_whole → text.bytes ≡ f.texts.main.bytes
+      → HoldsMain (main_of given) k text m → Loads (record f { texts = texts }) memory (record s { sources = record s.sources { main = m } })
   main_ended m same bytes holds =
       let table_same : now.main.table ≡ r.readings.main.table =
       ap (λ (x : StreamReading). x.table) are_now.has_main.has_end
@@ -234,7 +250,8 @@ module _ (f : Loading) (memory : Image) (s : InPlaceLoad) (loads : Loads f memor
       found_same : are_now.has_main.found ≡ r.are_readings.has_main.found
       found_same =
           let one = one_reading_law (main_of given) f.texts.main.bytes size in
-          let here : IsReading (main_of given) f.texts.main.bytes are_now.has_main.found = subst (λ (l : List ℕ). IsReading (main_of given) l are_now.has_main.found) bytes are_now.has_main.is_reading in
+          let here : IsReading (main_of given) f.texts.main.bytes are_now.has_main.found =
+          subst (λ (l : List ℕ). IsReading (main_of given) l are_now.has_main.found) bytes are_now.has_main.is_reading in
           one.2 are_now.has_main.found here ∙ sym (one.2 r.are_readings.has_main.found r.are_readings.has_main.is_reading)
 
       rounds_same : now.main.rounds ≡ r.readings.main.rounds
@@ -242,20 +259,24 @@ module _ (f : Loading) (memory : Image) (s : InPlaceLoad) (loads : Loads f memor
           ap (λ (x : StreamReading). x.rounds) are_now.has_main.has_end ∙ ap (λ (x : StreamReading). x.rounds) found_same
           ∙ sym (ap (λ (x : StreamReading). x.rounds) r.are_readings.has_main.has_end)
 
-      records_now : r.readings.main.table ≡ Some table → HoldsRound table (rounds_onto f.first k now) k (record { records = records_come table.page_size k now m; channels = r.gave }) s.round memory
+      records_now : r.readings.main.table ≡ Some table
+          → HoldsRound table (rounds_onto f.first k now) k (record { records = records_come table.page_size k now m; channels = r.gave }) s.round memory
       records_now own =
           let come : records_come table.page_size k now m ≡ records_come table.page_size k r.readings s.sources.main =
           ap (λ (b : Bool). if b then record_pages_at table.page_size k now else []) same
           ∙ ap (λ (l : List (List PageRecord)). if s.sources.main.is_whole then map (page_of table.page_size) (get_or l k []) else []) rounds_same in
-          subst (λ (i : Image). HoldsRound table i k (record { records = records_come table.page_size k now m; channels = r.gave }) s.round memory) (sym same_onto)
-          (subst (λ (l : List Page). HoldsRound table (rounds_onto f.first k r.readings) k (record { records = l; channels = r.gave }) s.round memory) (sym come) (r.own own))
+          subst (λ (i : Image). HoldsRound table i k
+          (record { records = records_come table.page_size k now m; channels = r.gave }) s.round memory) (sym same_onto)
+          (subst (λ (l : List Page). HoldsRound table (rounds_onto f.first k r.readings) k
+          (record { records = l; channels = r.gave }) s.round memory) (sym come) (r.own own))
 
   -- the list names another table
   pub of_other : (m : KeptMain) (other : RamTable) → StandsAt (main_of given) k text m → HasTable (main_of given) text.bytes (Some other) → other ≢ s.table
       → Stands (record f { texts = texts }) memory (record s { sources = record s.sources { main = m }; verdict = failed 0 origin.Main fault.OtherTable })
   of_other m other stands has differ =
       let is : now.main.table ≡ Some other = table_is given text (Some other) now.main size has are_now.has_main in
-      let not_own : now.main.table ≡ Some table → ⊥ = λ own. differ (let both : Some other ≡ Some table = sym is ∙ own in let e : other ≡ table = cc in e ∙ loads.same_table) in
+      let not_own : now.main.table ≡ Some table
+      → ⊥ = λ own. differ (let both : Some other ≡ Some table = sym is ∙ own in let e : other ≡ table = cc in e ∙ loads.same_table) in
       let none : r.readings.main.table ≡ None = (elim r.is_own [
         | inl nothing ↦ nothing
         | inr own ↦ absurd (not_own (stay.main.same_table table own))

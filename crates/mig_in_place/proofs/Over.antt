@@ -19,7 +19,6 @@ use Rattle.mig_single_load.proofs.Onto.{apart}
 use Rattle.mig_answer.specs.declared.verdict.Verdict.{Verdict}
 use Rattle.mig_answer.specs.declared.verdict.Verdict.TheVariants.{Running}
 use Rattle.mig_answer.specs.Texts.{Text, Texts, Readings, IsMainReading, no_text, over}
-use Rattle.mig_answer.specs.Growing.{GoOn}
 use Rattle.mig_answer.specs.Rounds.{memory_at}
 use Rattle.mig_answer.specs.MultiLoad.{Answer, IsAnswer, passes}
 use Rattle.mig_answer.proofs.OneAnswer.{some_readings, same_readings}
@@ -27,24 +26,38 @@ use Rattle.mig_answer.proofs.Growing.{ReadingsStay, readings_stay, pass_still, a
 use Rattle.mig_session.specs.declared.source.Source.{Source}
 use Rattle.mig_session.specs.declared.source.Source.TheVariants as source
 use Rattle.mig_session.specs.Session.{end_step}
+use Rattle.mig_session.proofs.Sessions.{ended_goes_on}
 use Rattle.mig_in_place.specs.Named.{ChannelNames, SomeChannelNames, IsNamed}
 use Rattle.mig_in_place.specs.Answer.{rounds_onto, HasRoundsOnto, IsInPlaceAnswer, IsInPlaceWithoutMemory}
 use Rattle.mig_in_place.specs.Missing.{HasNamed}
 use Rattle.mig_in_place.specs.Session.{InPlaceLoad, HaveTaken, StandsFor, LacksMemory}
 use Rattle.mig_in_place.proofs.Done.{own_or_other}
-use Rattle.mig_in_place.proofs.Ended.{ended_goes, end_bytes}
+use Rattle.mig_in_place.proofs.Ended.{end_bytes}
 use Rattle.mig_in_place.proofs.MissingPages.{named_still}
-use Rattle.mig_in_place.proofs.Waiting.{main_goes, channel_goes, same_rounds_onto}
+use Rattle.mig_in_place.proofs.Waiting.{same_rounds_onto}
 
 -- ---- what is named stays named
 
-over_named : (given : channel.Settings) (table : RamTable) (k : ℕ) (text : Text) (p : Place) → ChannelNames given table k text p → ChannelNames given table k (over text) p
+over_named : (given : channel.Settings) (table : RamTable) (k : ℕ) (text : Text) (p : Place) → ChannelNames given table k text p
+    → ChannelNames given table k (over text) p
 over_named given table k text p names =
     let is = names.is_reading in
-    let now : channel.ChannelReading = record { hello = names.reading.hello; rounds = names.reading.rounds; state = channel.state_at true is.to is.rest is.found } in
+    let now : channel.ChannelReading = record {
+      hello = names.reading.hello;
+      rounds = names.reading.rounds;
+      state = channel.state_at true is.to is.rest is.found;
+    } in
     record {
       reading = now;
-      is_reading = record { to = is.to; rest = is.rest; found = is.found; reads = is.reads; has_hello = is.has_hello; has_rounds = is.has_rounds; has_state = refl };
+      is_reading = record {
+        to = is.to;
+        rest = is.rest;
+        found = is.found;
+        reads = is.reads;
+        has_hello = is.has_hello;
+        has_rounds = is.has_rounds;
+        has_state = refl;
+      };
       has_packet = names.has_packet;
     }
 
@@ -66,50 +79,56 @@ channels_named given table k (suc j) (text ∷ texts) p names = elim (contains_c
       (rest.0, contains_later text (set texts j (over (get_or texts j no_text))) rest.0 rest.1, rest.2)
 ]
 
-ended_named : (given : LoadSettings) (uuid : List ℕ) (table : RamTable) (k : ℕ) (from : Source) (texts : Texts) (p : Place) → IsNamed given uuid table k texts p → IsNamed given uuid table k (end_step from texts) p
+ended_named : (given : LoadSettings) (uuid : List ℕ) (table : RamTable) (k : ℕ) (from : Source) (texts : Texts) (p : Place)
+    → IsNamed given uuid table k texts p → IsNamed given uuid table k (end_step from texts) p
 ended_named given uuid table k source.Main texts p names = names
 ended_named given uuid table k (source.Channel j) texts p (inl named) = inl named
 ended_named given uuid table k (source.Channel j) texts p (inr named) =
     inr (subst (λ (n : ℕ). SomeChannelNames (channel_of given uuid n) table k (set texts.channels j (over (get_or texts.channels j no_text))) p)
-    (sym (length-set texts.channels j (over (get_or texts.channels j no_text)))) (channels_named (channel_of given uuid (length texts.channels)) table k j texts.channels p named))
+    (sym (length-set texts.channels j (over (get_or texts.channels j no_text))))
+    (channels_named (channel_of given uuid (length texts.channels)) table k j texts.channels p named))
 
 -- ---- what is read stays read
 
-ended_go : (from : Source) (texts : Texts) → GoOn texts (end_step from texts)
-ended_go source.Main texts = main_goes texts over (ended_goes texts.main)
-ended_go (source.Channel j) texts = channel_goes texts j over (ended_goes (get_or texts.channels j no_text))
-
-same_table : (given : LoadSettings) (old new : Text) (before now : StreamReading) → IsPageSize given.page_size → new.bytes ≡ old.bytes → IsMainReading given old before → IsMainReading given new now → now.table ≡ before.table
+same_table : (given : LoadSettings) (old new : Text) (before now : StreamReading) → IsPageSize given.page_size
+    → new.bytes ≡ old.bytes → IsMainReading given old before → IsMainReading given new now → now.table ≡ before.table
 same_table given old new before now size same was is =
     let one = stream_law (main_of given) old.bytes size in
-    let again : IsStreamReading (main_of given) old.bytes is.found = subst (λ (bytes : List ℕ). IsStreamReading (main_of given) bytes is.found) same is.is_reading in
+    let again : IsStreamReading (main_of given) old.bytes is.found =
+    subst (λ (bytes : List ℕ). IsStreamReading (main_of given) bytes is.found) same is.is_reading in
     let found : is.found ≡ was.found = one.2 is.found again ∙ sym (one.2 was.found was.is_reading) in
     ap (λ (r : StreamReading). r.table) is.has_end ∙ ap (λ (r : StreamReading). r.table) found ∙ sym (ap (λ (r : StreamReading). r.table) was.has_end)
 
 -- what the memory holds, on readings of the streams after the end of a source
-ended_onto : (given : LoadSettings) (uuid : List ℕ) (first : Image) (from : Source) (texts : Texts) (before now : Readings) (memory : Image) (k : ℕ) → ReadingsStay before now → ((j : ℕ) → j < k → IsTrue (passes j before))
+ended_onto : (given : LoadSettings) (uuid : List ℕ) (first : Image) (from : Source) (texts : Texts)
+    (before now : Readings) (memory : Image) (k : ℕ) → ReadingsStay before now → ((j : ℕ) → j < k → IsTrue (passes j before))
     → HasRoundsOnto given uuid first texts before memory k → HasRoundsOnto given uuid first (end_step from texts) now memory k
 ended_onto given uuid first from texts before now memory k stay passed onto =
-    let rounds : rounds_onto first k now ≡ rounds_onto first k before = ap (λ (l : List (List Page)). with_rounds first l) (same_rounds_onto first k before now stay passed) in
+    let rounds : rounds_onto first k now ≡ rounds_onto first k before =
+    ap (λ (l : List (List Page)). with_rounds first l) (same_rounds_onto first k before now stay passed) in
     record {
       same_table = onto.same_table;
-      elsewhere = λ p is none. onto.elsewhere p is (λ names. none (ended_named given uuid first.table k from texts p names)) ∙ ap (λ (m : Image). content_at m p) (sym rounds);
+      elsewhere = λ p is none. onto.elsewhere p is (λ names. none (ended_named given uuid first.table k from texts p names))
+          ∙ ap (λ (m : Image). content_at m p) (sym rounds);
     }
 
 -- ---- answers stay
 
-module _ (given : LoadSettings) (uuid : List ℕ) (first : Image) (texts : Texts) (memory : Image) (k : ℕ) (verdict : Verdict) (from : Source) (is_table : IsTable first.table) where
+module _ (given : LoadSettings) (uuid : List
+    ℕ) (first : Image) (texts : Texts) (memory : Image) (k : ℕ) (verdict : Verdict) (from : Source) (is_table : IsTable first.table) where
   abbrev g : LoadSettings
   g = for_table first.table given
 
-  ended_answer : verdict ≢ Running → IsInPlaceAnswer given uuid first texts memory k verdict → IsInPlaceAnswer given uuid first (end_step from texts) memory k verdict
+  ended_answer : verdict ≢ Running → IsInPlaceAnswer given uuid first texts memory k verdict
+      → IsInPlaceAnswer given uuid first (end_step from texts) memory k verdict
   ended_answer judged here =
       let size = is_table.has_page_size in
-      let goes = ended_go from texts in
+      let goes = ended_goes_on from texts in
       elim (own_or_other first here.readings.main) [
         | inr other ↦
             let next = some_readings g uuid (end_step from texts) size in
-            let same = same_table g texts.main (end_step from texts).main here.readings.main next.0.main size (end_bytes from texts).0 here.are_readings.has_main next.1.has_main in
+            let same = same_table g texts.main (end_step from texts).main here.readings.main next.0.main size
+            (end_bytes from texts).0 here.are_readings.has_main next.1.has_main in
             let still : IsOfOtherTable first next.0.main = (other.0, same ∙ other.1, other.2) in
             record {
               readings = next.0;
@@ -122,10 +141,17 @@ module _ (given : LoadSettings) (uuid : List ℕ) (first : Image) (texts : Texts
             let mine = here.own own in
             let answer : Answer = record { memory = memory_at k here.readings; rounds = k; verdict = verdict } in
             let is : IsAnswer g uuid texts answer =
-            record { readings = here.readings; are_readings = here.are_readings; has_rounds = mine.has_rounds; has_memory = refl; has_verdict = mine.has_verdict } in
+            record {
+              readings = here.readings;
+              are_readings = here.are_readings;
+              has_rounds = mine.has_rounds;
+              has_memory = refl;
+              has_verdict = mine.has_verdict;
+            } in
             let on = answers_law g uuid texts (end_step from texts) answer size goes is judged in
             let stay = readings_stay g uuid texts (end_step from texts) here.readings on.readings size goes here.are_readings on.are_readings in
-            let same = same_table g texts.main (end_step from texts).main here.readings.main on.readings.main size (end_bytes from texts).0 here.are_readings.has_main on.are_readings.has_main in
+            let same = same_table g texts.main (end_step from texts).main here.readings.main on.readings.main size
+            (end_bytes from texts).0 here.are_readings.has_main on.are_readings.has_main in
             record {
               readings = on.readings;
               are_readings = on.are_readings;
@@ -135,17 +161,20 @@ module _ (given : LoadSettings) (uuid : List ℕ) (first : Image) (texts : Texts
                 has_memory = ended_onto g uuid first from texts here.readings on.readings memory k stay mine.has_rounds.before mine.has_memory;
               };
               unknown = λ none. here.unknown (sym same ∙ none);
-              other = λ other. absurd (apart first on.readings.main (subst (λ (o : Option RamTable). (o ≡ None) ⊎ (o ≡ Some first.table)) (sym same) own) other);
+              other = λ other. absurd (apart first on.readings.main
+                  (subst (λ (o : Option RamTable). (o ≡ None) ⊎ (o ≡ Some first.table)) (sym same) own) other);
             }
       ]
 
-  ended_without : IsInPlaceWithoutMemory given uuid first texts memory k verdict → IsInPlaceWithoutMemory given uuid first (end_step from texts) memory k verdict
+  ended_without : IsInPlaceWithoutMemory given uuid first texts memory k verdict
+      → IsInPlaceWithoutMemory given uuid first (end_step from texts) memory k verdict
   ended_without here =
       let size = is_table.has_page_size in
-      let goes = ended_go from texts in
+      let goes = ended_goes_on from texts in
       let next = some_readings g uuid (end_step from texts) size in
       let stay = readings_stay g uuid texts (end_step from texts) here.readings next.0 size goes here.are_readings next.1 in
-      let same = same_table g texts.main (end_step from texts).main here.readings.main next.0.main size (end_bytes from texts).0 here.are_readings.has_main next.1.has_main in
+      let same = same_table g texts.main (end_step from texts).main here.readings.main next.0.main size
+      (end_bytes from texts).0 here.are_readings.has_main next.1.has_main in
       record {
         readings = next.0;
         are_readings = next.1;
@@ -158,12 +187,14 @@ module _ (given : LoadSettings) (uuid : List ℕ) (first : Image) (texts : Texts
       }
 
   -- so do the places that the rounds named
-  ended_named_places : (named : PlaceSet) → IsInPlaceAnswer given uuid first texts memory k verdict → HasNamed g uuid first texts k named → HasNamed g uuid first (end_step from texts) k named
+  ended_named_places : (named : PlaceSet) → IsInPlaceAnswer given uuid first texts memory k verdict
+      → HasNamed g uuid first texts k named → HasNamed g uuid first (end_step from texts) k named
   ended_named_places named here has =
       let size = is_table.has_page_size in
       let next = some_readings g uuid (end_step from texts) size in
-      let stay = readings_stay g uuid texts (end_step from texts) has.readings next.0 size (ended_go from texts) has.are_readings next.1 in
-      let same = same_table g texts.main (end_step from texts).main has.readings.main next.0.main size (end_bytes from texts).0 has.are_readings.has_main next.1.has_main in
+      let stay = readings_stay g uuid texts (end_step from texts) has.readings next.0 size (ended_goes_on from texts) has.are_readings next.1 in
+      let same = same_table g texts.main (end_step from texts).main has.readings.main next.0.main size
+      (end_bytes from texts).0 has.are_readings.has_main next.1.has_main in
       let again : here.readings ≡ has.readings = same_readings g uuid texts here.readings has.readings size here.are_readings has.are_readings in
       record {
         readings = next.0;
@@ -171,13 +202,15 @@ module _ (given : LoadSettings) (uuid : List ℕ) (first : Image) (texts : Texts
         has_places = λ own.
             let was : IsOfOwnTable first has.readings.main = subst (λ (o : Option RamTable). (o ≡ None) ⊎ (o ≡ Some first.table)) same own in
             let mine = here.own (subst (λ (r : Readings). IsOfOwnTable first r.main) (sym again) was) in
-            named_still first k has.readings next.0 named stay (λ j below. subst (λ (r : Readings). IsTrue (passes j r)) again (mine.has_rounds.before j below)) (has.has_places was);
+            named_still first k has.readings next.0 named stay
+            (λ j below. subst (λ (r : Readings). IsTrue (passes j r)) again (mine.has_rounds.before j below)) (has.has_places was);
       }
 
 -- ---- calls
 
 -- a source of a load ended, whose verdict is there
-pub end_stands : (given : LoadSettings) (uuid : List ℕ) (first : Image) (texts : Texts) (memory : Image) (s new : InPlaceLoad) (from : Source) → s.verdict ≢ Running → new ≡ record s { sources = new.sources }
+pub end_stands : (given : LoadSettings) (uuid : List ℕ) (first : Image) (texts : Texts) (memory : Image)
+    (s new : InPlaceLoad) (from : Source) → s.verdict ≢ Running → new ≡ record s { sources = new.sources }
     → (HaveTaken (for_table first.table given) uuid texts s.sources → HaveTaken (for_table first.table given) uuid (end_step from texts) new.sources)
     → StandsFor given uuid first texts memory s → StandsFor given uuid first (end_step from texts) memory new
 end_stands given uuid first texts memory s new from judged same takes stands =
@@ -195,7 +228,8 @@ end_stands given uuid first texts memory s new from judged same takes stands =
     }
 
 -- a source of a load ended, which lacks memory
-pub end_lacks : (given : LoadSettings) (uuid : List ℕ) (first : Image) (texts : Texts) (memory : Image) (s new : InPlaceLoad) (from : Source) → new ≡ record s { sources = new.sources }
+pub end_lacks : (given : LoadSettings) (uuid : List ℕ) (first : Image) (texts : Texts) (memory : Image)
+    (s new : InPlaceLoad) (from : Source) → new ≡ record s { sources = new.sources }
     → LacksMemory given uuid first texts memory s → LacksMemory given uuid first (end_step from texts) memory new
 end_lacks given uuid first texts memory s new from same lacks =
     let on = ended_without given uuid first texts memory s.rounds s.verdict from lacks.is_table lacks.is_without in

@@ -11,9 +11,11 @@ use Rattle.mig_in_place.proofs.Done.{own_or_other}
 
 other_fault : (k n : ℕ) → failed k origin.Main fault.OtherTable ≢ failed n origin.Round fault.NoMemory
 other_fault k n e =
-    let same = same_found (record { round = k; source = origin.Main; fault = fault.OtherTable }) (record { round = n; source = origin.Round; fault = fault.NoMemory }) e in
+    let same = same_found (record { round = k; source = origin.Main; fault = fault.OtherTable })
+    (record { round = n; source = origin.Round; fault = fault.NoMemory }) e in
     absurd (let clash : origin.Main ≡ origin.Round = ap (λ (x : LoadFault). x.source) same in cc)
 
+-- a load that stands as its readings say has not failed in a round for want of memory
 pub stands_found : (f : Loading) (memory : Image) (s : InPlaceLoad) (n : ℕ) → Stands f memory s → s.verdict ≢ failed n origin.Round fault.NoMemory
 stands_found f memory s n stands e = elim (own_or_other f.first stands.is_answer.readings.main) [
   | inl own ↦ never_refused s.rounds n stands.is_answer.readings (sym (stands.is_answer.own own).has_verdict ∙ e)

@@ -29,6 +29,7 @@ some_channel k n (c ∷ channels) e = elim (cases_Bool (is_pending (channel_stat
       let rest = some_channel k (n + 1) channels later in (suc rest.0, (let below = rest.1 in omega (arith, below)), rest.2)
 ]
 
+-- as long as a load runs it takes bytes of some source, whatever bytes it has
 pub some_takes_law : RunningTakesSome
 some_takes_law given uuid first texts memory k is_table here = elim (own_or_other first here.readings.main) [
   | inr other ↦ absurd (let bad = (here.other other).has_verdict in cc)
@@ -39,7 +40,12 @@ some_takes_law given uuid first texts memory k is_table here = elim (own_or_othe
         | inl t ↦ (
           source.Main,
           tt,
-          record { readings = here.readings; are_readings = here.are_readings; is_pending = pending_is (main_status k here.readings.main) t; is_free = λ held. held },
+          record {
+            readings = here.readings;
+            are_readings = here.are_readings;
+            is_pending = pending_is (main_status k here.readings.main) t;
+            is_free = λ held. held;
+          },
         )
         | inr f ↦
             let later : list_any waits (channels_at k here.readings) ≡ true = rw f at waited in
@@ -47,7 +53,8 @@ some_takes_law given uuid first texts memory k is_table here = elim (own_or_othe
             let many = AllZip-long _ _ _ here.are_readings.has_channels in
             let below = found.1 in
             let free : IsHeldBack here.readings (source.Channel found.0) → ⊥ = λ held. false≢true (sym f
-            ∙ list_waits k here.readings.main (main_table_first (for_table first.table given) texts.main here.readings.main is_table.has_page_size here.are_readings.has_main held.0) held.1) in (
+            ∙ list_waits k here.readings.main (main_table_first
+            (for_table first.table given) texts.main here.readings.main is_table.has_page_size here.are_readings.has_main held.0) held.1) in (
               source.Channel found.0,
               omega (arith, below, many, length-map texts.channels count_in),
               record { readings = here.readings; are_readings = here.are_readings; is_pending = found.2; is_free = free },

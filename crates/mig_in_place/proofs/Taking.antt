@@ -1,5 +1,5 @@
 -- The records of the main stream's current round are taken.
-use Rattle.std.proofs.Common.{ℕ, ◌≡◌, Bool, true, false, not, List, [], ◌∷◌, ◌++◌, length, map, Some, refl, sym, ap, subst, ◌∙◌, inl, inr, arith}
+use Rattle.std.proofs.Common.{ℕ, ◌≡◌, List, [], ◌∷◌, ◌++◌, length, map, Some, sym, ap, subst, ◌∙◌, inl, inr, arith}
 use Rattle.std.specs.Prelude.{IsTrue, IsFalse}
 use Rattle.std.specs.List.{All}
 use Rattle.mig_mem.specs.RamTable.{RamTable}
@@ -21,11 +21,14 @@ use Rattle.mig_in_place.specs.Session.{IsMainOf}
 
 -- the round that was given
 abbrev pub IsGiven : KeptMain → RoundOfRecords → Type 0
-IsGiven m round = (given : Settings) (k : ℕ) (text : Text) → StandsAt given k text m → (round.page_size ≡ given.page_size) × HasRound given text.bytes k round.records
+IsGiven m round = (given : Settings) (k : ℕ) (text : Text) → StandsAt given k text m
+    → (round.page_size ≡ given.page_size) × HasRound given text.bytes k round.records
 
 abbrev pub HasPlaces : KeptMain → RoundOfRecords → Type 0
-HasPlaces m round = (given : Settings) (k : ℕ) (text : Text) (table : RamTable) → StandsAt given k text m → HasTable given text.bytes (Some table) → All (λ x. IsPlace table x.place) round.records
+HasPlaces m round = (given : Settings) (k : ℕ) (text : Text) (table : RamTable) → StandsAt given k text m
+    → HasTable given text.bytes (Some table) → All (λ x. IsPlace table x.place) round.records
 
+-- the round that the main stream's reader gave fits the table of the memory
 pub fits : (table : RamTable) (m : KeptMain) (round : RoundOfRecords) → IsMainOf table m → IsGiven m round → HasPlaces m round → FitsTable table round
 fits table m round is given places =
     let has = given is.given is.k is.text is.stands in
@@ -40,7 +43,8 @@ fits table m round is given places =
     ]
 
 -- the same main stream, further on
-pub main_still : (table : RamTable) (old new : KeptMain) → ((given : Settings) (k : ℕ) (text : Text) → StandsAt given k text old → StandsAt given k text new) → IsMainOf table old → IsMainOf table new
+pub main_still : (table : RamTable) (old new : KeptMain)
+    → ((given : Settings) (k : ℕ) (text : Text) → StandsAt given k text old → StandsAt given k text new) → IsMainOf table old → IsMainOf table new
 main_still table old new on is = record {
   given = is.given;
   k = is.k;
@@ -51,12 +55,17 @@ main_still table old new on is = record {
   is_own = is.is_own;
 }
 
+-- a round that keeps some arrivals keeps some with records added
 pub also_records : (table : RamTable) (pages : List Page) (old new : KeptRound) → AlsoKeeps (Records pages) old new → KeepsSome table old → KeepsSome table new
 also_records table pages old new also some = (some.0 ++ Records pages ∷ [], also table some.0 some.1)
 
-pub takes_records : (given : Settings) (k : ℕ) (text : Text) (old new : KeptMain) (round : RoundOfRecords) (r after : KeptRound) (memory then : Image) → IsGiven old round → IsFalse old.is_whole × IsTrue new.is_whole
+-- with the records of a round kept, and written unless pages are known to be misplaced, the main
+-- stream has the current round taken
+pub takes_records : (given : Settings) (k : ℕ) (text : Text) (old new : KeptMain) (round : RoundOfRecords) (r after : KeptRound)
+    (memory then : Image) → IsGiven old round → IsFalse old.is_whole × IsTrue new.is_whole
     → StandsAt given k text old → StandsAt given k text new → AlsoKeeps (Records (pages_of_round round)) r after → after.has_misplaced ≡ r.has_misplaced
-    → (IsFalse r.has_misplaced → then ≡ with_round memory (pages_of_round round)) → (IsTrue r.has_misplaced → then ≡ memory) → TakesRecords given k text old r memory new after then
+    → (IsFalse r.has_misplaced → then ≡ with_round memory (pages_of_round round)) → (IsTrue r.has_misplaced → then ≡ memory)
+    → TakesRecords given k text old r memory new after then
 takes_records given k text old new round r after memory then is whole before stands also misplaced right wrong =
     let has = is given k text before in
     let pages : pages_of_round round ≡ map (page_of given.page_size) round.records = ap (λ (n : ℕ). map (page_of n) round.records) has.0 in
@@ -71,11 +80,3 @@ takes_records given k text old new round r after memory then is whole before sta
       right = λ f. right f ∙ ap (λ (l : List Page). with_round memory l) pages;
       wrong = wrong;
     }
-
-pub not_true : (b : Bool) → not b ≡ true → b ≡ false
-not_true true e = absurd cc
-not_true false e = refl
-
-pub not_false : (b : Bool) → not b ≡ false → b ≡ true
-not_false true e = refl
-not_false false e = absurd cc

@@ -2,9 +2,8 @@
 use Rattle.std.proofs.Common.{ℕ, zero, suc, ◌≡◌, ◌<◌, ◌+◌, ◌&&◌, ◌||◌, Bool, true, false, List, [], ◌∷◌, ◌++◌, length, map, get_or, set, refl, sym, ap, ◌∙◌, inl, inr, arith}
 use Rattle.std.specs.Prelude.{IsTrue}
 use Rattle.std.specs.List.{All, AllZip, list_all, list_any, enumerate_from, flat_map, range_with_len}
-use Rattle.std.proofs.lemmas.Bool.{cases_order, cases_Bool, or_parts}
-use Rattle.std.proofs.lemmas.List.{append-nil}
-use Rattle.std.proofs.lemmas.List.Elements.{All-nil, All-cons, All-head, All-tail}
+use Rattle.std.proofs.lemmas.Bool.{cases_Bool}
+use Rattle.std.proofs.lemmas.List.Elements.{All-head, All-tail}
 use Rattle.mig_mem.specs.PageSize.{IsPageSize}
 use Rattle.mig_mem.specs.RamTable.{RamTable}
 use Rattle.mig_mem.specs.Image.{Image}
@@ -14,46 +13,40 @@ use Rattle.mig_stream.specs.Law.{StaysRead}
 use Rattle.mig_packet.specs.Packet.{Fields, fields_of}
 use Rattle.mig_packet.specs.Reading as channel
 use Rattle.mig_packet.proofs.Exists.{one_reading_law as channel_law}
+use Rattle.mig_packet.proofs.Heads.{same_map}
 use Rattle.mig_assemble.specs.Judging.{all_round_pages}
 use Rattle.mig_single_load.specs.declared.fault.Origin.TheVariants as origin
 use Rattle.mig_answer.specs.declared.verdict.Verdict.TheVariants.{Running}
 use Rattle.mig_answer.specs.declared.status.Status.{Status}
 use Rattle.mig_answer.specs.declared.status.Status.TheVariants.{Whole, Clean, Bad, Pending}
-use Rattle.mig_answer.specs.Status.{status_at, main_status, channel_status, stream_end, channel_end, is_whole, is_pending}
+use Rattle.mig_answer.specs.Status.{main_status, channel_status, stream_end, channel_end, is_whole, is_pending}
 use Rattle.mig_answer.specs.Texts.{Text, Texts, Readings, no_text}
 use Rattle.mig_answer.specs.Rounds.{record_pages_at, channel_packets_at, packets_at, pages_at}
 use Rattle.mig_answer.specs.MultiLoad.{Standing, main_at, channels_at, sources_at, passes, verdict_at, IsFirstStop}
 use Rattle.mig_answer.specs.Growing.{GoesOn, GoOn}
-use Rattle.mig_answer.proofs.Statuses.{status_whole, status_end, stream_ends, channel_ends, status_behind}
+use Rattle.mig_answer.proofs.Statuses.{status_whole, stream_ends, channel_ends}
 use Rattle.mig_answer.proofs.Judged.{IsWhole, whole_at, settled_is_told}
 use Rattle.mig_answer.proofs.GrowingChannels.{ChannelStays, channel_stays, round_of_more}
-use Rattle.mig_answer.proofs.Growing.{ReadingsStay}
-use Rattle.mig_in_place.proofs.Names.{at_round, stream_over, channel_over}
+use Rattle.mig_answer.proofs.Growing.{ReadingsStay, none_passes, at_round}
+use Rattle.mig_session.proofs.Sessions.{whole_below, stays_same, all_same, one_goes}
+use Rattle.mig_in_place.proofs.Names.{stream_over, channel_over}
 
 -- ---- streams with more bytes
 
-stays_same : (text : Text) → GoesOn text text
-stays_same text = record { more = []; has_bytes = sym (append-nil text.bytes); stays_ended = λ e. refl }
-
-all_same : (texts : List Text) → AllZip GoesOn texts texts
-all_same [] = tt
-all_same (text ∷ texts) = (stays_same text, all_same texts)
-
-pub one_goes : (j : ℕ) (step : Text → Text) (texts : List Text) → GoesOn (get_or texts j no_text) (step (get_or texts j no_text)) → AllZip GoesOn texts (set texts j (step (get_or texts j no_text)))
-one_goes j step [] goes = tt
-one_goes zero step (text ∷ texts) goes = (goes, all_same texts)
-one_goes (suc j) step (text ∷ texts) goes = (stays_same text, one_goes j step texts goes)
-
+-- the streams grow if the main stream does
 pub main_goes : (texts : Texts) (step : Text → Text) → GoesOn texts.main (step texts.main) → GoOn texts (record texts { main = step texts.main })
 main_goes texts step goes = record { main = goes; channels = all_same texts.channels }
 
+-- the streams grow if one channel does
 pub channel_goes : (texts : Texts) (j : ℕ) (step : Text → Text) → GoesOn (get_or texts.channels j no_text) (step (get_or texts.channels j no_text))
     → GoOn texts (record texts { channels = set texts.channels j (step (get_or texts.channels j no_text)) })
 channel_goes texts j step goes = record { main = stays_same texts.main; channels = one_goes j step texts.channels goes }
 
 -- ---- statuses stay
 
-pub main_kept : (k : ℕ) (before now : stream.StreamReading) → StaysRead before now → is_pending (main_status k before) ≡ false → main_status k now ≡ main_status k before
+-- a main stream's status that isn't pending stays the same when more is read
+pub main_kept : (k : ℕ) (before now : stream.StreamReading) → StaysRead before now → is_pending (main_status k before) ≡ false
+    → main_status k now ≡ main_status k before
 main_kept k before now stays settled = elim (at_round k (length before.rounds) (stream_end before.state) settled) [
   | inl lt ↦
       let longer = round_of_more before.rounds now.rounds stays.more_rounds k stays.has_rounds lt in
@@ -61,7 +54,8 @@ main_kept k before now stays settled = elim (at_round k (length before.rounds) (
   | inr end ↦ ap (main_status k) (stays.same_once_over (stream_over before.state end.1))
 ]
 
-channel_kept : (k : ℕ) (before now : channel.ChannelReading) → ChannelStays before now → is_pending (channel_status k before) ≡ false → channel_status k now ≡ channel_status k before
+channel_kept : (k : ℕ) (before now : channel.ChannelReading) → ChannelStays before now
+    → is_pending (channel_status k before) ≡ false → channel_status k now ≡ channel_status k before
 channel_kept k before now stays settled = elim (at_round k (length before.rounds) (channel_end before.state) settled) [
   | inl lt ↦
       let longer = round_of_more before.rounds now.rounds stays.more_rounds k stays.has_rounds lt in
@@ -75,7 +69,9 @@ KeepsStatus k before now = channel_status k now ≡ channel_status k before
 abbrev AreRead : channel.Settings → List Text → List channel.ChannelReading → Type 0
 AreRead given texts readings = AllZip (λ (text : Text) (reading : channel.ChannelReading). channel.IsReading given text.bytes text.ended reading) texts readings
 
-pub all_kept : (given : channel.Settings) (k : ℕ) (texts : List Text) (befores nows : List channel.ChannelReading) → IsPageSize given.page_size → AreRead given texts befores → AreRead given texts nows
+-- two readings of the same channels have the same statuses at round k
+pub all_kept : (given : channel.Settings) (k : ℕ) (texts : List Text) (befores nows : List channel.ChannelReading)
+    → IsPageSize given.page_size → AreRead given texts befores → AreRead given texts nows
     → AllZip (KeepsStatus k) befores nows
 all_kept given k [] [] [] size was is = tt
 all_kept given k [] [] (y ∷ nows) size was is = absurd is
@@ -87,8 +83,10 @@ all_kept given k (text ∷ texts) (x ∷ befores) (y ∷ nows) size was is =
     (ap (channel_status k) (one.2 y is.0 ∙ sym (one.2 x was.0)), all_kept given k texts befores nows size was.1 is.1)
 
 -- all but one channel are the same, and that one isn't pending
-pub one_kept : (given : channel.Settings) (k j : ℕ) (step : Text → Text) (texts : List Text) (befores nows : List channel.ChannelReading) → IsPageSize given.page_size → GoesOn (get_or texts j no_text) (step (get_or texts j no_text))
-    → AreRead given texts befores → AreRead given (set texts j (step (get_or texts j no_text))) nows → is_pending (get_or (map (channel_status k) befores) j Pending) ≡ false
+pub one_kept : (given : channel.Settings) (k j : ℕ) (step : Text → Text) (texts : List Text)
+    (befores nows : List channel.ChannelReading) → IsPageSize given.page_size → GoesOn (get_or texts j no_text) (step (get_or texts j no_text))
+    → AreRead given texts befores → AreRead given (set texts j (step (get_or texts j no_text))) nows
+    → is_pending (get_or (map (channel_status k) befores) j Pending) ≡ false
     → AllZip (KeepsStatus k) befores nows
 one_kept given k j step [] [] [] size goes was is settled = tt
 one_kept given k j step [] [] (y ∷ nows) size goes was is settled = absurd is
@@ -108,6 +106,7 @@ standing_at k c = record { source = origin.Channel c.0; status = channel_status 
 abbrev pub waits : Standing → Bool
 waits s = is_pending s.status
 
+-- if each channel keeps its status, one of them is pending exactly if one was
 pub any_kept : (k n : ℕ) (befores nows : List channel.ChannelReading) → AllZip (KeepsStatus k) befores nows
     → list_any waits (map (standing_at k) (enumerate_from n nows)) ≡ list_any waits (map (standing_at k) (enumerate_from n befores))
 any_kept k n [] [] kept = refl
@@ -119,12 +118,7 @@ any_kept k n (x ∷ befores) (y ∷ nows) kept =
 
 -- ---- a load runs if a source is pending
 
-none_passes : {X : Type 0} (test : X → Bool) (xs : List X) → list_any test xs ≡ false → All (λ x. test x ≡ false) xs
-none_passes test [] e = All-nil (λ x. test x ≡ false)
-none_passes test (x ∷ xs) e =
-    let parts = or_parts (test x) (list_any test xs) e in
-    All-cons (λ x. test x ≡ false) x xs parts.0 (none_passes test xs parts.1)
-
+-- if the load goes on at the first round that stops, a source waits for bytes there
 pub running_waits : (k : ℕ) (readings : Readings) → IsFirstStop readings k → verdict_at k readings ≡ Running → list_any waits (sources_at k readings) ≡ true
 running_waits k readings stop running = elim (cases_Bool (list_any waits (sources_at k readings))) [
   | inl t ↦ t
@@ -137,6 +131,7 @@ waiting_is_open Clean e = refl
 waiting_is_open (Bad f) e = refl
 waiting_is_open Pending e = refl
 
+-- if some source is pending, not all are whole
 pub not_all_whole : (sources : List Standing) → list_any waits sources ≡ true → list_all (λ (s : Standing). is_whole s.status) sources ≡ false
 not_all_whole [] e = absurd cc
 not_all_whole (s ∷ sources) e = elim (cases_Bool (is_pending s.status)) [
@@ -151,50 +146,43 @@ not_all_whole (s ∷ sources) e = elim (cases_Bool (is_pending s.status)) [
     and_false true n e = e
     and_false false n e = refl
 
+-- if a source is pending at round k, the round doesn't pass, and its verdict is Running
 pub waits_here : (k : ℕ) (readings : Readings) → list_any waits (sources_at k readings) ≡ true → (passes k readings ≡ false) × (verdict_at k readings ≡ Running)
 waits_here k readings t = (let n = not_all_whole (sources_at k readings) t in rw n refl, rw t refl)
 
 -- ---- the rounds before stay
 
-whole_below : (k n : ℕ) (end : Status) → is_whole end ≡ false → is_whole (status_at k n end) ≡ true → k < n
-whole_below k n end ends whole = elim (cases_order k n) [
-  | inl e ↦ absurd (let w : is_whole (status_at k n end) ≡ false = ap is_whole (status_end k n end e) ∙ ends in cc)
-  | inr ne ↦ elim ne [
-    | inl lt ↦ lt
-    | inr gt ↦ absurd (let w : is_whole (status_at k n end) ≡ false = ap is_whole (status_behind k n end gt) in cc)
-  ]
-]
-
-same_packets : (p i n : ℕ) (befores nows : List channel.ChannelReading) → AllZip ChannelStays befores nows → All IsWhole (map (standing_at i) (enumerate_from n befores))
+same_packets : (p i n : ℕ) (befores nows : List channel.ChannelReading) → AllZip ChannelStays befores nows
+    → All IsWhole (map (standing_at i) (enumerate_from n befores))
     → flat_map (channel_packets_at p i) nows ≡ flat_map (channel_packets_at p i) befores
 same_packets p i n [] [] stay whole = refl
 same_packets p i n [] (y ∷ nows) stay whole = absurd stay
 same_packets p i n (x ∷ befores) [] stay whole = absurd stay
 same_packets p i n (x ∷ befores) (y ∷ nows) stay whole =
     let rest : List Standing = map (standing_at i) (enumerate_from (n + 1) befores) in
-    let lt : i < length x.rounds = whole_below i (length x.rounds) (channel_end x.state) (channel_ends x.state) (All-head IsWhole (standing_at i (n, x)) rest whole) in
+    let lt : i < length x.rounds = whole_below i (length x.rounds) (channel_end x.state) (channel_ends x.state)
+    (All-head IsWhole (standing_at i (n, x)) rest whole) in
     let longer = round_of_more x.rounds y.rounds stay.0.more_rounds i stay.0.has_rounds lt in
     ap (λ (round : List (List ℕ)). map (fields_of p) round ++ flat_map (channel_packets_at p i) nows) longer.1
-    ∙ ap (λ (packets : List Fields). channel_packets_at p i x ++ packets) (same_packets p i (n + 1) befores nows stay.1 (All-tail IsWhole (standing_at i (n, x)) rest whole))
+    ∙ ap (λ (packets : List Fields). channel_packets_at p i x ++ packets)
+    (same_packets p i (n + 1) befores nows stay.1 (All-tail IsWhole (standing_at i (n, x)) rest whole))
 
-same_pages : (table : RamTable) (i : ℕ) (before now : Readings) → ReadingsStay before now → passes i before ≡ true → pages_at table i now ≡ pages_at table i before
+same_pages : (table : RamTable) (i : ℕ) (before now : Readings) → ReadingsStay before now → passes i before ≡ true
+    → pages_at table i now ≡ pages_at table i before
 same_pages table i before now stay passed =
     let p : ℕ = table.page_size in
     let whole = whole_at before i passed in
     let lt : i < length before.main.rounds =
-    whole_below i (length before.main.rounds) (stream_end before.main.state) (stream_ends before.main.state) (All-head IsWhole (main_at i before) (channels_at i before) whole) in
+    whole_below i (length before.main.rounds) (stream_end before.main.state) (stream_ends before.main.state)
+    (All-head IsWhole (main_at i before) (channels_at i before) whole) in
     let longer = round_of_more before.main.rounds now.main.rounds stay.main.more_rounds i stay.main.has_rounds lt in
     ap (λ (round : List PageRecord). all_round_pages table (map (page_of p) round) (packets_at p i now)) longer.1
     ∙ ap (λ (packets : List Fields). all_round_pages table (record_pages_at p i before) packets)
     (same_packets p i 0 before.channels now.channels stay.channels (All-tail IsWhole (main_at i before) (channels_at i before) whole))
 
-same_map : {Y : Type 0} (f g : ℕ → Y) (a n : ℕ) → ((i : ℕ) → i < a + n → f i ≡ g i) → map f (range_with_len a n) ≡ map g (range_with_len a n)
-same_map f g a zero same = refl
-same_map {Y} f g a (suc n) same =
-    ap (λ (y : Y). y ∷ map f (range_with_len (a + 1) n)) (same a (omega arith))
-    ∙ ap (λ (ys : List Y). g a ∷ ys) (same_map f g (a + 1) n (λ i below. same i (omega (arith, below))))
-
+-- rounds that all sources passed keep their pages if the streams grow
 pub same_rounds_onto : (first : Image) (k : ℕ) (before now : Readings) → ReadingsStay before now → ((j : ℕ) → j < k → IsTrue (passes j before))
     → map (λ i. pages_at first.table i now) (range_with_len 0 k) ≡ map (λ i. pages_at first.table i before) (range_with_len 0 k)
 same_rounds_onto first k before now stay passed =
-    same_map (λ i. pages_at first.table i now) (λ i. pages_at first.table i before) 0 k (λ i below. same_pages first.table i before now stay (passed i (omega (arith, below))))
+    same_map (λ i. pages_at first.table i now) (λ i. pages_at first.table i before) 0 k
+    (λ i below. same_pages first.table i before now stay (passed i (omega (arith, below))))

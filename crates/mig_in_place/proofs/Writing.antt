@@ -14,17 +14,20 @@ use Rattle.mig_assemble.specs.Judging.{places_of}
 use Rattle.mig_assemble.proofs.Arriving.{last_none}
 use Rattle.mig_in_place.specs.Answer.{HoldsElsewhere}
 
-none_there : (test : Place → Bool) (pages : List Page) (p : Place) → All (λ page. test page.place ≡ true) pages → test p ≡ false → has_place (places_of pages) p ≡ false
+none_there : (test : Place → Bool) (pages : List Page) (p : Place) → All (λ page. test page.place ≡ true) pages → test p ≡ false
+    → has_place (places_of pages) p ≡ false
 none_there test [] p all not_p = refl
 none_there test (x ∷ pages) p all not_p = elim (cases_Bool (place_eq x.place p)) [
   | inl same ↦
       let here : test x.place ≡ true = All-head (λ (page : Page). test page.place ≡ true) x pages all in
       let there : test x.place ≡ test p = ap test (place_eq-true x.place p same) in absurd cc
-  | inr other ↦ ap (λ (b : Bool). b || has_place (places_of pages) p) other ∙ none_there test pages p (All-tail (λ (page : Page). test page.place ≡ true) x pages all) not_p
+  | inr other ↦ ap (λ (b : Bool). b || has_place (places_of pages) p) other
+      ∙ none_there test pages p (All-tail (λ (page : Page). test page.place ≡ true) x pages all) not_p
 ]
 
 -- a memory that some pages were written into, each of a place that may be written
-pub stays_elsewhere : (test : Place → Bool) (IsOpen : Place → Type 0) (kept memory : Image) (written : List Page) → memory ≡ with_round kept written → ((p : Place) → test p ≡ true → IsOpen p)
+pub stays_elsewhere : (test : Place → Bool) (IsOpen : Place → Type 0) (kept memory : Image) (written : List Page)
+    → memory ≡ with_round kept written → ((p : Place) → test p ≡ true → IsOpen p)
     → All (λ page. test page.place ≡ true) written → HoldsElsewhere kept IsOpen memory
 stays_elsewhere test IsOpen kept memory written is open_ all = record {
   same_table = ap (λ (m : Image). m.table) is;

@@ -22,7 +22,7 @@ use Rattle.mig_answer.specs.declared.status.Status.TheVariants.{Pending}
 use Rattle.mig_answer.specs.Status.{main_status, channel_status}
 use Rattle.mig_answer.specs.Texts.{Text, Texts, Readings, AreReadings, no_text}
 use Rattle.mig_answer.specs.Rounds.{record_pages_at, base_at, places_in_rounds}
-use Rattle.mig_answer.specs.MultiLoad.{main_at, channels_at, hello_ids, repeated_hello, verdicts_told, passes, failed}
+use Rattle.mig_answer.specs.MultiLoad.{main_at, channels_at, hello_ids, repeated_hello, sources_verdicts, passes, failed}
 use Rattle.mig_mem.specs.First.{first_some}
 use Rattle.mig_session.specs.declared.source.Source.{Source}
 use Rattle.mig_session.specs.declared.source.Source.TheVariants as source
@@ -197,12 +197,12 @@ Stands f memory s = StandsFor f.given f.uuid f.first f.texts memory s
 -- The sources give no verdict at the current round: all have it, and no hello's id is repeated.
 abbrev pub IsDue : Loading → ℕ → Type 0
 IsDue f k = (readings : Readings) → AreReadings (for_table f.first.table f.given) f.uuid f.texts readings
-    → first_some (verdicts_told k (main_at k readings) (channels_at k readings) (repeated_hello (hello_ids readings))) ≡ None
+    → first_some (sources_verdicts k (main_at k readings) (channels_at k readings) (repeated_hello (hello_ids readings))) ≡ None
 
 -- this is the verdict of the sources, or None if the current round is to be judged
 abbrev pub TellsVerdict : Option Verdict → Loading → ℕ → Type 0
 TellsVerdict told f k = (readings : Readings) → AreReadings (for_table f.first.table f.given) f.uuid f.texts readings
-    → told ≡ first_some (verdicts_told k (main_at k readings) (channels_at k readings) (repeated_hello (hello_ids readings)))
+    → told ≡ first_some (sources_verdicts k (main_at k readings) (channels_at k readings) (repeated_hello (hello_ids readings)))
 
 -- the round passes
 abbrev pub PassesAt : Loading → ℕ → Type 0

@@ -26,7 +26,7 @@ use crate::round::RoundInHand;
 use mig_answer::{Status, channel_end};
 use mig_assemble::Pages;
 use mig_mem::{GuestTarget, NoMemory, Place};
-use mig_packet::{Came, PacketHead, PageContent, PageReader};
+use mig_packet::{ChannelEvent, PacketHead, PageContent, PageReader};
 use mig_single_load::{Fault, LoadSettings};
 use std::alloc::{Allocator, Global};
 use std::marker::Model;
@@ -74,7 +74,7 @@ impl<A: Allocator + Copy> Channel<A> {
     {
         let page_size = settings.page_size;
         let waiting = settings.waiting;
-        let Ok(reader) = PageReader::new_within(alloc, page_size, uuid, channels, waiting) else {
+        let Ok(reader) = PageReader::new(alloc, page_size, uuid, channels, waiting) else {
             return Err(NoMemory);
         };
         Ok(Channel {
@@ -122,18 +122,20 @@ impl<A: Allocator> Channel<A> {
         }
         let mut taken = 0;
         'items: loop {
-            let (came, count) = self.reader.read_on(&piece[taken..]);
+            let (event, count) = self.reader.read_on(&piece[taken..]);
             taken += count;
-            match came {
-                Came::More | Came::Over => return Ok(taken),
-                Came::Hello(_) => {
+            match event {
+                ChannelEvent::More | ChannelEvent::Over => return Ok(taken),
+                ChannelEvent::Hello(_) => {
                     if !self.takes(list) {
                         return Ok(taken);
                     }
                 }
-                Came::Head => self.begin_packet(list, round, memory)?,
-                Came::Page(offset, content) => self.put_page(round, memory, offset, content),
-                Came::Packet(sync) => {
+                ChannelEvent::Head => self.begin_packet(list, round, memory)?,
+                ChannelEvent::Page(offset, content) => self.put_page(
+                    round, memory, offset, content,
+                ),
+                ChannelEvent::Packet(sync) => {
                     self.end_packet(sync);
                     if sync {
                         return Ok(taken);

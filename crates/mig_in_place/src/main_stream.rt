@@ -81,7 +81,7 @@ impl<A: Allocator + Copy> MainStream<A> {
         ensures count { main_count result ≡ record { fed = 0; ended = false } }
     {
         MainStream {
-            reader: StreamReader::new_within(
+            reader: StreamReader::new_with(
                 alloc,
                 settings.frame,
                 settings.main_mode(),

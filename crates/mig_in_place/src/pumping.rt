@@ -170,8 +170,8 @@ fn turn_of<P: PieceReader, A: Allocator, B: Allocator + Copy, M: GuestTarget>(
 /// to the verdict. `sources` has the reader of the main stream first, and then those of the
 /// channels. If a source is ahead of the others, its bytes wait in its buffer, and no more of it is
 /// read. A source with waiting bytes that the load takes has the next turn. If there is none,
-/// `order` chooses. The main stream isn't read on once it is closed: `SourceReader::behind` returns
-/// what was read behind its end.
+/// `order` chooses. The main stream isn't read on once it is closed: `SourceReader::unread` returns
+/// what was read after its end.
 ///
 /// Returns the verdict. It is `Running` after all the turns, or if only sources without a reader
 /// can have a turn. Then it can be pumped on.

@@ -11,7 +11,7 @@ ghost use Rattle.mig_single_load.specs.declared.fault.InPlaceFault.TheVariants a
 ghost use Rattle.mig_single_load.specs.declared.fault.Origin.TheVariants as origin;
 ghost use Rattle.mig_single_load.specs.declared.settings.LoadSettings.{LoadSettings};
 ghost use Rattle.mig_single_load.specs.declared.fault.Fault.TheVariants.{NoMemory as fault_no_memory};
-ghost use Rattle.mig_single_load.specs.Settings.{ram_settings, for_table, main_of, channel_of};
+ghost use Rattle.mig_single_load.specs.Settings.{for_table, main_of, channel_of};
 ghost use Rattle.mig_answer.specs.declared.verdict.Verdict.TheVariants.{Running as running, Done as done};
 ghost use Rattle.mig_answer.specs.Texts.{no_text, no_texts};
 ghost use Rattle.mig_answer.specs.MultiLoad.{failed};
@@ -36,7 +36,7 @@ ghost use Rattle.mig_in_place.specs.Session.{TakesBytes, StandsFor, LacksMemory,
 use crate::channel::Channel;
 use crate::main_stream::{MainStream, is_clean, is_pending};
 use crate::round::RoundInHand;
-use mig_answer::{Status, Verdict, repeated_id, verdict_told};
+use mig_answer::{Status, Verdict, repeated_id, sources_verdict};
 use mig_assemble::put_records;
 use mig_marking::lacking;
 use mig_mem::{Dirty, GuestTarget, NoMemory, Table};
@@ -72,7 +72,9 @@ const ROUND_LIMIT: u64 = 1 << 63;
 /// <!-- quoted from crates/mig_uses/src/by_turns.rt -->
 /// ```rust
 /// let channels = connections.len() - 1;
-/// let Ok(mut load) = InPlaceSession::new(alloc, memory.table(), uuid, channels, limit) else {
+/// let table = memory.table();
+/// let settings = LoadSettings::new(table.page_size(), limit);
+/// let Ok(mut load) = InPlaceSession::new(alloc, settings, table, uuid, channels) else {
 ///     return Err(TurnFault::NoMemory);
 /// };
 /// let Ok(mut sources) = buffered(alloc, connections) else {
@@ -231,41 +233,16 @@ fn look_at_hellos<A: Allocator>(channels: &[Channel<A>], hellos: &mut Vec<Option
 
 impl<A: Allocator + Copy> InPlaceSession<A> {
     /// Creates a load into memory of `table`, which it copies, from `channels` channels under
-    /// `uuid`. A stream whose blocks have more than `limit` bytes together is refused. So `limit`
-    /// must be at least the table's own total.
-    ///
-    /// # Errors
-    ///
-    /// `NoMemory`: an allocation was refused.
-    pub fn new<B: Allocator>(
-        alloc: A,
-        table: &Table<B>,
-        uuid: &Uuid,
-        channels: usize,
-        limit: u64,
-    ) -> Result<InPlaceSession<A>, NoMemory>
-        requires channels { (1 ≤ channels) × (channels ≤ 255) }
-        requires limit { limit ≤ 2 ^ 40 }
-        ensures stands { IfOk result (λ s. (first : Image) → IsImage first → first.table ≡ table.now
-            → StandsFor (ram_settings table.now.page_size limit) uuid.now first (no_texts channels) first s) }
-        ensures table { IfOk result (λ s. s.table ≡ table.now) }
-        ensures counts { IfOk result (λ s. counts_of s.sources ≡ record { main = no_count; channels = replicate channels no_count }) }
-    {
-        let settings = LoadSettings::new(table.page_size(), limit);
-        InPlaceSession::new_in(alloc, table, settings, uuid, channels)
-    }
-
-    /// Creates a load into memory of `table`, which it copies, from `channels` channels under
     /// `uuid`, with `settings`. Their page size doesn't count: pages have the size that `table`
     /// has. The limit must be at least the table's own total.
     ///
     /// # Errors
     ///
     /// `NoMemory`: an allocation was refused.
-    pub fn new_in<B: Allocator>(
+    pub fn new<B: Allocator>(
         alloc: A,
-        table: &Table<B>,
         settings: LoadSettings,
+        table: &Table<B>,
         uuid: &Uuid,
         channels: usize,
     ) -> Result<InPlaceSession<A>, NoMemory>
@@ -369,7 +346,7 @@ impl<A: Allocator + Copy> InPlaceSession<A> {
             let rounds = self.rounds;
             let count = self.read(memory, source, &piece[taken..])?;
             taken += count;
-            self.settle(memory)?;
+            self.judge_so_far(memory)?;
             if count == 0 && self.rounds == rounds {
                 return Ok(taken);
             }
@@ -435,9 +412,9 @@ impl<A: Allocator + Copy> InPlaceSession<A> {
     }
 
     /// Returns the head of the next packet of a channel, and the number of the block of its pages,
-    /// if `head` is its head and `take_packet` takes it: the channel takes bytes, and it is a packet
-    /// without a fault and without SYNC, whose pages are in a block, in a round of which no page is
-    /// misplaced.
+    /// if `head` is its head and `take_packet` takes it: the channel takes bytes, and it is a
+    /// packet without a fault and without SYNC, whose pages are in a block, in a round of which no
+    /// page is misplaced.
     pub fn next_packet<'h>(&self, channel: usize, head: &'h [u8]) -> Option<(PacketHead<'h>, usize)>
         requires source { HasSource (counts_of self.now.sources) (source.Channel channel) }
         ensures head { IfSome result (λ found. (found.0.bytes.now ≡ head.now) × (found.0.page_size ≡ self.now.table.page_size)) }
@@ -500,7 +477,7 @@ impl<A: Allocator + Copy> InPlaceSession<A> {
             return Ok(false);
         }
         // it isn't due, since the channel lacks its SYNC
-        let _told = self.tell();
+        let _found = self.tell();
         Ok(true)
     }
 
@@ -530,7 +507,7 @@ impl<A: Allocator + Copy> InPlaceSession<A> {
 
 impl<A: Allocator> InPlaceSession<A> {
     // Judges the bytes so far.
-    fn settle<M: GuestTarget>(&mut self, memory: &mut M) -> Result<(), NoMemory>
+    fn judge_so_far<M: GuestTarget>(&mut self, memory: &mut M) -> Result<(), NoMemory>
         requires { (M.image memory.old).table ≡ self.old.table }
         ensures stands { OnOk result ((f : Loading) → IsUnsettled f (M.image memory.old) self.old → Stands f (M.image memory.new) self.new) }
         ensures lacks { OnErr result ((f : Loading) → IsUnsettled f (M.image memory.old) self.old → Lacks f (M.image memory.new) self.new) }
@@ -550,14 +527,14 @@ impl<A: Allocator> InPlaceSession<A> {
     }
 
     // Returns the verdict of the sources at the current round, or None if all have the round.
-    fn told(&mut self) -> Option<Verdict>
+    fn sources_verdict(&mut self) -> Option<Verdict>
         ensures told { (f : Loading) (memory : Image) → Loads f memory self.old → TellsVerdict result f self.old.rounds }
         ensures same { self.new ≡ self.old }
     {
         look_at_statuses(&self.channels, &mut self.statuses);
         look_at_hellos(&self.channels, &mut self.hellos);
         let repeated = repeated_id(&self.hellos);
-        verdict_told(self.rounds, self.main.status(), &self.statuses, repeated)
+        sources_verdict(self.rounds, self.main.status(), &self.statuses, repeated)
     }
 
     // Sets that verdict. Returns false, and sets none, if all sources have the round.
@@ -568,7 +545,7 @@ impl<A: Allocator> InPlaceSession<A> {
         ensures same { IsFalse result → self.new ≡ self.old }
         ensures others { self.new ≡ record self.old { verdict = self.new.verdict } }
     {
-        match self.told() {
+        match self.sources_verdict() {
             Some(verdict) => {
                 self.verdict = verdict;
                 true
@@ -776,7 +753,7 @@ impl<A: Allocator> InPlaceSession<A> {
     /// Returns the fault of the bytes taken of `source` by themselves, whatever other sources have:
     /// a `Fault::Stream` or a `Fault::Channel`. It is known at once, while the verdict waits for
     /// the other sources, and names the first one with a fault. A source that was ended too early
-    /// has `Truncated`, or a channel behind a packet without SYNC `Unsynced`: so it says which
+    /// has `Truncated`, or a channel after a packet without SYNC `Unsynced`: so it says which
     /// connection broke. None after a refused allocation.
     pub fn fault_of(&self, source: Source) -> Option<Fault>
         requires { HasSource (counts_of self.now.sources) source }
@@ -817,7 +794,8 @@ impl<A: Allocator> InPlaceSession<A> {
     /// Returns how many pages of the memory no record and no packet of the rounds counted named. At
     /// `Verdict::Done` these are the pages that the streams don't have: the memory holds there what
     /// it held before. A load of a whole guest has none; a load of changes alone has many. It is
-    /// also 0 or more while the load runs, and nothing is promised of it after a refused allocation.
+    /// also 0 or more while the load runs, and nothing is promised of it after a refused
+    /// allocation.
     pub fn missing(&self) -> u64
         ensures { (memory : Image) → Tells memory self.now (λ given uuid first texts. HasMissing (for_table first.table given) uuid first texts self.now.rounds result) }
     {

@@ -85,7 +85,7 @@ pub struct SourceReader<P: PieceReader, A: Allocator = Global> {
     // how often it may still be read
     left: u64,
     buffer: Vec<u8, A>,
-    // the bytes that wait begin and end there, behind those that were taken
+    // the bytes that wait begin and end there, after those that were taken
     from: usize,
     to: usize,
 }
@@ -145,11 +145,11 @@ impl<P: PieceReader, A: Allocator> SourceReader<P, A> {
         &self.buffer[self.from..self.to]
     }
 
-    /// Returns the bytes that were read behind the end of the main stream, whose reader this is: in
+    /// Returns the bytes that were read after the end of the main stream, whose reader this is: in
     /// a machine's stream, the first ones of its devices. The reader gives those that follow. None
     /// as long as the main stream isn't closed. The reader of a channel has no such bytes: don't
     /// ask it.
-    pub fn behind<B: Allocator + Copy>(&self, load: &InPlaceSession<B>) -> Option<&[u8]>
+    pub fn unread<B: Allocator + Copy>(&self, load: &InPlaceSession<B>) -> Option<&[u8]>
         ensures { (memory : Image) → Tells memory load.now (λ given uuid first texts. HasLastPiece given first texts self.now
             → HasBehind (main_of (for_table first.table given)) texts.main.bytes self.now (option_copied result)) }
     {

@@ -28,7 +28,7 @@ fn load_of(rt: &(impl AllocGlobal + Abort), pages: u64, channels: usize) -> (Apa
     assert!(rt; 1 <= channels && channels <= 255);
     let memory = zeroed(rt.alloc(), &[("a", pages)]).expect(rt, "a memory");
     let settings = LoadSettings::new(4096, LIMIT);
-    let made = ApartSession::new_in(rt.alloc(), memory.table(), settings, &Uuid::nil(), channels);
+    let made = ApartSession::new(rt.alloc(), settings, memory.table(), &Uuid::nil(), channels);
     (made.expect(rt, "a load"), memory)
 }
 

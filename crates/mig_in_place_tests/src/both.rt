@@ -6,7 +6,7 @@ use mig_in_place::InPlaceSession;
 use mig_mem::{Memory, Table, is_page_size};
 use mig_send::Sent;
 use mig_session::{Session, Source};
-use mig_single_load::{Fault, InPlaceFault, LoadFault, Origin};
+use mig_single_load::{Fault, InPlaceFault, LoadFault, LoadSettings, Origin};
 use rand_core::Rng;
 use rand_pcg::Pcg32;
 use std::alloc::{AllocGlobal, Allocator};
@@ -50,7 +50,8 @@ fn both_of(rt: &(impl AllocGlobal + Abort), table: &Table, channels: usize) -> B
     let size = table.page_size();
     assert!(rt; is_page_size(size) && 1 <= channels && channels <= 255);
     let session = Session::new(rt.alloc(), size, &Uuid::nil(), channels, LIMIT);
-    let in_place = InPlaceSession::new(rt.alloc(), table, &Uuid::nil(), channels, LIMIT);
+    let settings = LoadSettings::new(size, LIMIT);
+    let in_place = InPlaceSession::new(rt.alloc(), settings, table, &Uuid::nil(), channels);
     Both {
         session: session.expect(rt, "a session"),
         in_place: in_place.expect(rt, "a load"),

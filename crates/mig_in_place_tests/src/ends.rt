@@ -1,5 +1,5 @@
-//! What a load says before its sources end: that all rounds are in, which source broke, and how many
-//! pages no round named.
+//! What a load says before its sources end: that all rounds are in, which source broke, and how
+//! many pages no round named.
 
 use crate::both::{LIMIT, ends, feed};
 use crate::texts::{Part, channel_of, main_of, one, sevens_then_zeros, text_of};
@@ -10,7 +10,7 @@ use mig_mem::Memory;
 use mig_packet::ChannelFault;
 use mig_send::Sent;
 use mig_session::Source;
-use mig_single_load::Fault;
+use mig_single_load::{Fault, LoadSettings};
 use std::alloc::AllocGlobal;
 use std::process::Abort;
 use uuid::Uuid;
@@ -23,7 +23,8 @@ fn load_of(
 ) -> (InPlaceSession, Memory) {
     assert!(rt; 1 <= channels && channels <= 255);
     let memory = zeroed(rt.alloc(), &[("a", pages)]).expect(rt, "a memory");
-    let made = InPlaceSession::new(rt.alloc(), memory.table(), &Uuid::nil(), channels, LIMIT);
+    let settings = LoadSettings::new(4096, LIMIT);
+    let made = InPlaceSession::new(rt.alloc(), settings, memory.table(), &Uuid::nil(), channels);
     (made.expect(rt, "a load"), memory)
 }
 
@@ -75,7 +76,8 @@ fn all_rounds_are_in_before_the_channels_end(rt: HostRuntime) {
     assert!(rt; load.verdict() == Verdict::Done && load.has_all_rounds());
 }
 
-// Loads a round of one page, of three. Returns whether the others are missing when the load is done.
+// Loads a round of one page, of three. Returns whether the others are missing when the load is
+// done.
 fn lacks_two_pages(rt: &(impl AllocGlobal + Abort)) -> bool {
     let (mut load, mut memory) = load_of(rt, 3, 1);
     let (page, sync) = ((0, Part::Page(1, 7)), (1, Part::Sync));
@@ -95,7 +97,7 @@ fn pages_that_no_round_named_are_missing(rt: HostRuntime) {
     assert!(rt; lacks_two_pages(&rt));
 }
 
-// Loads a round, behind which a packet of the next one comes. Returns whether the load says that
+// Loads a round, after which a packet of the next one comes. Returns whether the load says that
 // not all is in.
 fn waits_for_a_round(rt: &(impl AllocGlobal + Abort)) -> bool {
     let (mut load, mut memory) = load_of(rt, 1, 1);
@@ -119,13 +121,13 @@ fn waits_for_a_round(rt: &(impl AllocGlobal + Abort)) -> bool {
 }
 
 #[test]
-fn packet_behind_the_last_round(rt: HostRuntime) {
+fn packet_after_the_last_round(rt: HostRuntime) {
     assert!(rt; waits_for_a_round(&rt));
 }
 
 // Ends a channel within its hello. Returns whether the load, which goes on, says that it is cut,
 // and that the other sources have no fault.
-fn is_told_by_its_source(rt: &(impl AllocGlobal + Abort)) -> bool {
+fn is_reported_by_its_source(rt: &(impl AllocGlobal + Abort)) -> bool {
     let (mut load, mut memory) = load_of(rt, 1, 2);
     let sent = sevens_then_zeros(rt);
     let cut = Source::Channel(1);
@@ -141,5 +143,5 @@ fn is_told_by_its_source(rt: &(impl AllocGlobal + Abort)) -> bool {
 
 #[test]
 fn channel_that_is_cut(rt: HostRuntime) {
-    assert!(rt; is_told_by_its_source(&rt));
+    assert!(rt; is_reported_by_its_source(&rt));
 }

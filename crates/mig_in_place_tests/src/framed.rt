@@ -43,7 +43,7 @@ pub(crate) fn load_in(
     memory: &Memory,
 ) -> InPlaceSession {
     let settings = LoadSettings::new(4096, LIMIT).with_frame(frame);
-    let made = InPlaceSession::new_in(rt.alloc(), memory.table(), settings, &Uuid::nil(), 1);
+    let made = InPlaceSession::new(rt.alloc(), settings, memory.table(), &Uuid::nil(), 1);
     made.expect(rt, "a load")
 }
 

@@ -7,6 +7,7 @@ use mig_in_place::InPlaceSession;
 use mig_mem::{Dirty, Memory, Place, Table};
 use mig_packet::OpenGate;
 use mig_send::{MultiSender, Sent};
+use mig_single_load::LoadSettings;
 use std::alloc::{AllocGlobal, Allocator};
 use std::process::Abort;
 use std::thread::Threads;
@@ -73,7 +74,8 @@ fn is_loaded<A: Allocator + Copy>(
     sent: &Sent,
 ) -> bool {
     let mut memory = Memory::zeroed(rt.alloc(), table).expect(rt, "a memory");
-    let load = InPlaceSession::new(alloc, table, &Uuid::nil(), 4, LIMIT);
+    let settings = LoadSettings::new(table.page_size(), LIMIT);
+    let load = InPlaceSession::new(alloc, settings, table, &Uuid::nil(), 4);
     let mut load = load.expect(rt, "a load");
     for number in 0..5usize {
         if !takes_all(rt, &mut load, &mut memory, sent, number) {

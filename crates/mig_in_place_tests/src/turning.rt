@@ -11,6 +11,7 @@ use mig_in_place::{
 use mig_mem::Memory;
 use mig_send::Sent;
 use mig_session::{Counted, PieceReader, Source};
+use mig_single_load::LoadSettings;
 use mig_stream::Frame;
 use rand_pcg::Pcg32;
 use std::alloc::{AllocGlobal, Allocator};
@@ -92,7 +93,8 @@ fn made<'a>(
     fails_at: usize,
 ) -> Turning<'a> {
     let memory = zeroed(rt.alloc(), &[("a", 1)]).expect(rt, "a memory");
-    let load = InPlaceSession::new(rt.alloc(), memory.table(), &Uuid::nil(), 2, LIMIT);
+    let settings = LoadSettings::new(4096, LIMIT);
+    let load = InPlaceSession::new(rt.alloc(), settings, memory.table(), &Uuid::nil(), 2);
     Turning {
         load: load.expect(rt, "a load"),
         memory,
@@ -244,8 +246,8 @@ fn pumped_on_after_reads_that_fail(rt: HostRuntime) {
 // ---- the bytes of a device
 
 // Takes two turns of 60 bytes of a machine's main stream. Returns whether `rest` are the bytes that
-// were read behind its end.
-fn reads_behind<R: Read + Drop>(
+// were read after its end.
+fn reads_after<R: Read + Drop>(
     rt: &(impl AllocGlobal + Abort),
     memory: &mut Memory,
     connection: R,
@@ -265,7 +267,7 @@ fn reads_behind<R: Read + Drop>(
             return false;
         }
     }
-    main.behind(&load) == rest
+    main.unread(&load) == rest
 }
 
 // The main stream is closed after 117 bytes. A reader that was lent gives the device's other bytes.
@@ -279,6 +281,6 @@ fn reader_that_was_lent(rt: HostRuntime) {
         fails_at: 0,
     };
     let rest = sent.main.get(117..120);
-    assert!(rt; reads_behind(&rt, &mut memory, &mut connection, rest));
+    assert!(rt; reads_after(&rt, &mut memory, &mut connection, rest));
     assert!(rt; sent.main.get(120..) == Some(connection.rest));
 }

@@ -13,13 +13,12 @@ pub use mig_answer::{
     received_tells_status, sendings_are_loaded, texts_have_one_answer,
 };
 pub use mig_relay::{
-    ChannelEnd, Collector, Fed, Feeder, FeederStep, Item, Relay, load_multi, load_multi_in,
-    load_relayed, load_relayed_in, multi_valid_up_to,
+    ChannelEnd, Collector, Fed, Feeder, FeederStep, Item, Relay, channel_valid_up_to, load_multi,
+    load_multi_with, load_relayed, load_relayed_with,
 };
 pub use mig_session::{Counted, PieceReader, PumpFault, ReadFailed, Session, Source, pump};
 pub use mig_single_load::{
     Fault, FeedFault, InPlaceFault, InPlaceLoader, InPlaceState, LoadFault, LoadSettings, Loaded,
     Origin, SingleLoader, in_place_keeps_other_places, in_place_ok_is_whole, load_single,
-    load_single_in, machine_sent_is_loaded_in_place, sent_is_loaded_in_place, single_closed_at,
-    single_valid_up_to,
+    load_single_with, machine_sent_is_loaded_in_place, sent_is_loaded_in_place,
 };

@@ -4,7 +4,7 @@ use crate::texts::LIMIT;
 use mig_fixtures::{at, places_of, set, zeroed};
 use mig_mem::{Memory, Place};
 use mig_send::SingleSender;
-use mig_single_load::{Fault, InPlaceFault, InPlaceState, LoadFault, Origin};
+use mig_single_load::{Fault, InPlaceFault, InPlaceState, LoadFault, LoadSettings, Origin};
 use mig_stream::StreamFault;
 use std::alloc::AllocGlobal;
 use std::process::Abort;
@@ -115,7 +115,8 @@ fn feed(
 // so far, and the count and the verdict are those of the bytes so far.
 fn load_pieces(rt: &(impl AllocGlobal + Abort), text: &[u8], len: usize) {
     let mut memory = fives(rt);
-    let mut state = InPlaceState::new(rt.alloc(), memory.table(), LIMIT).expect(rt, "a load");
+    let settings = LoadSettings::new(4096, LIMIT);
+    let mut state = InPlaceState::new(rt.alloc(), settings, memory.table()).expect(rt, "a load");
     for piece in text.chunks(len.max(1)) {
         assert!(rt; feed(rt, &mut state, &mut memory, piece) == Ok(()));
         let fed = state.fed();
@@ -137,7 +138,8 @@ fn pieces_of_any_length(rt: HostRuntime) {
 // right after each.
 fn counts_missing(rt: &(impl AllocGlobal + Abort), text: &[u8]) -> bool {
     let mut memory = fives(rt);
-    let mut state = InPlaceState::new(rt.alloc(), memory.table(), LIMIT).expect(rt, "a load");
+    let settings = LoadSettings::new(4096, LIMIT);
+    let mut state = InPlaceState::new(rt.alloc(), settings, memory.table()).expect(rt, "a load");
     for piece in text.chunks(7) {
         let fed = feed(rt, &mut state, &mut memory, piece);
         if fed.is_err() || state.missing() != missing_after(state.fed()) {

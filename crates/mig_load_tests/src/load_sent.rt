@@ -24,7 +24,7 @@ fn guest(rt: &(impl AllocGlobal + Abort)) -> Memory {
 
 // Returns the streams of its pages on two channels, in batches of one page. The workers pass
 // `gate`.
-fn sent_behind<R: AllocGlobal + Abort + Threads + Sync, G: Gate + Sync>(
+fn sent_after<R: AllocGlobal + Abort + Threads + Sync, G: Gate + Sync>(
     rt: &R,
     guest: &Memory,
     gate: &G,
@@ -71,6 +71,6 @@ fn is_same(loaded: &Loaded, guest: &Memory) -> bool {
 fn sent_by_two_workers_at_once(rt: HostRuntime) {
     let guest = guest(&rt);
     let gate = Meeting::new();
-    let sent = sent_behind(&rt, &guest, &gate);
+    let sent = sent_after(&rt, &guest, &gate);
     assert!(rt; gate.have_met() && is_same(&load(&rt, &sent), &guest));
 }

@@ -4,7 +4,7 @@
 //! Loads whose workers pass no gate are cases of `mig_rows`, in `several.txt`.
 
 use crate::meeting::{Meeting, reaches};
-use crate::texts::{LIMIT, is_done, is_failed, main_of, one, syncs, two, two_channels};
+use crate::texts::{LIMIT, is_done, is_failed, is_read_to, main_of, one, syncs, two, two_channels};
 use mig_packet::{Gate, Step};
 use mig_relay::load_multi;
 use mig_single_load::{Fault, Loaded};
@@ -77,6 +77,7 @@ fn two_workers_at_once(rt: HostRuntime) {
     let gate = Meeting::new();
     let loaded = load(&rt, &main_of(&rt, 2, 1), &two_channels(&rt), &gate);
     assert!(rt; is_done(&loaded, 1, 7) && gate.have_met());
+    assert!(rt; is_read_to(&loaded, 0, 101));
 }
 
 // A gate of two channels: channel 0 waits with its first item until channel 1 has pushed its item
@@ -115,4 +116,5 @@ fn worker_that_lasts(rt: HostRuntime) {
     let texts = two(&rt, syncs(&rt, 0, 2, 2), syncs(&rt, 1, 2, 2));
     let loaded = load(&rt, &main_of(&rt, 1, 2), &texts, &gate);
     assert!(rt; is_done(&loaded, 2, 0) && gate.has_lasted());
+    assert!(rt; is_read_to(&loaded, 1, 127));
 }

@@ -4,9 +4,9 @@
 ghost use Rattle.std.specs.Prelude.{◌≤◌, ◌^◌};
 
 use crate::pieces::feed;
-use crate::texts::{LIMIT, Part, channel_of, is_done, is_failed, main_of, one};
+use crate::texts::{LIMIT, Part, channel_of, is_done, is_failed, is_read_to, main_of, one};
 use mig_packet::{ChannelFault, OpenGate};
-use mig_relay::{Collector, Relay, load_relayed, load_relayed_in};
+use mig_relay::{Collector, Relay, load_relayed, load_relayed_with};
 use mig_single_load::{Fault, LoadSettings, Loaded};
 use mig_stream::Frame;
 use std::alloc::AllocGlobal;
@@ -33,7 +33,7 @@ fn relayed<'a, R: AllocGlobal + Wait + Abort>(
     most: u64,
 ) -> Collector<'a> {
     assert!(rt; texts.len() == 1);
-    let made = Relay::start_within(rt.alloc(), 4096, &Uuid::nil(), texts, 64, Some(most));
+    let made = Relay::start_with(rt.alloc(), 4096, &Uuid::nil(), texts, 64, Some(most));
     let (feeders, collector) = made.expect(rt, "a relay");
     for feeder in feeders {
         feed(rt, feeder, &OpenGate);
@@ -86,6 +86,6 @@ fn machines_main_stream(rt: HostRuntime) {
     let texts = sevens_then_nines(&rt);
     let main = machines_main(&rt);
     let mut collector = relayed(&rt, &texts, 3);
-    let loaded = load_relayed_in(&rt, rt.alloc(), &mut collector, &main, settings());
-    assert!(rt; is_done(&loaded, 2, 9));
+    let loaded = load_relayed_with(&rt, rt.alloc(), settings(), &mut collector, &main);
+    assert!(rt; is_done(&loaded, 2, 9) && is_read_to(&loaded, 0, 133));
 }

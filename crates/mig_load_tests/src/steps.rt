@@ -9,7 +9,7 @@ use std::sync::atomic::{AtomicU64, Ordering};
 // and pushed as the next one.
 #[derive(Drop)]
 struct Steps {
-    told: AtomicU64,
+    reported: AtomicU64,
     strange: AtomicU64,
 }
 
@@ -18,7 +18,7 @@ impl Gate for Steps {
         if channel == 0 {
             return;
         }
-        let place = self.told.fetch_add(1, Ordering::SeqCst);
+        let place = self.reported.fetch_add(1, Ordering::SeqCst);
         let is_next = match step {
             Step::Found(piece) => piece.wrapping_mul(2) == place,
             Step::Pushed(piece) => piece.wrapping_mul(2).wrapping_add(1) == place,
@@ -32,7 +32,7 @@ impl Gate for Steps {
 
 impl Steps {
     fn are_ten(&self) -> bool {
-        self.told.load(Ordering::SeqCst) == 10 && self.strange.load(Ordering::SeqCst) == 0
+        self.reported.load(Ordering::SeqCst) == 10 && self.strange.load(Ordering::SeqCst) == 0
     }
 }
 
@@ -42,7 +42,7 @@ fn steps_of_a_feeder(rt: HostRuntime) {
     let texts = two(&rt, syncs(&rt, 0, 1, 0), syncs(&rt, 1, 1, 3));
     let (feeders, collector) = relay_of(&rt, &texts, 64);
     let gate = Steps {
-        told: AtomicU64::new(0),
+        reported: AtomicU64::new(0),
         strange: AtomicU64::new(0),
     };
     for feeder in feeders {

@@ -7,7 +7,7 @@ use std::alloc::{AllocGlobal, Global};
 use std::marker::Model;
 use std::process::Abort;
 
-// A memory that counts how often it was told to clear a page.
+// A memory that counts how often it was asked to clear a page.
 #[derive(Drop)]
 struct Counting {
     memory: Memory,

@@ -2,7 +2,7 @@
 //! completely.
 
 use mig_fixtures::put_page_and_zeros;
-use mig_packet::{Came, ChannelState, PageReader, Wanted, hello, put_packet};
+use mig_packet::{ChannelEvent, ChannelState, PageReader, Wanted, hello, put_packet};
 use std::alloc::Global;
 use uuid::Uuid;
 
@@ -30,15 +30,15 @@ fn read_piece(reader: &mut PageReader, piece: &[u8], pages: &mut Vec<(u64, u8)>)
         if reader.fed().checked_add(rest.len() as u64).is_none() {
             return None;
         }
-        let (came, taken) = reader.read_on(rest);
+        let (event, taken) = reader.read_on(rest);
         rest = rest.get(taken..)?;
-        match came {
-            Came::Page(offset, content) => {
+        match event {
+            ChannelEvent::Page(offset, content) => {
                 let first = *reader.content(content).first()?;
                 pages.push((offset, first)).ok()?;
             }
-            Came::More => return Some(()),
-            Came::Over => return None,
+            ChannelEvent::More => return Some(()),
+            ChannelEvent::Over => return None,
             _ => {}
         }
     }
@@ -68,7 +68,7 @@ fn read_wanted(alloc: Global, reader: &mut PageReader, channel: &[u8]) -> Option
 
 // Returns whether a channel has those pages, and is read completely.
 fn has_pages(alloc: Global, channel: &[u8]) -> Option<bool> {
-    let mut reader = PageReader::new(alloc, 4096, Uuid::nil(), 1).ok()?;
+    let mut reader = PageReader::new(alloc, 4096, Uuid::nil(), 1, None).ok()?;
     let pages = read_wanted(alloc, &mut reader, channel)?;
     Some(pages.as_slice() == PAGES.as_slice() && reader.state() == ChannelState::Reading)
 }

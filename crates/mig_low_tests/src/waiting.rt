@@ -5,7 +5,9 @@
 //! and a SYNC packet without pages, which counts 1.
 
 use mig_fixtures::put_page_and_zeros;
-use mig_packet::{Came, ChannelFault, ChannelReader, ChannelState, PageReader, hello, put_packet};
+use mig_packet::{
+    ChannelEvent, ChannelFault, ChannelReader, ChannelState, PageReader, hello, put_packet,
+};
 use std::alloc::Global;
 use uuid::Uuid;
 
@@ -33,7 +35,7 @@ type Read = (ChannelState, u64);
 
 // Reads a channel by packets, in pieces of 1,000 bytes.
 fn read_by_packets(alloc: Global, waiting: Option<u64>, channel: &[u8]) -> Option<Read> {
-    let mut reader = ChannelReader::new_within(alloc, 4096, Uuid::nil(), 1, waiting);
+    let mut reader = ChannelReader::new_with(alloc, 4096, Uuid::nil(), 1, waiting);
     for piece in channel.chunks(1000) {
         if reader.ended() || reader.fed().checked_add(piece.len() as u64).is_none() {
             return None;
@@ -45,15 +47,15 @@ fn read_by_packets(alloc: Global, waiting: Option<u64>, channel: &[u8]) -> Optio
 
 // Reads a channel by pages.
 fn read_by_pages(alloc: Global, waiting: Option<u64>, channel: &[u8]) -> Option<Read> {
-    let mut reader = PageReader::new_within(alloc, 4096, Uuid::nil(), 1, waiting).ok()?;
+    let mut reader = PageReader::new(alloc, 4096, Uuid::nil(), 1, waiting).ok()?;
     let mut rest = channel;
     for _ in 0..100u8 {
         if reader.fed().checked_add(rest.len() as u64).is_none() {
             return None;
         }
-        let (came, taken) = reader.read_on(rest);
+        let (event, taken) = reader.read_on(rest);
         rest = rest.get(taken..)?;
-        if let Came::More | Came::Over = came {
+        if let ChannelEvent::More | ChannelEvent::Over = event {
             return Some((reader.state(), reader.valid_up_to()));
         }
     }

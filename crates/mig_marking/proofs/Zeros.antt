@@ -18,6 +18,7 @@ content_put m p q bytes is = content_at-image_of m.table (λ r. cond (place_eq r
 has_changed : (m : Image) (w : PlaceSet) (f : Place → Bool) (q : Place) → w.table ≡ m.table → IsPlace m.table q → has_place (places_where w.table f) q ≡ f q
 has_changed m w f q same is = has_place-where w.table f q (subst (λ (t : RamTable). IsPlace t q) (sym same) is)
 
+-- in a memory of zeros, with nothing marked as written, each unmarked page is zeros
 pub zeros_at_first : (m : Image) (w : PlaceSet) → m ≡ zero_image m.table → w ≡ record { table = m.table; marked = [] } → AreZeros m w
 zeros_at_first m w zeros none = record {
   same_table = ap (λ (s : PlaceSet). s.table) none;
@@ -29,7 +30,8 @@ pub zeros_elsewhere : (m : Image) (w : PlaceSet) (p : Place) (bytes : List ℕ) 
 zeros_elsewhere m w p bytes are = record {
   same_table = are.same_table;
   are_zeros = λ q is none.
-      let parts = or_parts (place_eq q p) (has_place w.marked q) (sym (has_changed m w (λ r. place_eq r p || has_place w.marked r) q are.same_table is) ∙ none) in
+      let parts = or_parts (place_eq q p) (has_place w.marked q)
+      (sym (has_changed m w (λ r. place_eq r p || has_place w.marked r) q are.same_table is) ∙ none) in
       content_put m p q bytes is ∙ cond-false (place_eq q p) bytes (content_at m q) parts.0 ∙ are.are_zeros q is parts.1;
 }
 
@@ -38,7 +40,8 @@ pub zeros_again : (m : Image) (w : PlaceSet) (p : Place) → AreZeros m w → Ar
 zeros_again m w p are = record {
   same_table = are.same_table;
   are_zeros = λ q is none.
-      let changed : (has_place w.marked q && not (place_eq q p)) ≡ false = sym (has_changed m w (λ r. has_place w.marked r && not (place_eq r p)) q are.same_table is) ∙ none in
+      let changed : (has_place w.marked q && not (place_eq q p)) ≡ false =
+      sym (has_changed m w (λ r. has_place w.marked r && not (place_eq r p)) q are.same_table is) ∙ none in
       let content = content_put m p q (zero_page m.table.page_size) is in
       elim (cases_Bool (place_eq q p)) [
         | inl t ↦ content ∙ cond-true (place_eq q p) (zero_page m.table.page_size) (content_at m q) t
@@ -53,10 +56,12 @@ zeros_again m w p are = record {
     and_true false e = refl
 
 -- a page that isn't marked is zeros already
-pub zeros_already : (m : Image) (w : PlaceSet) (p : Place) → AreZeros m w → IsImage m → IsPlace m.table p → has_place w.marked p ≡ false → m ≡ with_page m p (zero_page m.table.page_size)
+pub zeros_already : (m : Image) (w : PlaceSet) (p : Place) → AreZeros m w → IsImage m → IsPlace m.table p
+    → has_place w.marked p ≡ false → m ≡ with_page m p (zero_page m.table.page_size)
 zeros_already m w p are is_image is none =
     image_is m is_image
     ∙ image_agree m.table (content_at m) (λ q. cond (place_eq q p) (zero_page m.table.page_size) (content_at m q)) (λ q here. elim (cases_Bool (place_eq q p)) [
-      | inl t ↦ ap (content_at m) (place_eq-true q p t) ∙ are.are_zeros p is none ∙ sym (cond-true (place_eq q p) (zero_page m.table.page_size) (content_at m q) t)
+      | inl t ↦ ap (content_at m) (place_eq-true q p t) ∙ are.are_zeros p is none
+          ∙ sym (cond-true (place_eq q p) (zero_page m.table.page_size) (content_at m q) t)
       | inr n ↦ sym (cond-false (place_eq q p) (zero_page m.table.page_size) (content_at m q) n)
     ])

@@ -37,7 +37,8 @@ high_bits word k i small le =
 
 -- no mark stands after the pages
 pub cleared : (words : List ℕ) (pages page : ℕ) → length words ≡ (pages + 63) / 64 → pages % 64 ≢ 0
-    → is_set (set words (pages / 64) (bit_and (get_or words (pages / 64) 0) (1 * 2 ^ (pages % 64) % 2 ^ 64 - 1))) page ≡ (nat_lt page pages && is_set words page)
+    → is_set (set words (pages / 64) (bit_and (get_or words (pages / 64) 0) (1 * 2 ^ (pages % 64) % 2 ^ 64 - 1))) page
+    ≡ (nat_lt page pages && is_set words page)
 unfolding is_set
 cleared words pages page len some =
     let i : ℕ = pages / 64 in
@@ -54,7 +55,8 @@ cleared words pages page len some =
                 rw (same, f) (unset_past words page (omega arith))
           ]
       | inl at ↦
-          let here : get_or (set words i word) (page / 64) 0 ≡ word = ap (λ (n : ℕ). get_or (set words i word) n 0) at ∙ get_or-set_same words i word 0 within in
+          let here : get_or (set words i word) (page / 64) 0 ≡ word = ap (λ (n : ℕ). get_or (set words i word) n 0) at
+          ∙ get_or-set_same words i word 0 within in
           let was : get_or words (page / 64) 0 ≡ get_or words i 0 = ap (λ (n : ℕ). get_or words n 0) at in
           elim (cases_lt (page % 64) k) [
             | inl lt ↦
@@ -69,7 +71,8 @@ cleared words pages page len some =
     ]
 
 -- whole words have no mark after the pages
-pub whole_words : (words : List ℕ) (pages page : ℕ) → length words ≡ (pages + 63) / 64 → pages % 64 ≡ 0 → is_set words page ≡ (nat_lt page pages && is_set words page)
+pub whole_words : (words : List ℕ) (pages page : ℕ) → length words ≡ (pages + 63) / 64 → pages % 64 ≡ 0
+    → is_set words page ≡ (nat_lt page pages && is_set words page)
 whole_words words pages page len whole = elim (cases_lt page pages) [
   | inl lt ↦ let t : nat_lt page pages ≡ true = lt-ltb page pages lt in rw t refl
   | inr ge ↦ let f : nat_lt page pages ≡ false = le-ltb page pages ge in rw f (unset_past words page (omega arith))
@@ -107,9 +110,7 @@ pub record AreRowsOf (table : RamTable) (bitmaps : List (List ℕ)) (count : ℕ
   pub len : length rows ≡ count
   pub each : (i : ℕ) → i < count → IsRowOf (bitmap_of bitmaps i) (block table.blocks i).pages (get_or rows i [])
 
-pub no_rows : (table : RamTable) (bitmaps : List (List ℕ)) → AreRowsOf table bitmaps 0 []
-no_rows table bitmaps = record { len = refl; each = λ i lt. absurd (omega arith) }
-
+-- the row of the next bitmap is added to the rows before it
 pub one_row_more : (table : RamTable) (bitmaps : List (List ℕ)) (count : ℕ) (rows : List (List ℕ)) (row : List ℕ) → AreRowsOf table bitmaps count rows
     → IsRowOf (bitmap_of bitmaps count) (block table.blocks count).pages row → AreRowsOf table bitmaps (count + 1) (rows ++ row ∷ [])
 one_row_more table bitmaps count rows row before more = record {
@@ -126,7 +127,8 @@ one_row_more table bitmaps count rows row before more = record {
 }
 
 -- of all blocks they are marks of the table's places
-pub rows_are_marks : (table : RamTable) (bitmaps rows : List (List ℕ)) → IsTable table → AreRowsOf table bitmaps (length table.blocks) rows → AreMarks table rows
+pub rows_are_marks : (table : RamTable) (bitmaps rows : List (List ℕ)) → IsTable table
+    → AreRowsOf table bitmaps (length table.blocks) rows → AreMarks table rows
 rows_are_marks table bitmaps rows is all = record {
   is_table = is;
   has_room = record { blocks = all.len; pages = λ i lt. (all.each i lt).len };
@@ -136,7 +138,8 @@ rows_are_marks table bitmaps rows is all = record {
 }
 
 -- and make the set of the bitmaps' places
-pub rows_make_set : {A : Type 0} (table : RamTable) (bitmaps : List (List ℕ)) (words : List (Vec ℕ A)) → AreRowsOf table bitmaps (length table.blocks) (buffers_of words)
+pub rows_make_set : {A : Type 0} (table : RamTable) (bitmaps : List (List ℕ)) (words : List (Vec ℕ A))
+    → AreRowsOf table bitmaps (length table.blocks) (buffers_of words)
     → set_in table words ≡ bitmap_set table bitmaps
 rows_make_set table bitmaps words all =
     let rows : List (List ℕ) = buffers_of words in

@@ -7,16 +7,13 @@ use Rattle.std.proofs.lemmas.List.{get_or_past}
 use Rattle.std.proofs.lemmas.Nat.Bits.{bit_at_and, bit_at-lt, bit_at_set_same, bit_at_set_other, bit_at_clear_same, bit_at_clear_other, bit_at_mask_inside, bit_at_mask_below, bit_at-zero, bit_at-trailing_zeros, ones_shl}
 use Rattle.mig_mem.specs.Marks.{is_set, IsLowestBit, IsFirstSet}
 
--- a bit is 0 or 1
-pub bit_zero : (n i : ℕ) → bit_at n i ≢ 1 → bit_at n i ≡ 0
-bit_zero n i ne = omega (arith, bit_at-lt n i)
-
 -- the bits of a word from a bit on
 pub rest_above : (word from i : ℕ) → from < 64 → from ≤ i → i < 64 → bit_at (bit_and word ((2 ^ 64 - 1) * 2 ^ from % 2 ^ 64)) i ≡ bit_at word i
 rest_above word from i h lo hi =
     ap (λ (m : ℕ). bit_at (bit_and word m) i) (ones_shl 64 from (omega arith)) ∙ bit_at_and word (2 ^ 64 - 2 ^ from) i
     ∙ omega (arith, bit_at_mask_inside from 64 i lo hi, bit_at-lt word i)
 
+-- the mask leaves no bit below the place that it begins at
 pub rest_below : (word from i : ℕ) → from < 64 → i < from → bit_at (bit_and word ((2 ^ 64 - 1) * 2 ^ from % 2 ^ 64)) i ≡ 0
 rest_below word from i h lo =
     ap (λ (m : ℕ). bit_at (bit_and word m) i) (ones_shl 64 from (omega arith)) ∙ bit_at_and word (2 ^ 64 - 2 ^ from) i
@@ -78,7 +75,8 @@ set_fewer words page q room =
                 rw (here, no, t) (elim (cases_Bool (bit_at (get_or words (q / 64) 0) (q % 64) == 1)) [ inl u ↦ rw u refl | inr u ↦ rw u refl ])
             | inr high ↦
                 let ne : (q == page) ≡ false = ne_eqb q page (λ e. high (ap (λ (n : ℕ). n % 64) e)) in
-                let other : bit_at word (q % 64) ≡ bit_at (get_or words i 0) (q % 64) = bit_at_clear_other w64 (get_or words i 0) k (omega arith) (q % 64) (omega arith) high in
+                let other : bit_at word (q % 64) ≡ bit_at (get_or words i 0) (q % 64) =
+                bit_at_clear_other w64 (get_or words i 0) k (omega arith) (q % 64) (omega arith) high in
                 rw (here, was, ne, other) (elim (cases_Bool (bit_at (get_or words i 0) (q % 64) == 1)) [ inl u ↦ rw u refl | inr u ↦ rw u refl ])
           ]
     ]
@@ -98,6 +96,7 @@ set_from_bit words i b small h =
     let bit : (i * 64 + b) % 64 ≡ b = omega arith in
     rw (word, bit) (eq-eqb (bit_at (get_or words i 0) b) 1 h)
 
+-- a page whose bit is 0 has no mark
 pub unset_from_bit : (words : List ℕ) (q : ℕ) → bit_at (get_or words (q / 64) 0) (q % 64) ≡ 0 → is_set words q ≡ false
 unfolding is_set
 unset_from_bit words q h = ne_eqb (bit_at (get_or words (q / 64) 0) (q % 64)) 1 (λ e. absurd (omega arith))
@@ -107,12 +106,16 @@ unset_from_bit words q h = ne_eqb (bit_at (get_or words (q / 64) 0) (q % 64)) 1 
 abbrev pub rest_of : ℕ → ℕ → ℕ
 rest_of word from = bit_and word ((2 ^ 64 - 1) * 2 ^ from % 2 ^ 64)
 
+-- the trailing zeros of what is left of a word give its lowest bit from a place on
 pub lowest : (word from : ℕ) → from < 64 → rest_of word from < 2 ^ 64 → rest_of word from ≢ 0 → IsLowestBit word from (trailing_zeros w64 (rest_of word from))
 lowest word from h fits some =
     let rest : ℕ = rest_of word from in
     let b : ℕ = trailing_zeros w64 rest in
     let at = bit_at-trailing_zeros w64 rest (omega arith) fits in
-    let low : from ≤ b = elim (cases_lt b from) [ inr le ↦ le | inl lt ↦ let z : bit_at rest b ≡ 0 = rest_below word from b h lt in let one : bit_at rest b ≡ 1 = at.1 in absurd (omega arith) ] in
+    let low : from ≤ b = elim (cases_lt b from) [
+      | inr le ↦ le
+      | inl lt ↦ let z : bit_at rest b ≡ 0 = rest_below word from b h lt in let one : bit_at rest b ≡ 1 = at.1 in absurd (omega arith)
+    ] in
     record {
       low = low;
       small = at.0;
@@ -120,11 +123,13 @@ lowest word from h fits some =
       before = λ i lo lt. let small : b < 64 = at.0 in sym (rest_above word from i h lo (omega arith)) ∙ at.2 i lt;
     }
 
+-- if nothing is left of a word from a place on, all its bits from there on are 0
 pub no_bit : (word from : ℕ) → from < 64 → rest_of word from ≡ 0 → (i : ℕ) → from ≤ i → i < 64 → bit_at word i ≡ 0
 no_bit word from h none i lo hi = sym (rest_above word from i h lo hi) ∙ ap (λ (n : ℕ). bit_at n i) none ∙ bit_at-zero i
 
 -- no mark in a word from a bit on
-pub unset_word : (words : List ℕ) (i from q : ℕ) → ((k : ℕ) → from ≤ k → k < 64 → bit_at (get_or words i 0) k ≡ 0) → i * 64 + from ≤ q → q < i * 64 + 64 → is_set words q ≡ false
+pub unset_word : (words : List ℕ) (i from q : ℕ) → ((k : ℕ) → from ≤ k → k < 64 → bit_at (get_or words i 0) k ≡ 0)
+    → i * 64 + from ≤ q → q < i * 64 + 64 → is_set words q ≡ false
 unset_word words i from q none lo hi =
     let word : q / 64 ≡ i = omega arith in
     unset_from_bit words q (ap (λ (n : ℕ). bit_at (get_or words n 0) (q % 64)) word ∙ none (q % 64) (omega arith) (omega arith))

@@ -18,14 +18,18 @@ use Rattle.mig_mem.proofs.PageSizes.{page_of_offset}
 abbrev placed : ℕ → List BlockPages → ℕ → List ℕ
 placed per rs k = page_at (region_of rs (k / per)) (k % per)
 
+-- a block in regions has as many pages as it was given
 pub regions_len : (per size count : ℕ) (rs : List BlockPages) → length (in_regions per size count rs).pages ≡ count
 unfolding in_regions
 regions_len per size count rs = length-map (range_with_len 0 count) (placed per rs) ∙ length-range_with_len 0 count
 
-pub regions_page : (per size count : ℕ) (rs : List BlockPages) (k : ℕ) → k < count → page_at (in_regions per size count rs) k ≡ page_at (region_of rs (k / per)) (k % per)
+-- a page of the block is the page of its region, at its number there
+pub regions_page : (per size count : ℕ) (rs : List BlockPages) (k : ℕ) → k < count
+    → page_at (in_regions per size count rs) k ≡ page_at (region_of rs (k / per)) (k % per)
 unfolding in_regions
 regions_page per size count rs k lt = get_or-map-range_with_len (placed per rs) 0 count k k [] lt (omega arith)
 
+-- a block in regions has the pages' size that it was given
 pub regions_size : (per size count : ℕ) (rs : List BlockPages) → (in_regions per size count rs).size ≡ size
 unfolding in_regions
 regions_size per size count rs = refl
@@ -35,18 +39,21 @@ pub has_count : (per size count : ℕ) (rs : List BlockPages) (b : BlockPages) (
 has_count per size count rs b i is lt = omega (arith, ap (λ (x : BlockPages). length x.pages) is, regions_len per size count rs)
 
 -- the region that is read for a page
-pub region_read : (per size count : ℕ) (rs : List BlockPages) (i : ℕ) (x : BlockPages) → AreRegions per size count rs → i < count → x ≡ get_or rs (i / per) x → x ≡ region_of rs (i / per)
+pub region_read : (per size count : ℕ) (rs : List BlockPages) (i : ℕ) (x : BlockPages) → AreRegions per size count rs → i < count
+    → x ≡ get_or rs (i / per) x → x ≡ region_of rs (i / per)
 region_read per size count rs i x are lt e = e ∙ get_or_default rs (i / per) x no_pages (are.has_regions i lt)
 
 -- has the page
-pub region_has : (per size count : ℕ) (rs : List BlockPages) (i : ℕ) (x : BlockPages) → AreRegions per size count rs → i < count → x ≡ get_or rs (i / per) x → i % per < length x.pages
+pub region_has : (per size count : ℕ) (rs : List BlockPages) (i : ℕ) (x : BlockPages) → AreRegions per size count rs → i < count
+    → x ≡ get_or rs (i / per) x → i % per < length x.pages
 region_has per size count rs i x are lt e =
     let here : x ≡ region_of rs (i / per) = region_read per size count rs i x are lt e in
     let there : i % per < length (region_of rs (i / per)).pages = are.has_pages i lt in
     omega (arith, ap (λ (b : BlockPages). length b.pages) here)
 
 -- of the block's size
-pub region_size : (per size count : ℕ) (rs : List BlockPages) (i : ℕ) (x : BlockPages) → AreRegions per size count rs → i < count → x ≡ get_or rs (i / per) x → x.size ≡ size
+pub region_size : (per size count : ℕ) (rs : List BlockPages) (i : ℕ) (x : BlockPages) → AreRegions per size count rs → i < count
+    → x ≡ get_or rs (i / per) x → x.size ≡ size
 region_size per size count rs i x are lt e =
     ap (λ (b : BlockPages). b.size) (region_read per size count rs i x are lt e) ∙ (are.are_each (i / per) no_pages (are.has_regions i lt)).same_size
 
@@ -66,7 +73,9 @@ other_page per k i other same = λ e. other (
     ∙ ap (λ (r : ℕ). i / per * per + r) e
     ∙ div-add-mod' i per)
 
-pub write_are : (per size count : ℕ) (rs : List BlockPages) (i : ℕ) (x : BlockPages) (content : List ℕ) → AreRegions per size count rs → i < count → x ≡ get_or rs (i / per) x
+-- regions stay regions of the block if one page is written
+pub write_are : (per size count : ℕ) (rs : List BlockPages) (i : ℕ) (x : BlockPages) (content : List ℕ)
+    → AreRegions per size count rs → i < count → x ≡ get_or rs (i / per) x
     → AreRegions per size count (set rs (i / per) (with_content x (i % per) content))
 write_are per size count rs i x content are lt e =
     let n : ℕ = i / per in
@@ -86,7 +95,8 @@ write_are per size count rs i x content are lt e =
       has_regions = λ k low. rw long (are.has_regions k low);
       has_pages = λ k low. elim (cases_eq (k / per) n) [
         | inl at ↦
-            let there : region_of (set rs n new) (k / per) ≡ new = ap (λ (j : ℕ). region_of (set rs n new) j) at ∙ get_or-set_same rs n new no_pages (are.has_regions i lt) in
+            let there : region_of (set rs n new) (k / per) ≡ new = ap (λ (j : ℕ). region_of (set rs n new) j) at
+            ∙ get_or-set_same rs n new no_pages (are.has_regions i lt) in
             let old : region_of rs (k / per) ≡ x = ap (λ (j : ℕ). region_of rs j) at ∙ sym here in
             let inside : k % per < length (region_of rs (k / per)).pages = are.has_pages k low in
             rw (there, many) (rw old at inside)
@@ -97,14 +107,16 @@ write_are per size count rs i x content are lt e =
     }
 
 -- what a page of the block is then
-written_page : (per size count : ℕ) (rs : List BlockPages) (i : ℕ) (x : BlockPages) (content : List ℕ) (k : ℕ) → AreRegions per size count rs → i < count → x ≡ get_or rs (i / per) x → k ≢ i
+written_page : (per size count : ℕ) (rs : List BlockPages) (i : ℕ) (x : BlockPages) (content : List ℕ) (k : ℕ)
+    → AreRegions per size count rs → i < count → x ≡ get_or rs (i / per) x → k ≢ i
     → placed per (set rs (i / per) (with_content x (i % per) content)) k ≡ placed per rs k
 written_page per size count rs i x content k are lt e other =
     let n : ℕ = i / per in
     let new : BlockPages = with_content x (i % per) content in
     elim (cases_eq (k / per) n) [
       | inl at ↦
-          let there : region_of (set rs n new) (k / per) ≡ new = ap (λ (j : ℕ). region_of (set rs n new) j) at ∙ get_or-set_same rs n new no_pages (are.has_regions i lt) in
+          let there : region_of (set rs n new) (k / per) ≡ new = ap (λ (j : ℕ). region_of (set rs n new) j) at
+          ∙ get_or-set_same rs n new no_pages (are.has_regions i lt) in
           let old : x ≡ region_of rs (k / per) = region_read per size count rs i x are lt e ∙ ap (λ (j : ℕ). region_of rs j) (sym at) in
           ap (λ (b : BlockPages). page_at b (k % per)) there
           ∙ get_or-set_other x.pages (i % per) (k % per) content [] (other_page per k i other at)
@@ -112,7 +124,9 @@ written_page per size count rs i x content k are lt e other =
       | inr away ↦ ap (λ (b : BlockPages). page_at b (k % per)) (get_or-set_other rs n (k / per) new no_pages away)
     ]
 
-pub write_is : (per size count : ℕ) (rs : List BlockPages) (i : ℕ) (x : BlockPages) (content : List ℕ) → AreRegions per size count rs → i < count → x ≡ get_or rs (i / per) x
+-- a page that is written into its region is written into the block
+pub write_is : (per size count : ℕ) (rs : List BlockPages) (i : ℕ) (x : BlockPages) (content : List ℕ)
+    → AreRegions per size count rs → i < count → x ≡ get_or rs (i / per) x
     → in_regions per size count (set rs (i / per) (with_content x (i % per) content)) ≡ with_content (in_regions per size count rs) i content
 unfolding in_regions
 write_is per size count rs i x content are lt e =
@@ -162,7 +176,9 @@ zero_inside per count k some lt =
     let parts : k / per * per + k % per ≡ k = div-add-mod' k per in
     omega arith
 
-pub zeros_are_regions : (per size count n : ℕ) (rs : List BlockPages) → rs ≡ map (zero_region per size count) (range_with_len 0 n) → 0 < per → n * per ≤ 2 ^ 40 → count ≤ n * per → AreRegions per size count rs
+-- as many regions of zeros as a block needs are regions of it
+pub zeros_are_regions : (per size count n : ℕ) (rs : List BlockPages) → rs ≡ map (zero_region per size count) (range_with_len 0 n)
+    → 0 < per → n * per ≤ 2 ^ 40 → count ≤ n * per → AreRegions per size count rs
 zeros_are_regions per size count n rs made some room enough =
     let zs : List BlockPages = map (zero_region per size count) (range_with_len 0 n) in
     let long : length zs ≡ n = length-map-range_with_len (zero_region per size count) 0 n in
@@ -179,6 +195,7 @@ zeros_are_regions per size count n rs made some room enough =
           rw (zero_at per size count n (k / per) low, length-replicate (min (count - k / per * per) per) (zero_page size)) (zero_inside per count k some lt);
     })
 
+-- a block in regions of zeros has zeros in all its pages
 pub zeros_in_regions : (per size count n : ℕ) (rs : List BlockPages) → rs ≡ map (zero_region per size count) (range_with_len 0 n) → 0 < per → count ≤ n * per
     → in_regions per size count rs ≡ record { size = size; pages = replicate count (zero_page size) }
 unfolding in_regions
@@ -186,7 +203,8 @@ zeros_in_regions per size count n rs made some enough =
     let zs : List BlockPages = map (zero_region per size count) (range_with_len 0 n) in
     let now : List (List ℕ) = map (placed per zs) (range_with_len 0 count) in
     let many : length now ≡ count = length-map-range_with_len (placed per zs) 0 count in
-    let pages : now ≡ replicate count (zero_page size) = ext_get_or [] now (replicate count (zero_page size)) (many ∙ sym (length-replicate count (zero_page size))) (λ k lk.
+    let pages : now ≡ replicate count (zero_page size) =
+    ext_get_or [] now (replicate count (zero_page size)) (many ∙ sym (length-replicate count (zero_page size))) (λ k lk.
     let lt : k < count = omega (arith, many, lk) in
     let low : k / per < n = page_of_offset per n k some (omega arith) in
     get_or-map-range_with_len (placed per zs) 0 count k k [] lt (omega arith)

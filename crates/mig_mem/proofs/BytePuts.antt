@@ -1,5 +1,5 @@
 -- Pages that are put into a part of a block, and into all its parts.
-use Rattle.std.proofs.Common.{ℕ, ◌≡◌, ◌≢◌, ◌<◌, ◌≤◌, ◌+◌, ◌-◌, ◌*◌, ◌/◌, ◌%◌, ◌++◌, ◌∷◌, [], List, Option, Some, None, length, min, map, take, drop, get_or, set, get_or-set_same, get_or-set_other, refl, sym, ap, ◌∙◌, arith, inl, inr}
+use Rattle.std.proofs.Common.{ℕ, ◌≡◌, ◌<◌, ◌≤◌, ◌+◌, ◌-◌, ◌*◌, ◌/◌, ◌%◌, ◌++◌, ◌∷◌, [], List, Option, Some, None, length, min, map, take, drop, get_or, set, get_or-set_same, get_or-set_other, refl, sym, ap, ◌∙◌, arith, inl, inr}
 use Rattle.std.specs.Prelude.{if◌then◌else◌}
 use Rattle.std.specs.Option.{option_map_or}
 use Rattle.std.proofs.lemmas.Bool.{cases_Bool, cases_eq}
@@ -7,7 +7,6 @@ use Rattle.std.proofs.Math.Nat.{mul_comm}
 use Rattle.std.proofs.lemmas.Nat.{div-mul-add}
 use Rattle.std.proofs.lemmas.List.{map-set, length-map, length-set, length-take, length-drop, take-take, drop-take, drop-drop}
 use Rattle.mig_mem.proofs.PageSizes.{page_before}
-use Rattle.mig_mem.proofs.PlaceOrder.{place_eq-true}
 use Rattle.mig_mem.proofs.Rounds.{last_at-nil, last_at-cons, map_or-or}
 use Rattle.mig_mem.proofs.Lents.{loan_at}
 use Rattle.mig_mem.proofs.Images.{image_agree, content_at-image_of}
@@ -17,23 +16,22 @@ use Rattle.mig_mem.specs.RamTable.{RamTable, block}
 use Rattle.mig_mem.specs.Image.{Page, content_at}
 use Rattle.mig_mem.specs.Round.{last_at, with_round}
 use Rattle.mig_mem.specs.Lent.{bytes_of_block, lent_at, lent_image, FitTable}
-use Rattle.mig_mem.specs.Parts.{part_at, ChangesPart}
+use Rattle.mig_mem.specs.Parts.{part_at}
 use Rattle.mig_mem.specs.declared.putting.RoundPage.{RoundPage}
 use Rattle.mig_mem.specs.Puts.{bytes_given, given, round_page, PutsAll}
 
+-- 0 and a number make the number
 pub zero_plus : (q : ℕ) → 0 + q ≡ q
 zero_plus q = omega arith
-
--- no page
-pub puts_none : (size b first : ℕ) (old : List ℕ) → PutsAll size b first old old []
-puts_none size b first old = record { len = refl; each = λ q room. refl }
 
 -- pages, one list after another
 pub given-append : (size : ℕ) (p : Place) (xs ys : List RoundPage) (was : List ℕ) → given size p (xs ++ ys) was ≡ given size p ys (given size p xs was)
 given-append size p [] ys was = refl
 given-append size p (x ∷ xs) ys was = given-append size p xs ys (if place_eq x.place p then bytes_given size x else was)
 
-pub puts_more : (size b first : ℕ) (old mid new : List ℕ) (xs ys : List RoundPage) → PutsAll size b first old mid xs → PutsAll size b first mid new ys → PutsAll size b first old new (xs ++ ys)
+-- pages that are put after others are put with them
+pub puts_more : (size b first : ℕ) (old mid new : List ℕ) (xs ys : List RoundPage) → PutsAll size b first old mid xs
+    → PutsAll size b first mid new ys → PutsAll size b first old new (xs ++ ys)
 puts_more size b first old mid new xs ys one two = record {
   len = two.len ∙ one.len;
   each = λ q room.
@@ -42,33 +40,9 @@ puts_more size b first old mid new xs ys one two = record {
       two.each q there ∙ ap (λ (was : List ℕ). given size p ys was) (one.each q room) ∙ sym (given-append size p xs ys (part_at size old q));
 }
 
--- one page, if it lies there
-pub puts_one : (size b first : ℕ) (old new : List ℕ) (x : RoundPage) → x.place.block ≡ b → first ≤ x.place.page → ChangesPart size old new (x.place.page - first) (bytes_given size x) → PutsAll size b first old new (x ∷ [])
-puts_one size b first old new x same low c = record {
-  len = c.len;
-  each = λ q room. elim (cases_Bool (place_eq x.place (place_at b (first + q)))) [
-    | inl t ↦
-        let e : x.place.page ≡ first + q = ap (λ (p : Place). p.page) (place_eq-true x.place (place_at b (first + q)) t) in
-        let here : q ≡ x.place.page - first = omega (arith, e) in
-        rw t (ap (λ (k : ℕ). part_at size new k) here ∙ c.here)
-    | inr f ↦
-        let n : q ≢ x.place.page - first = λ e. grind (arith, f, low, same) in
-        rw f (c.others q n)
-  ];
-}
-
--- and where it doesn't
-pub puts_elsewhere : (size b first : ℕ) (old : List ℕ) (x : RoundPage) → ((q : ℕ) → q * size + size ≤ length old → x.place ≢ place_at b (first + q)) → PutsAll size b first old old (x ∷ [])
-puts_elsewhere size b first old x none = record {
-  len = refl;
-  each = λ q room. elim (cases_Bool (place_eq x.place (place_at b (first + q)))) [
-    | inl t ↦ absurd (none q room (place_eq-true x.place (place_at b (first + q)) t))
-    | inr f ↦ rw f refl
-  ];
-}
-
 -- as the round has it
-pub given_last : (size : ℕ) (p : Place) (xs : List RoundPage) (was : List ℕ) → given size p xs was ≡ option_map_or (λ (x : Page). x.content) (last_at p (map (round_page size) xs)) was
+pub given_last : (size : ℕ) (p : Place) (xs : List RoundPage) (was : List ℕ)
+    → given size p xs was ≡ option_map_or (λ (x : Page). x.content) (last_at p (map (round_page size) xs)) was
 given_last size p [] was = rw last_at-nil refl
 given_last size p (x ∷ xs) was =
     let one : Option Page = if place_eq x.place p then Some (round_page size x) else None in
@@ -84,13 +58,16 @@ pub puts_image : (table : RamTable) (olds news : List (List ℕ)) (pages : List 
     → ((k : ℕ) → k < length table.blocks → PutsAll table.page_size k 0 (bytes_of_block olds k) (bytes_of_block news k) pages)
     → lent_image table news ≡ with_round (lent_image table olds) (map (round_page table.page_size) pages)
 puts_image table olds news pages fit h =
-    image_agree table (lent_at table.page_size news) (λ p. option_map_or (λ (x : Page). x.content) (last_at p (map (round_page table.page_size) pages)) (content_at (lent_image table olds) p)) (λ p is.
-    let inside : p.page * table.page_size + table.page_size ≤ (block table.blocks p.block).pages * table.page_size = page_before table.page_size (block table.blocks p.block).pages p.page is.has_page in
+    image_agree table (lent_at table.page_size news)
+    (λ p. option_map_or (λ (x : Page). x.content) (last_at p (map (round_page table.page_size) pages)) (content_at (lent_image table olds) p)) (λ p is.
+    let inside : p.page * table.page_size + table.page_size ≤ (block table.blocks p.block).pages * table.page_size =
+    page_before table.page_size (block table.blocks p.block).pages p.page is.has_page in
     let room : p.page * table.page_size + table.page_size ≤ length (bytes_of_block olds p.block) = omega (arith, inside, fit.has_sizes p.block is.has_block) in
     (h p.block is.has_block).each p.page room
     ∙ ap (λ (q : ℕ). given table.page_size (place_at p.block q) pages (lent_at table.page_size olds p)) (zero_plus p.page)
     ∙ given_last table.page_size p pages (lent_at table.page_size olds p)
-    ∙ ap (λ (c : List ℕ). option_map_or (λ (x : Page). x.content) (last_at p (map (round_page table.page_size) pages)) c) (sym (content_at-image_of table (lent_at table.page_size olds) p is)))
+    ∙ ap (λ (c : List ℕ). option_map_or (λ (x : Page). x.content) (last_at p (map (round_page table.page_size) pages)) c)
+    (sym (content_at-image_of table (lent_at table.page_size olds) p is)))
 
 -- ---- a block in chunks of whole pages
 
@@ -113,7 +90,8 @@ at_page size count n r q is = rw is (grind arith)
 
 -- EACH CHUNK HAS ITS PAGES: so has the block
 pub puts_all : (size count at : ℕ) (old new : List ℕ) (pages : List RoundPage) → 0 < size → 0 < count → length new ≡ length old
-    → ((n : ℕ) → n * (count * size) < length old → PutsAll size at (n * count) (take (count * size) (drop (n * (count * size)) old)) (take (count * size) (drop (n * (count * size)) new)) pages)
+    → ((n : ℕ) → n * (count * size) < length old
+    → PutsAll size at (n * count) (take (count * size) (drop (n * (count * size)) old)) (take (count * size) (drop (n * (count * size)) new)) pages)
     → PutsAll size at 0 old new pages
 puts_all size count at old new pages some many len h = record {
   len = len;
@@ -148,6 +126,7 @@ pub record DoneTo {T : Type 0} (bytes : T → List ℕ) (size b : ℕ) (start lo
   pub before : (k : ℕ) → k < b → PutsAll size k 0 (bytes_of_block (map bytes start) k) (bytes_of_block (map bytes loans) k) pages
   pub behind : (k : ℕ) → b ≤ k → bytes_of_block (map bytes loans) k ≡ bytes_of_block (map bytes start) k
 
+-- a block whose pages were put is added to those before it
 pub done_more : {T : Type 0} (bytes : T → List ℕ) (size b : ℕ) (start loans : List T) (x d : T) (pages : List RoundPage)
     → DoneTo bytes size b start loans pages → b < length loans
     → PutsAll size b 0 (bytes (get_or loans b d)) (bytes x) pages

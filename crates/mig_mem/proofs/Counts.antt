@@ -23,6 +23,7 @@ use Rattle.mig_mem.proofs.PageSizes.{page_size_some}
 
 -- ---- counts over lists and runs of numbers
 
+-- functions that agree on each element have one sum
 pub sum_agree : {X : Type 0} (f g : X → ℕ) (xs : List X) → All (λ x. f x ≡ g x) xs → sum_by f xs ≡ sum_by g xs
 sum_agree f g [] h = refl
 sum_agree {X} f g (x ∷ xs) h =
@@ -30,9 +31,11 @@ sum_agree {X} f g (x ∷ xs) h =
     let rest : sum_by f xs ≡ sum_by g xs = sum_agree f g xs (All-tail (λ (y : X). f y ≡ g y) x xs h) in
     omega (arith, sum_by-cons f x xs, sum_by-cons g x xs)
 
+-- tests that agree on each element count the same
 pub count_agree : {X : Type 0} (f g : X → Bool) (xs : List X) → All (λ x. f x ≡ g x) xs → count_by f xs ≡ count_by g xs
 count_agree {X} f g xs h = sum_agree (λ (x : X). cond (f x) 1 0) (λ (x : X). cond (g x) 1 0) xs (λ k d lt. ap (λ (b : Bool). cond b 1 0) (h k d lt))
 
+-- if no element passes, 0 are counted
 pub count_none : {X : Type 0} (f : X → Bool) (xs : List X) → All (λ x. f x ≡ false) xs → count_by f xs ≡ 0
 count_none f [] h = refl
 count_none {X} f (x ∷ xs) h =
@@ -40,7 +43,8 @@ count_none {X} f (x ∷ xs) h =
     let rest : count_by f xs ≡ 0 = count_none f xs (All-tail (λ (y : X). f y ≡ false) x xs h) in
     sum_by-cons (λ (y : X). cond (f y) 1 0) x xs ∙ rw (here, rest) refl
 
-sum_by-flat_map : {X Y : Type 0} (f : Y → ℕ) (g : X → List Y) (xs : List X) → sum_by f (flat_map g xs) ≡ sum_by (λ x. sum_by f (g x)) xs
+-- to sum over all that is listed of each element is to sum the sums of what is listed of each
+pub sum_by-flat_map : {X Y : Type 0} (f : Y → ℕ) (g : X → List Y) (xs : List X) → sum_by f (flat_map g xs) ≡ sum_by (λ x. sum_by f (g x)) xs
 sum_by-flat_map f g [] = refl
 sum_by-flat_map {X} f g (x ∷ xs) =
     sum_by-append f (g x) (flat_map g xs) ∙ ap (λ (n : ℕ). sum_by f (g x) + n) (sum_by-flat_map f g xs)
@@ -55,7 +59,8 @@ count_later f d a b (suc n) e =
     ∙ ap (λ (m : ℕ). cond (f (a + d)) 1 0 + m) (count_later f d (a + 1) (b + 1) n (omega arith))
     ∙ sym (sum_by-cons (λ (i : ℕ). cond (f (i + d)) 1 0) a (range_with_len (a + 1) n))
 
-range-append : (a m n : ℕ) → range_with_len a (m + n) ≡ range_with_len a m ++ range_with_len (a + m) n
+-- a range of numbers is its front and the rest after it
+pub range-append : (a m n : ℕ) → range_with_len a (m + n) ≡ range_with_len a m ++ range_with_len (a + m) n
 range-append a zero n =
     let e : a + 0 ≡ a = omega arith in
     let z : zero + n ≡ n = omega arith in rw (e, z) refl
@@ -66,7 +71,8 @@ range-append a (suc m) n =
     ∙ ap (λ (l : List ℕ). a ∷ l) (range-append (a + 1) m n ∙ ap (λ (k : ℕ). range_with_len (a + 1) m ++ range_with_len k n) f)
 
 -- a run in two parts
-pub count_parts : (f : ℕ → Bool) (m n : ℕ) → count_by f (range_with_len 0 (m + n)) ≡ count_by f (range_with_len 0 m) + count_by (λ i. f (i + m)) (range_with_len 0 n)
+pub count_parts : (f : ℕ → Bool) (m n : ℕ)
+    → count_by f (range_with_len 0 (m + n)) ≡ count_by f (range_with_len 0 m) + count_by (λ i. f (i + m)) (range_with_len 0 n)
 count_parts f m n =
     ap (λ (l : List ℕ). count_by f l) (range-append 0 m n)
     ∙ sum_by-append (λ (i : ℕ). cond (f i) 1 0) (range_with_len 0 m) (range_with_len (0 + m) n)
@@ -82,6 +88,7 @@ lowest_bit n =
       | inr none ↦ let f : (n % 2 == 1) ≡ false = ne_eqb (n % 2) 1 none in rw (low, f) (omega arith)
     ]
 
+-- as many ones are counted in a number as it has bits that are 1
 pub ones_are_bits : (k n : ℕ) → n < 2 ^ k → count_ones n ≡ count_by (λ i. bit_at n i == 1) (range_with_len 0 k)
 ones_are_bits zero n h = let none : count_ones n ≤ n = ones_le_self n in omega arith
 ones_are_bits (suc k) n h =
@@ -114,9 +121,11 @@ marks_more words i w e fits =
     ∙ sym (ones_are_bits 64 w fits)
     )
 
+-- before a page there are at most as many marks as pages
 pub marks_before_few : (words : List ℕ) (n : ℕ) → count_by (is_set words) (range_with_len 0 n) ≤ n
 marks_before_few words n = omega (arith, count_by-le-length (is_set words) (range_with_len 0 n), length-range_with_len 0 n)
 
+-- words have at most 64 marks each
 pub marks_few : (words : List ℕ) → marks_in words ≤ 64 * length words
 unfolding marks_in
 marks_few words = marks_before_few words (64 * length words)

@@ -9,14 +9,14 @@ use Rattle.std.proofs.lemmas.List.{get_or_push, get_or_append_left, length_push}
 use Rattle.std.proofs.lemmas.List.FromFn.{length-range_with_len}
 use Rattle.std.proofs.lemmas.Nat.Bits.{bit_at-zero, bit_at_set_same, bit_at_set_other}
 use Rattle.std.proofs.lemmas.Slice.Zip.{AllZip-long}
-use Rattle.mig_mem.specs.RamTable.{RamTable, block, IsTable}
+use Rattle.mig_mem.specs.RamTable.{RamTable, block}
 use Rattle.mig_mem.specs.declared.place.Place.{Place}
 use Rattle.mig_mem.specs.Place.{place_at, places}
 use Rattle.mig_mem.specs.Image.{Image, differs}
 use Rattle.mig_mem.specs.PlaceSet.{places_where}
 use Rattle.mig_mem.specs.Difference.{differing}
 use Rattle.mig_mem.specs.Buffers.{buffers_of}
-use Rattle.mig_mem.specs.Marks.{is_set, is_marked, set_in, AreMarks, IsDifferingWord, IsDifferingRow}
+use Rattle.mig_mem.specs.Marks.{is_set, is_marked, set_in, IsDifferingWord, IsDifferingRow}
 use Rattle.mig_mem.proofs.Bits.{unset_past}
 use Rattle.mig_mem.proofs.Sets.{where_agree}
 
@@ -26,6 +26,7 @@ use Rattle.mig_mem.proofs.Sets.{where_agree}
 abbrev pub MarksBefore : ℕ → (ℕ → Bool) → ℕ → ℕ → Type 0
 MarksBefore page test i word = (k : ℕ) → k < 64 → (bit_at word k == 1) ≡ (nat_lt (i * 64 + k) page && test (i * 64 + k))
 
+-- before the first page of a word no mark is set
 pub word_none : (test : ℕ → Bool) (i : ℕ) → MarksBefore (i * 64 + 0) test i 0
 word_none test i b small =
     let no : nat_lt (i * 64 + b) (i * 64 + 0) ≡ false = le-ltb (i * 64 + b) (i * 64 + 0) (omega arith) in
@@ -40,13 +41,15 @@ lt_other q page next e ne = elim (cases_lt q page) [
 ]
 
 -- a page more, which fails the test
-pub word_same : (test : ℕ → Bool) (i bit word : ℕ) → MarksBefore (i * 64 + bit) test i word → test (i * 64 + bit) ≡ false → MarksBefore (i * 64 + (bit + 1)) test i word
+pub word_same : (test : ℕ → Bool) (i bit word : ℕ) → MarksBefore (i * 64 + bit) test i word → test (i * 64 + bit) ≡ false
+    → MarksBefore (i * 64 + (bit + 1)) test i word
 word_same test i bit word marks fails b small = elim (cases_eq b bit) [
   | inl at ↦
       let past : nat_lt (i * 64 + b) (i * 64 + bit) ≡ false = le-ltb (i * 64 + b) (i * 64 + bit) (omega arith) in
       let no : test (i * 64 + b) ≡ false = ap (λ (n : ℕ). test (i * 64 + n)) at ∙ fails in
       marks b small ∙ rw (past, no) (elim (cases_Bool (nat_lt (i * 64 + b) (i * 64 + (bit + 1)))) [ inl t ↦ rw t refl | inr f ↦ rw f refl ])
-  | inr away ↦ marks b small ∙ ap (λ (t : Bool). t && test (i * 64 + b)) (sym (lt_other (i * 64 + b) (i * 64 + bit) (i * 64 + (bit + 1)) (omega arith) (λ e. away (omega arith))))
+  | inr away ↦ marks b small ∙ ap (λ (t : Bool). t && test (i * 64 + b))
+      (sym (lt_other (i * 64 + b) (i * 64 + bit) (i * 64 + (bit + 1)) (omega arith) (λ e. away (omega arith))))
 ]
 
 -- and one that passes
@@ -67,7 +70,8 @@ word_more test i bit word low marks passes b small =
     ]
 
 -- all pages of a word
-pub word_all : (test : ℕ → Bool) (i bit pages word : ℕ) → i * 64 + bit ≡ min pages (i * 64 + 64) → MarksBefore (i * 64 + bit) test i word → MarksBefore pages test i word
+pub word_all : (test : ℕ → Bool) (i bit pages word : ℕ) → i * 64 + bit ≡ min pages (i * 64 + 64)
+    → MarksBefore (i * 64 + bit) test i word → MarksBefore pages test i word
 word_all test i bit pages word e marks b small =
     marks b small ∙ ap (λ (t : Bool). t && test (i * 64 + b)) (elim (cases_lt (i * 64 + b) pages) [
       | inl lt ↦ lt-ltb (i * 64 + b) (i * 64 + bit) (omega arith) ∙ sym (lt-ltb (i * 64 + b) pages lt)
@@ -80,7 +84,9 @@ word_all test i bit pages word e marks b small =
 abbrev pub differs_in : Image → Image → ℕ → ℕ → Bool
 differs_in a b at page = differs a b (place_at at page)
 
-pub differing_word : (a b : Image) (at i bit word : ℕ) → i * 64 + bit ≡ min (block a.table.blocks at).pages (i * 64 + 64) → MarksBefore (i * 64 + bit) (differs_in a b at) i word
+-- a word that has the marks of all its pages marks those that differ
+pub differing_word : (a b : Image) (at i bit word : ℕ) → i * 64 + bit ≡ min (block a.table.blocks at).pages (i * 64 + 64)
+    → MarksBefore (i * 64 + bit) (differs_in a b at) i word
     → IsDifferingWord a b at i word
 differing_word a b at i bit word end marks = record { bits = word_all (differs_in a b at) i bit (block a.table.blocks at).pages word end marks }
 
@@ -90,6 +96,7 @@ zipped_at R a (suc n) [] h k lt = absurd h
 zipped_at R a (suc n) (y ∷ ys) h zero lt = let e : a + 0 ≡ a = omega arith in rw e h.0
 zipped_at R a (suc n) (y ∷ ys) h (suc k) lt = let e : a + suc k ≡ (a + 1) + k = omega arith in rw e (zipped_at R (a + 1) n ys h.1 k (omega arith))
 
+-- words that mark the pages that differ are the row of a block
 pub differing_row : (a b : Image) (at count : ℕ) (words : List ℕ) → count ≡ ((block a.table.blocks at).pages + 63) / 64
     → AllZip (IsDifferingWord a b at) (range_with_len 0 count) words → IsDifferingRow a b at words
 unfolding is_set
@@ -116,9 +123,7 @@ pub record DifferingRows (a b : Image) (count : ℕ) (rows : List (List ℕ)) : 
   pub len : length rows ≡ count
   pub each : (i : ℕ) → i < count → IsDifferingRow a b i (get_or rows i [])
 
-pub rows_none : (a b : Image) → DifferingRows a b 0 []
-rows_none a b = record { len = refl; each = λ i lt. absurd (omega arith) }
-
+-- the row of the next block is added to the rows before it
 pub rows_more : (a b : Image) (count : ℕ) (rows : List (List ℕ)) (row : List ℕ) → DifferingRows a b count rows → IsDifferingRow a b count row
     → DifferingRows a b (count + 1) (rows ++ row ∷ [])
 rows_more a b count rows row before more = record {
@@ -132,16 +137,6 @@ rows_more a b count rows row before more = record {
         let here : get_or (rows ++ row ∷ []) i [] ≡ row = get_or_push rows row [] i (before.len ∙ sym last) in
         rw (here, last) more
   ];
-}
-
--- of all blocks they are marks of the table's places
-pub rows_all : (a b : Image) (rows : List (List ℕ)) → IsTable a.table → DifferingRows a b (length a.table.blocks) rows → AreMarks a.table rows
-rows_all a b rows is all = record {
-  is_table = is;
-  has_room = record { blocks = all.len; pages = λ i lt. (all.each i lt).len };
-  is_within = λ i q lt past.
-      let no : nat_lt q (block a.table.blocks i).pages ≡ false = le-ltb q (block a.table.blocks i).pages past in
-      (all.each i lt).marks q ∙ rw no refl;
 }
 
 -- and make the set of the places where the memories differ

@@ -21,16 +21,19 @@ pub content-image_of : (table : RamTable) (f : Place → List ℕ) (p : Place) �
 unfolding content pages_of
 content-image_of table f p is =
     let found : find (λ (q : Place). place_eq q p) (places table) ≡ Some p = find_place p (places table) (has_place-places table p is) in
-    ap (λ (o : Option Page). option_map (λ (x : Page). x.content) o) (find-map (λ (x : Page). place_eq x.place p) (page f) (places table) ∙ ap (λ (o : Option Place). option_map (page f) o) found)
+    ap (λ (o : Option Page). option_map (λ (x : Page). x.content) o)
+    (find-map (λ (x : Page). place_eq x.place p) (page f) (places table) ∙ ap (λ (o : Option Place). option_map (page f) o) found)
 
 -- past the table there is nothing
 pub content_past : (table : RamTable) (f : Place → List ℕ) (p : Place) → (IsPlace table p → ⊥) → content (image_of table f) p ≡ None
 unfolding content pages_of
 content_past table f p past =
-    let no : has_place (places table) p ≡ false = elim (cases_Bool (has_place (places table) p)) [ inl t ↦ absurd (past (place_from_has table p t)) | inr f ↦ f ] in
+    let no : has_place (places table) p ≡ false =
+    elim (cases_Bool (has_place (places table) p)) [ inl t ↦ absurd (past (place_from_has table p t)) | inr f ↦ f ] in
     ap (λ (o : Option Page). option_map (λ (x : Page). x.content) o)
     (find-map (λ (x : Page). place_eq x.place p) (page f) (places table) ∙ ap (λ (o : Option Place). option_map (page f) o) (find_no_place p (places table) no))
 
+-- a page of the image that a function gives has the content that the function gives
 pub content_at-image_of : (table : RamTable) (f : Place → List ℕ) (p : Place) → IsPlace table p → content_at (image_of table f) p ≡ f p
 content_at-image_of table f p is = ap (λ (o : Option (List ℕ)). unwrap_or o []) (content-image_of table f p is)
 
@@ -40,7 +43,8 @@ unfolding pages_of
 image_agree table f g same =
     ap (λ (l : List Page). record { table = table; pages = l })
     (map_agree (page f) (page g) (places table)
-    (All-weaker (IsPlace table) (λ p. page f p ≡ page g p) (λ p is. ap (λ (c : List ℕ). record { place = p; content = c }) (same p is)) (places table) (all_places table)))
+    (All-weaker (IsPlace table) (λ p. page f p ≡ page g p)
+    (λ p is. ap (λ (c : List ℕ). record { place = p; content = c }) (same p is)) (places table) (all_places table)))
 
 -- one place is written
 pub with_page-image_of : (table : RamTable) (f g : Place → List ℕ) (p : Place) (x : List ℕ) → x ≡ g p
@@ -81,14 +85,17 @@ looked_up (x ∷ xs) h =
     rw n refl) in
     ap (λ (y : Page). y ∷ map (λ (z : Page). page (look (x ∷ xs)) z.place) xs) here ∙ ap (λ (l : List Page). x ∷ l) (rest ∙ looked_up xs h.1)
 
+-- an image is the one that its contents make of its table
 pub image_is : (m : Image) → IsImage m → m ≡ image_of m.table (content_at m)
 unfolding content pages_of look
 image_is m is =
     let order : InOrder place_lt (map (λ (x : Page). x.place) m.pages) = rw is.has_places (places_order m.table) in
     ap (λ (l : List Page). record { table = m.table; pages = l })
-    (sym (looked_up m.pages order) ∙ sym (map-map (page (look m.pages)) (λ (x : Page). x.place) m.pages) ∙ ap (λ (ps : List Place). map (page (look m.pages)) ps) is.has_places)
+    (sym (looked_up m.pages order) ∙ sym (map-map (page (look m.pages)) (λ (x : Page). x.place) m.pages)
+    ∙ ap (λ (ps : List Place). map (page (look m.pages)) ps) is.has_places)
 
-look_size : (size : ℕ) (xs : List Page) (p : Place) → All (λ x. length x.content ≡ size) xs → has_place (map (λ (x : Page). x.place) xs) p ≡ true → length (look xs p) ≡ size
+look_size : (size : ℕ) (xs : List Page) (p : Place) → All (λ x. length x.content ≡ size) xs
+    → has_place (map (λ (x : Page). x.place) xs) p ≡ true → length (look xs p) ≡ size
 unfolding look
 look_size size [] p sizes h = absurd cc
 look_size size (x ∷ xs) p sizes h =
@@ -101,19 +108,23 @@ look_size size (x ∷ xs) p sizes h =
 -- what a memory holds at a place of its table has the page size
 pub content_size : (m : Image) (p : Place) → IsImage m → IsPlace m.table p → length (content_at m p) ≡ m.table.page_size
 unfolding content look
-content_size m p is at = look_size m.table.page_size m.pages p is.has_sizes (ap (λ (ps : List Place). has_place ps p) is.has_places ∙ has_place-places m.table p at)
+content_size m p is at = look_size m.table.page_size m.pages p is.has_sizes
+    (ap (λ (ps : List Place). has_place ps p) is.has_places ∙ has_place-places m.table p at)
 
 -- what a memory holds, and that it holds nothing past its table
 pub content_some : (m : Image) (p : Place) → IsImage m → IsPlace m.table p → content m p ≡ Some (content_at m p)
 content_some m p is at = ap (λ (i : Image). content i p) (image_is m is) ∙ content-image_of m.table (content_at m) p at
 
+-- a place outside of the table has no content
 pub content_none : (m : Image) (p : Place) → IsImage m → (IsPlace m.table p → ⊥) → content m p ≡ None
 content_none m p is past = ap (λ (i : Image). content i p) (image_is m is) ∙ content_past m.table (content_at m) p past
 
 -- what is answered for a place that a table was found to lack, or to have
-pub answer_none : (m : Image) (table : RamTable) (p : Place) (has : Bool) → IsImage m → table ≡ m.table → (IsPlace table p → has ≡ true) → has ≡ false → None ≡ content m p
+pub answer_none : (m : Image) (table : RamTable) (p : Place) (has : Bool) → IsImage m → table ≡ m.table
+    → (IsPlace table p → has ≡ true) → has ≡ false → None ≡ content m p
 answer_none m table p has is same there lacks = sym (content_none m p is (λ at. let found : has ≡ true = there (rw same at) in absurd cc))
 
+-- the content of a page of the table is answered, and has the page's size
 pub answer_some : (m : Image) (table : RamTable) (p : Place) (bytes : List ℕ) → IsImage m → table ≡ m.table → IsPlace table p → bytes ≡ content_at m p
     → (Some bytes ≡ content m p) × (length bytes ≡ m.table.page_size)
 answer_some m table p bytes is same at e =

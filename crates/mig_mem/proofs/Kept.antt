@@ -1,7 +1,7 @@
 -- What the blocks of a memory hold.
 use Rattle.std.proofs.Common.{ℕ, ◌≡◌, ◌<◌, List, [], inl, inr, get_or-set_same, get_or-set_other, length, map, get_or, set, replicate, refl, sym, ap, subst, ◌∙◌, arith}
-use Rattle.std.proofs.lemmas.List.{get_or_default, get_or-replicate, length-set, length-replicate}
-use Rattle.std.proofs.lemmas.List.Elements.{All-set, All-from_get_or}
+use Rattle.std.proofs.lemmas.List.{get_or_default, get_or-replicate, length-replicate}
+use Rattle.std.proofs.lemmas.List.Elements.{All-from_get_or}
 use Rattle.std.specs.List.{range_with_len}
 use Rattle.std.proofs.lemmas.List.FromFn.{get_or-map-range_with_len, length-map-range_with_len}
 use Rattle.std.proofs.lemmas.Bool.{cases_eq}
@@ -15,9 +15,11 @@ use Rattle.mig_mem.proofs.Images.{with_page-image_of, image_agree, image_from, c
 use Rattle.mig_mem.proofs.PlaceOrder.{same_place}
 use Rattle.mig_mem.proofs.Slotted.{length-zero_page}
 
+-- there is a block for each of the table
 pub has_block : (table : RamTable) (blocks : List BlockPages) (i : ℕ) → IsHeld table blocks → i < length table.blocks → i < length blocks
 has_block table blocks i held h = omega (arith, held.same_count)
 
+-- a block's pages are those of the element at its number
 pub block_is : (blocks : List BlockPages) (i : ℕ) (x : BlockPages) → i < length blocks → x ≡ get_or blocks i x → pages_of_block blocks i ≡ x
 block_is blocks i x lt e = get_or_default blocks i (record { size = 0; pages = [] }) x lt ∙ sym e
 
@@ -29,7 +31,8 @@ block_held table blocks i x held lt e =
     subst (λ (b : BlockPages). HasPages table.page_size (block table.blocks i).pages b) same (held.has_pages i lt)
 
 -- the page of a place is there
-pub has_page : (table : RamTable) (blocks : List BlockPages) (p : Place) (x : BlockPages) → IsHeld table blocks → IsPlace table p → x ≡ get_or blocks p.block x → p.page < length x.pages
+pub has_page : (table : RamTable) (blocks : List BlockPages) (p : Place) (x : BlockPages) → IsHeld table blocks → IsPlace table p
+    → x ≡ get_or blocks p.block x → p.page < length x.pages
 has_page table blocks p x held is e = omega (arith, (block_held table blocks p.block x held is.has_block e).same_count, is.has_page)
 
 held_size : (table : RamTable) (blocks : List BlockPages) (p : Place) → IsHeld table blocks → IsPlace table p → length (held_at blocks p) ≡ table.page_size
@@ -50,38 +53,15 @@ page_read table blocks p x held is e =
 
 -- ---- a page is written
 
-put_pages : (size count : ℕ) (x : BlockPages) (i : ℕ) (content : List ℕ) → HasPages size count x → length content ≡ size → HasPages size count (with_content x i content)
-put_pages size count x i content has len = record {
-  same_size = has.same_size;
-  same_count = length-set x.pages i content ∙ has.same_count;
-  has_sizes = All-set (λ c. length c ≡ size) x.pages i content len has.has_sizes;
-}
-
-pub put_held : (table : RamTable) (blocks : List BlockPages) (p : Place) (x : BlockPages) (content : List ℕ) → IsHeld table blocks → IsPlace table p → x ≡ get_or blocks p.block x
-    → length content ≡ table.page_size → IsHeld table (set blocks p.block (with_content x p.page content))
-put_held table blocks p x content held is e len =
-    let new : BlockPages = with_content x p.page content in
-    let none : BlockPages = record { size = 0; pages = [] } in
-    record {
-      is_table = held.is_table;
-      same_count = length-set blocks p.block new ∙ held.same_count;
-      has_pages = λ i lt. elim (cases_eq i p.block) [
-        | inl at ↦
-            let there : pages_of_block (set blocks p.block new) i ≡ new = ap (λ (j : ℕ). pages_of_block (set blocks p.block new) j) at ∙ get_or-set_same blocks p.block new none (has_block table blocks p.block held is.has_block) in
-            let count : (block table.blocks i).pages ≡ (block table.blocks p.block).pages = ap (λ (j : ℕ). (block table.blocks j).pages) at in
-            rw (there, count) (put_pages table.page_size (block table.blocks p.block).pages x p.page content (block_held table blocks p.block x held is.has_block e) len)
-        | inr other ↦
-            let there : pages_of_block (set blocks p.block new) i ≡ pages_of_block blocks i = get_or-set_other blocks p.block i new none other in
-            rw there (held.has_pages i lt)
-      ];
-    }
-
-pub put_image : (table : RamTable) (blocks : List BlockPages) (p : Place) (x : BlockPages) (content : List ℕ) → IsHeld table blocks → IsPlace table p → x ≡ get_or blocks p.block x
+-- a page that is written into its block is written into the image
+pub put_image : (table : RamTable) (blocks : List BlockPages) (p : Place) (x : BlockPages) (content : List ℕ)
+    → IsHeld table blocks → IsPlace table p → x ≡ get_or blocks p.block x
     → with_page (image_in table blocks) p content ≡ image_in table (set blocks p.block (with_content x p.page content))
 put_image table blocks p x content held is e =
     let new : BlockPages = with_content x p.page content in
     let none : BlockPages = record { size = 0; pages = [] } in
-    let there : pages_of_block (set blocks p.block new) p.block ≡ new = get_or-set_same blocks p.block new none (has_block table blocks p.block held is.has_block) in
+    let there : pages_of_block (set blocks p.block new) p.block ≡ new =
+    get_or-set_same blocks p.block new none (has_block table blocks p.block held is.has_block) in
     let was : pages_of_block blocks p.block ≡ x = block_is blocks p.block x (has_block table blocks p.block held is.has_block) e in
     with_page-image_of table (held_at blocks) (held_at (set blocks p.block new)) p content
     (sym (ap (λ (b : BlockPages). page_at b p.page) there ∙ get_or-set_same x.pages p.page content [] (has_page table blocks p x held is e)))
@@ -99,27 +79,35 @@ put_image table blocks p x content held is e =
 abbrev pub zero_block : RamTable → ℕ → BlockPages
 zero_block table b = record { size = table.page_size; pages = replicate (block table.blocks b).pages (zero_page table.page_size) }
 
-zero_block_at : (table : RamTable) (blocks : List BlockPages) (i : ℕ) → blocks ≡ map (zero_block table) (range_with_len 0 (length table.blocks)) → i < length table.blocks
+zero_block_at : (table : RamTable) (blocks : List BlockPages) (i : ℕ)
+    → blocks ≡ map (zero_block table) (range_with_len 0 (length table.blocks)) → i < length table.blocks
     → pages_of_block blocks i ≡ zero_block table i
 zero_block_at table blocks i e lt =
-    ap (λ (l : List BlockPages). pages_of_block l i) e ∙ get_or-map-range_with_len (zero_block table) 0 (length table.blocks) i i (record { size = 0; pages = [] }) lt (omega arith)
+    ap (λ (l : List BlockPages). pages_of_block l i) e
+    ∙ get_or-map-range_with_len (zero_block table) 0 (length table.blocks) i i (record { size = 0; pages = [] }) lt (omega arith)
 
 zero_pages : (size count : ℕ) → HasPages size count (record { size = size; pages = replicate count (zero_page size) })
 zero_pages size count = record {
   same_size = refl;
   same_count = length-replicate count (zero_page size);
   has_sizes = All-from_get_or (λ c. length c ≡ size) (replicate count (zero_page size)) [] (λ i lt.
-      ap (λ (l : List ℕ). length l) (get_or-replicate count i (zero_page size) [] (omega (arith, length-replicate count (zero_page size)))) ∙ length-zero_page size);
+      ap (λ (l : List ℕ). length l) (get_or-replicate count i (zero_page size) []
+      (omega (arith, length-replicate count (zero_page size)))) ∙ length-zero_page size);
 }
 
-pub zeros_held : (table : RamTable) (blocks : List BlockPages) → IsTable table → blocks ≡ map (zero_block table) (range_with_len 0 (length table.blocks)) → IsHeld table blocks
+-- blocks of zeros, one for each of the table, are held for it
+pub zeros_held : (table : RamTable) (blocks : List BlockPages) → IsTable table
+    → blocks ≡ map (zero_block table) (range_with_len 0 (length table.blocks)) → IsHeld table blocks
 zeros_held table blocks is e = record {
   is_table = is;
   same_count = ap (λ (l : List BlockPages). length l) e ∙ length-map-range_with_len (zero_block table) 0 (length table.blocks);
-  has_pages = λ i lt. (let there : pages_of_block blocks i ≡ zero_block table i = zero_block_at table blocks i e lt in rw there (zero_pages table.page_size (block table.blocks i).pages));
+  has_pages = λ i lt. (let there : pages_of_block blocks i ≡ zero_block table i = zero_block_at table blocks i e lt in
+      rw there (zero_pages table.page_size (block table.blocks i).pages));
 }
 
-pub zeros_image : (table : RamTable) (blocks : List BlockPages) → blocks ≡ map (zero_block table) (range_with_len 0 (length table.blocks)) → image_in table blocks ≡ zero_image table
+-- blocks of zeros are the image of zeros
+pub zeros_image : (table : RamTable) (blocks : List BlockPages)
+    → blocks ≡ map (zero_block table) (range_with_len 0 (length table.blocks)) → image_in table blocks ≡ zero_image table
 zeros_image table blocks e = image_agree table (held_at blocks) (λ _. zero_page table.page_size) (λ p is.
     ap (λ (b : BlockPages). page_at b p.page) (zero_block_at table blocks p.block e is.has_block)
     ∙ get_or-replicate (block table.blocks p.block).pages p.page (zero_page table.page_size) [] is.has_page)

@@ -26,12 +26,15 @@ good : (before : List Block) (b : Block) → block_refusal before b ≡ None →
 unfolding block_refusal
 good before b h =
     let n : ℕ = length before in
-    let id = or_none (then_some (not (is_id b.id)) (Id n)) (first_some (then_some (list_any (λ (e : Block). bytes_eq e.id b.id) before) (IdTwice n) ∷ (then_some (b.pages == 0) (NoPages n) ∷ []))) h in
-    let own = or_none (then_some (list_any (λ (e : Block). bytes_eq e.id b.id) before) (IdTwice n)) (first_some (then_some (b.pages == 0) (NoPages n) ∷ [])) id.1 in
+    let id = or_none (then_some (not (is_id b.id)) (Id n))
+    (first_some (then_some (list_any (λ (e : Block). bytes_eq e.id b.id) before) (IdTwice n) ∷ (then_some (b.pages == 0) (NoPages n) ∷ []))) h in
+    let own = or_none (then_some (list_any (λ (e : Block). bytes_eq e.id b.id) before) (IdTwice n))
+    (first_some (then_some (b.pages == 0) (NoPages n) ∷ [])) id.1 in
     let pages = or_none (then_some (b.pages == 0) (NoPages n)) None own.1 in
     record {
       id = not-false (is_id b.id) (then_none (not (is_id b.id)) (Id n) id.0);
-      own = λ k d lt. other_text (get_or before k d).id b.id (sym (any_false (λ (e : Block). bytes_eq e.id b.id) before k d (then_none _ (IdTwice n) own.0) lt));
+      own = λ k d lt. other_text (get_or before k d).id b.id
+          (sym (any_false (λ (e : Block). bytes_eq e.id b.id) before k d (then_none _ (IdTwice n) own.0) lt));
       pages = let ne : b.pages ≢ 0 = eqb-false b.pages 0 (then_none (b.pages == 0) (NoPages n) pages.0) in omega arith;
     }
 
@@ -39,6 +42,7 @@ entries : (blocks : List Block) → first_some (map (entry_refusal blocks) (rang
     → (i : ℕ) → i < length blocks → IsGood (take i blocks) (block blocks i)
 entries blocks h i lt = good (take i blocks) (block blocks i) (first_some_nothing (entry_refusal blocks) 0 (length blocks) i h (omega arith) (omega arith))
 
+-- a table that is refused nothing is a table of the definition
 pub lawful : (table : RamTable) → IsPageSize table.page_size → refusal table ≡ None → IsTable table
 unfolding refusal
 lawful table is h =
@@ -53,7 +57,8 @@ lawful table is h =
       has_page_size = is;
       has_blocks = let ne : length blocks ≢ 0 = eqb-false (length blocks) 0 (then_none _ NoBlocks some.0) in omega arith;
       has_few = ltb-false 256 (length blocks) (then_none _ TooManyBlocks few.0);
-      has_ids = λ k d lt. let e : get_or blocks k none ≡ get_or blocks k d = get_or_default blocks k none d lt in ap (λ (b : Block). is_id b.id) (sym e) ∙ (all k lt).id;
+      has_ids = λ k d lt. let e : get_or blocks k none ≡ get_or blocks k d = get_or_default blocks k none d lt in
+          ap (λ (b : Block). is_id b.id) (sym e) ∙ (all k lt).id;
       has_own_ids = λ i j d before lt e.
           let here : get_or blocks j d ≡ get_or blocks j none = get_or_default blocks j d none lt in
           let there : get_or (take j blocks) i d ≡ get_or blocks i d = get_or-take j blocks i d before in
@@ -74,16 +79,19 @@ not_refused table i is lt =
     let none : Block = record { id = []; pages = 0 } in
     let b : Block = block blocks i in
     let id : is_id b.id ≡ true = is.has_ids i none lt in
-    let own : list_any (λ (e : Block). bytes_eq e.id b.id) (take i blocks) ≡ false = list_any_none (λ (e : Block). bytes_eq e.id b.id) (take i blocks) (λ k d within.
+    let own : list_any (λ (e : Block). bytes_eq e.id b.id) (take i blocks) ≡ false =
+    list_any_none (λ (e : Block). bytes_eq e.id b.id) (take i blocks) (λ k d within.
     let before : k < i = omega (arith, length-take-le i blocks (omega arith)) in
     let there : get_or (take i blocks) k d ≡ get_or blocks k d = get_or-take i blocks k d before in
     let here : get_or blocks i d ≡ b = get_or_default blocks i d none lt in
-    let apart : (get_or (take i blocks) k d).id ≢ b.id = λ e. is.has_own_ids k i d before lt (ap (λ (x : Block). x.id) (sym there) ∙ e ∙ ap (λ (x : Block). x.id) (sym here)) in
+    let apart : (get_or (take i blocks) k d).id ≢ b.id =
+    λ e. is.has_own_ids k i d before lt (ap (λ (x : Block). x.id) (sym there) ∙ e ∙ ap (λ (x : Block). x.id) (sym here)) in
     false_from_ne_true (bytes_eq (get_or (take i blocks) k d).id b.id) (λ t. apart ((bytes_eq-Decides (get_or (take i blocks) k d).id b.id).0 t))) in
     let some : 0 < b.pages = is.has_pages i none lt in
     let pages : (b.pages == 0) ≡ false = ne_eqb b.pages 0 (λ e. absurd (omega arith)) in
     rw (id, own, pages) refl
 
+-- a table of the definition is refused nothing
 pub unrefused : (table : RamTable) → IsTable table → refusal table ≡ None
 unfolding refusal
 unrefused table is =
@@ -96,5 +104,6 @@ unrefused table is =
     let room : nat_lt (2 ^ 40) (total_pages blocks * table.page_size) ≡ false = le-ltb (2 ^ 40) (total_pages blocks * table.page_size) is.has_room in
     rw (some, few, each, room) refl
 
+-- a table is refused nothing if, and only if, it is a table of the definition
 pub table_law : (table : RamTable) → IsPageSize table.page_size → (refusal table ≡ None) ↔ IsTable table
 table_law table is = ((λ h. lawful table is h), (λ h. unrefused table h))

@@ -23,29 +23,36 @@ room_in_block table blocks p fit is =
 pub lent_is_image : (table : RamTable) (blocks : List (List ℕ)) → FitTable table blocks → IsImage (lent_image table blocks)
 lent_is_image table blocks fit = image_from table (lent_at table.page_size blocks) (λ p is.
     let all : List ℕ = bytes_of_block blocks p.block in
-    length-take-le table.page_size (drop (p.page * table.page_size) all) (omega (arith, length-drop (p.page * table.page_size) all, room_in_block table blocks p fit is)))
+    length-take-le table.page_size (drop (p.page * table.page_size) all)
+    (omega (arith, length-drop (p.page * table.page_size) all, room_in_block table blocks p fit is)))
 
 -- the content of a place
-pub lent_content : (table : RamTable) (blocks : List (List ℕ)) (p : Place) → IsPlace table p → content (lent_image table blocks) p ≡ Some (lent_at table.page_size blocks p)
+pub lent_content : (table : RamTable) (blocks : List (List ℕ)) (p : Place) → IsPlace table p
+    → content (lent_image table blocks) p ≡ Some (lent_at table.page_size blocks p)
 lent_content table blocks p is = content-image_of table (lent_at table.page_size blocks) p is
 
 -- ---- the loans of all blocks
 
 -- each block of the table has one
-pub has_loan : {T : Type 0} (bytes : T → List ℕ) (table : RamTable) (loans : List T) (i : ℕ) → FitTable table (map bytes loans) → i < length table.blocks → i < length loans
+pub has_loan : {T : Type 0} (bytes : T → List ℕ) (table : RamTable) (loans : List T) (i : ℕ) → FitTable table (map bytes loans)
+    → i < length table.blocks → i < length loans
 has_loan {T} bytes table loans i fit lt = omega (arith, fit.same_count, length-map loans bytes)
 
-pub loan_at : {T : Type 0} (bytes : T → List ℕ) (loans : List T) (i : ℕ) (d : T) → i < length loans → bytes_of_block (map bytes loans) i ≡ bytes (get_or loans i d)
+-- the bytes of a block are those of its loan
+pub loan_at : {T : Type 0} (bytes : T → List ℕ) (loans : List T) (i : ℕ) (d : T) → i < length loans
+    → bytes_of_block (map bytes loans) i ≡ bytes (get_or loans i d)
 loan_at {T} bytes loans i d lt = get_or-map bytes loans i d [] lt
 
 -- the page lies in the loan of its block
-pub room_in_loan : {T : Type 0} (bytes : T → List ℕ) (table : RamTable) (loans : List T) (p : Place) (d : T) → FitTable table (map bytes loans) → IsPlace table p
+pub room_in_loan : {T : Type 0} (bytes : T → List ℕ) (table : RamTable) (loans : List T) (p : Place) (d : T)
+    → FitTable table (map bytes loans) → IsPlace table p
     → p.page * table.page_size + table.page_size ≤ length (bytes (get_or loans p.block d))
 room_in_loan {T} bytes table loans p d fit is =
     rw (← loan_at bytes loans p.block d (has_loan bytes table loans p.block fit is.has_block)) (room_in_block table (map bytes loans) p fit is)
 
 -- what is read of it is a page of the memory
-pub page_of_loan : {T : Type 0} (bytes : T → List ℕ) (table : RamTable) (loans : List T) (p : Place) (d : T) → FitTable table (map bytes loans) → IsPlace table p
+pub page_of_loan : {T : Type 0} (bytes : T → List ℕ) (table : RamTable) (loans : List T) (p : Place) (d : T)
+    → FitTable table (map bytes loans) → IsPlace table p
     → part_at table.page_size (bytes (get_or loans p.block d)) p.page ≡ content_at (lent_image table (map bytes loans)) p
 page_of_loan {T} bytes table loans p d fit is =
     ap (λ (l : List ℕ). part_at table.page_size l p.page) (sym (loan_at bytes loans p.block d (has_loan bytes table loans p.block fit is.has_block)))
@@ -85,11 +92,14 @@ image_written table old p new content fit is changes =
     ])
 
 -- a loan that was written at one page: the loans still fit, and the memory
-pub loan_written : {T : Type 0} (bytes : T → List ℕ) (table : RamTable) (loans : List T) (p : Place) (d x : T) (content : List ℕ) → FitTable table (map bytes loans) → IsPlace table p
+pub loan_written : {T : Type 0} (bytes : T → List ℕ) (table : RamTable) (loans : List T) (p : Place) (d x : T) (content : List ℕ)
+    → FitTable table (map bytes loans) → IsPlace table p
     → ChangesPart table.page_size (bytes (get_or loans p.block d)) (bytes x) p.page content
-    → FitTable table (map bytes (set loans p.block x)) × (with_page (lent_image table (map bytes loans)) p content ≡ lent_image table (map bytes (set loans p.block x)))
+    → FitTable table (map bytes (set loans p.block x))
+    × (with_page (lent_image table (map bytes loans)) p content ≡ lent_image table (map bytes (set loans p.block x)))
 loan_written {T} bytes table loans p d x content fit is changes =
     let old : List (List ℕ) = map bytes loans in
-    let was : bytes_of_block old p.block ≡ bytes (get_or loans p.block d) = loan_at bytes loans p.block d (has_loan bytes table loans p.block fit is.has_block) in
+    let was : bytes_of_block old p.block ≡ bytes (get_or loans p.block d) =
+    loan_at bytes loans p.block d (has_loan bytes table loans p.block fit is.has_block) in
     let so : ChangesPart table.page_size (bytes_of_block old p.block) (bytes x) p.page content = rw was changes in
     rw (map-set bytes loans p.block x) (fit_written table old p.block (bytes x) fit is.has_block so.len, image_written table old p (bytes x) content fit is so)

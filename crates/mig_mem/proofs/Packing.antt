@@ -31,16 +31,27 @@ packing {A} list ids spans i j x s same within lt ej e at len pages =
     let t : take j list ≡ take i list ++ x ∷ [] = rw (ej, add-one) (take-suc list i x lt ∙ ap (λ (y : Vec ℕ A × ℕ). take i list ++ y ∷ []) (sym e)) in
     let more : List ℕ = x.0.items in
     let id : take s.len (drop s.start (ids ++ more)) ≡ more = rw (at, len, drop-append_seam ids more) (take-length more) in (
-      (rw (t, map-append (span_block (ids ++ more)) spans (s ∷ []), map-append (λ (e : Vec ℕ A × ℕ). entry_block e) (take i list) (x ∷ []), longer ids more spans within, same, id, pages) refl),
+      (rw (
+        t,
+        map-append (span_block (ids ++ more)) spans (s ∷ []),
+        map-append (λ (e : Vec ℕ A × ℕ). entry_block e) (take i list) (x ∷ []),
+        longer ids more spans within,
+        same,
+        id,
+        pages,
+      ) refl),
       All-push (λ (s : Span). s.start + s.len ≤ length (ids ++ more)) spans s
-          (All-weaker (λ (s : Span). s.start + s.len ≤ length ids) (λ (s : Span). s.start + s.len ≤ length (ids ++ more)) (λ s h. omega (arith, length-append ids more)) spans within)
+          (All-weaker (λ (s : Span). s.start + s.len ≤ length ids) (λ (s : Span). s.start + s.len ≤ length (ids ++ more))
+          (λ s h. omega (arith, length-append ids more)) spans within)
           (omega (arith, length-append ids more)),
     )
 
 -- a span read from a table is its block's
-pub packed_block : (table : RamTable) (size : ℕ) (ids : List ℕ) (spans : List Span) (i : ℕ) (s : Span) → table_of_spans size ids spans ≡ table → i < length table.blocks
+pub packed_block : (table : RamTable) (size : ℕ) (ids : List ℕ) (spans : List Span) (i : ℕ) (s : Span)
+    → table_of_spans size ids spans ≡ table → i < length table.blocks
     → s ≡ get_or spans i s → span_block ids s ≡ block table.blocks i
 packed_block table size ids spans i s view lt e =
     let blocks : map (span_block ids) spans ≡ table.blocks = ap (λ (t : RamTable). t.blocks) view in
     let long : length spans ≡ length table.blocks = sym (length-map spans (span_block ids)) ∙ ap (λ (l : List Block). length l) blocks in
-    ap (λ (x : Span). span_block ids x) e ∙ sym (get_or-map (span_block ids) spans i s (record { id = []; pages = 0 }) (omega arith)) ∙ ap (λ (l : List Block). block l i) blocks
+    ap (λ (x : Span). span_block ids x) e ∙ sym
+    (get_or-map (span_block ids) spans i s (record { id = []; pages = 0 }) (omega arith)) ∙ ap (λ (l : List Block). block l i) blocks

@@ -3,9 +3,11 @@ use Rattle.std.proofs.Common.{ℕ, ◌<◌, ◌≤◌, ◌+◌, ◌*◌, ◌/◌
 use Rattle.std.proofs.Math.Nat.{div-lt_iff_lt-mul}
 use Rattle.mig_mem.specs.PageSize.{IsPageSize}
 
+-- a page has at least one byte
 pub page_size_some : (size : ℕ) → IsPageSize size → 0 < size
 page_size_some size is = elim is [ inl e ↦ omega arith | inr e ↦ omega arith ]
 
+-- a page has at most 8192 bytes
 pub page_size_small : (size : ℕ) → IsPageSize size → size ≤ 8192
 page_size_small size is = elim is [ inl e ↦ omega arith | inr e ↦ omega arith ]
 

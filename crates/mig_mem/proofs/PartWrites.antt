@@ -41,7 +41,8 @@ changes_middle {T} size old bytes page room len =
               let m : ℕ = q * size - (a + size) in
               let e : q * size ≡ (a + size) + m = omega arith in
               rw e (ap (λ (l : List T). take size l) (
-              sym (drop-drop m (a + size) (front ++ bytes ++ rest)) ∙ ap (λ (l : List T). drop m l) (drop_at (front ++ bytes) rest (a + size) past) ∙ drop-drop m (a + size) old))
+              sym (drop-drop m (a + size) (front ++ bytes ++ rest))
+              ∙ ap (λ (l : List T). drop m l) (drop_at (front ++ bytes) rest (a + size) past) ∙ drop-drop m (a + size) old))
         ]
       ];
     }
@@ -52,13 +53,17 @@ changes_paste {T} size old bytes page room len =
     let same : take size bytes ≡ bytes = ap (λ (n : ℕ). take n bytes) (sym len) ∙ take-length bytes in
     rw same (changes_middle size old bytes page room len)
 
+-- bytes that are written at a page's place change that page alone
 pub changes_part : {T : Type 0} (size : ℕ) (old ys bytes : List T) (page k : ℕ) → page * size + size ≤ length old → length bytes ≡ size → ys ≡ bytes → k ≡ size
     → ChangesPart size old (put_mid (page * size) k old ys) page bytes
-changes_part {T} size old ys bytes page k room len same ek = rw (put_mid-paste (page * size) k old ys bytes size same (sym ek) (sym len)) (changes_paste size old bytes page room len)
+changes_part {T} size old ys bytes page k room len same ek =
+    rw (put_mid-paste (page * size) k old ys bytes size same (sym ek) (sym len)) (changes_paste size old bytes page room len)
 
 -- ---- one byte
 
-pub changes_byte : {T : Type 0} (size : ℕ) (old : List T) (at : ℕ) (b : T) → 0 < size → ChangesPart size old (set old at b) (at / size) (set (part_at size old (at / size)) (at % size) b)
+-- to set one element is to change the part in which it lies
+pub changes_byte : {T : Type 0} (size : ℕ) (old : List T) (at : ℕ) (b : T) → 0 < size
+    → ChangesPart size old (set old at b) (at / size) (set (part_at size old (at / size)) (at % size) b)
 changes_byte {T} size old at b some =
     let page : ℕ = at / size in
     let i : ℕ = at % size in
@@ -84,7 +89,8 @@ changes_byte {T} size old at b some =
     }
 
 -- the same, by the page and the place in it
-pub changes_byte_in : {T : Type 0} (size : ℕ) (old : List T) (page offset : ℕ) (b : T) → offset < size → ChangesPart size old (set old (page * size + offset) b) page (set (part_at size old page) offset b)
+pub changes_byte_in : {T : Type 0} (size : ℕ) (old : List T) (page offset : ℕ) (b : T) → offset < size
+    → ChangesPart size old (set old (page * size + offset) b) page (set (part_at size old page) offset b)
 changes_byte_in {T} size old page offset b inside =
     let at : ℕ = page * size + offset in
     let P : ℕ → ℕ → Type 0 = λ q i. ChangesPart size old (set old at b) q (set (part_at size old q) i b) in

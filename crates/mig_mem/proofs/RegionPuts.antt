@@ -31,7 +31,8 @@ pub pages_none : (size b first : ℕ) (old : BlockPages) → PutsPages size b fi
 pages_none size b first old = record { same_size = refl; same_count = refl; each = λ q low. refl }
 
 -- pages, one list after another
-pub pages_more : (size b first : ℕ) (old mid new : BlockPages) (xs ys : List RoundPage) → PutsPages size b first old mid xs → PutsPages size b first mid new ys → PutsPages size b first old new (xs ++ ys)
+pub pages_more : (size b first : ℕ) (old mid new : BlockPages) (xs ys : List RoundPage) → PutsPages size b first old mid xs
+    → PutsPages size b first mid new ys → PutsPages size b first old new (xs ++ ys)
 pages_more size b first old mid new xs ys one two = record {
   same_size = two.same_size ∙ one.same_size;
   same_count = two.same_count ∙ one.same_count;
@@ -42,7 +43,8 @@ pages_more size b first old mid new xs ys one two = record {
 }
 
 -- a page that lies there; where the block ends before it, nothing changes
-pub pages_one : (size b first i : ℕ) (old : BlockPages) (x : RoundPage) → x.place.block ≡ b → x.place.page ≡ first + i → PutsPages size b first old (with_content old i (bytes_given size x)) (x ∷ [])
+pub pages_one : (size b first i : ℕ) (old : BlockPages) (x : RoundPage) → x.place.block ≡ b → x.place.page ≡ first + i
+    → PutsPages size b first old (with_content old i (bytes_given size x)) (x ∷ [])
 pages_one size b first i old x same is = record {
   same_size = refl;
   same_count = length-set old.pages i (bytes_given size x);
@@ -59,7 +61,8 @@ pages_one size b first i old x same is = record {
 }
 
 -- a page that lies elsewhere
-pub pages_elsewhere : (size b first : ℕ) (old : BlockPages) (x : RoundPage) → ((q : ℕ) → q < length old.pages → x.place ≢ place_at b (first + q)) → PutsPages size b first old old (x ∷ [])
+pub pages_elsewhere : (size b first : ℕ) (old : BlockPages) (x : RoundPage)
+    → ((q : ℕ) → q < length old.pages → x.place ≢ place_at b (first + q)) → PutsPages size b first old old (x ∷ [])
 pages_elsewhere size b first old x none = record {
   same_size = refl;
   same_count = refl;
@@ -70,11 +73,14 @@ pages_elsewhere size b first old x none = record {
 }
 
 -- what a place is given has the page size
-bytes_of : (size : ℕ) (content : Option (Bor (List ℕ))) → IfSome content (λ bytes. length bytes.now ≡ size) → length (unwrap_or (option_copied content) (zero_page size)) ≡ size
+bytes_of : (size : ℕ) (content : Option (Bor (List ℕ))) → IfSome content (λ bytes. length bytes.now ≡ size)
+    → length (unwrap_or (option_copied content) (zero_page size)) ≡ size
 bytes_of size None h = length-zero_page size
 bytes_of size (Some bytes) h = h
 
-pub given_size : (size : ℕ) (p : Place) (xs : List RoundPage) (was : List ℕ) → All (HasPageSize size) xs → length was ≡ size → length (given size p xs was) ≡ size
+-- what a round gives a page has the page's size
+pub given_size : (size : ℕ) (p : Place) (xs : List RoundPage) (was : List ℕ) → All (HasPageSize size) xs → length was ≡ size
+    → length (given size p xs was) ≡ size
 given_size size p [] was sizes len = len
 given_size size p (x ∷ xs) was sizes len =
     given_size size p xs (if place_eq x.place p then bytes_given size x else was) (All-tail (HasPageSize size) x xs sizes)
@@ -91,10 +97,13 @@ region_is per first n i page low is =
     let e : page - first ≡ n * per + i = omega (arith, is) in
     rw e (div-mul-add n per i low)
 
+-- no pages leave the regions as they are
 pub regions_none : (size per b first : ℕ) (old : List BlockPages) → PutsRegions size per b first old old []
 regions_none size per b first old = record { same_len = refl; each = λ i lt. pages_none size b (first + i * per) (region_of old i) }
 
-pub regions_more : (size per b first : ℕ) (old mid new : List BlockPages) (xs ys : List RoundPage) → PutsRegions size per b first old mid xs → PutsRegions size per b first mid new ys
+-- pages that are put after others are put with them
+pub regions_more : (size per b first : ℕ) (old mid new : List BlockPages) (xs ys : List RoundPage)
+    → PutsRegions size per b first old mid xs → PutsRegions size per b first mid new ys
     → PutsRegions size per b first old new (xs ++ ys)
 regions_more size per b first old mid new xs ys one two = record {
   same_len = two.same_len ∙ one.same_len;
@@ -104,7 +113,8 @@ regions_more size per b first old mid new xs ys one two = record {
 }
 
 -- they stay regions
-pub regions_stay : (size per b first : ℕ) (old new : List BlockPages) (xs : List RoundPage) → All (IsRegion per size) old → PutsRegions size per b first old new xs → All (IsRegion per size) new
+pub regions_stay : (size per b first : ℕ) (old new : List BlockPages) (xs : List RoundPage) → All (IsRegion per size) old
+    → PutsRegions size per b first old new xs → All (IsRegion per size) new
 regions_stay size per b first old new xs are puts = λ i d lt.
     let low : i < length old = omega (arith, puts.same_len, lt) in
     let same : get_or new i d ≡ region_of new i = get_or_default new i d no_pages lt in
@@ -149,7 +159,8 @@ first_of per count n r i is = rw is (grind arith)
 
 -- EACH THREAD'S REGIONS HAVE THEIR PAGES: so have all
 pub regions_all : (size per b count : ℕ) (old new : List BlockPages) (pages : List RoundPage) → 0 < count → length new ≡ length old
-    → ((n : ℕ) → n * count < length old → PutsRegions size per b (n * count * per) (take count (drop (n * count) old)) (take count (drop (n * count) new)) pages)
+    → ((n : ℕ) → n * count < length old → PutsRegions size per b (n * count * per) (take count (drop (n * count) old))
+    (take count (drop (n * count) new)) pages)
     → PutsRegions size per b 0 old new pages
 regions_all size per b count old new pages some len h = record {
   same_len = len;
@@ -163,16 +174,20 @@ regions_all size per b count old new pages some len h = record {
       let long : length part ≡ min count (length old - n * count) =
       length-take count (drop (n * count) old) ∙ ap (λ (k : ℕ). min count k) (length-drop (n * count) old) in
       let inside : r < length part = omega (arith, long, is, lt, low) in
-      let was : region_of part r ≡ region_of old i = get_or-take count (drop (n * count) old) r no_pages low ∙ get_or-drop (n * count) old r no_pages ∙ ap (λ (j : ℕ). region_of old j) (sym is) in
-      let now : region_of (take count (drop (n * count) new)) r ≡ region_of new i = get_or-take count (drop (n * count) new) r no_pages low ∙ get_or-drop (n * count) new r no_pages ∙ ap (λ (j : ℕ). region_of new j) (sym is) in
-      let puts : PutsPages size b (n * count * per + r * per) (region_of part r) (region_of (take count (drop (n * count) new)) r) pages = (h n there).each r inside in
+      let was : region_of part r ≡ region_of old i = get_or-take count (drop (n * count) old) r no_pages low
+      ∙ get_or-drop (n * count) old r no_pages ∙ ap (λ (j : ℕ). region_of old j) (sym is) in
+      let now : region_of (take count (drop (n * count) new)) r ≡ region_of new i =
+      get_or-take count (drop (n * count) new) r no_pages low ∙ get_or-drop (n * count) new r no_pages ∙ ap (λ (j : ℕ). region_of new j) (sym is) in
+      let puts : PutsPages size b (n * count * per + r * per) (region_of part r)
+      (region_of (take count (drop (n * count) new)) r) pages = (h n there).each r inside in
       subst (λ (from : ℕ). PutsPages size b from (region_of old i) (region_of new i) pages) (first_of per count n r i is)
       (subst (λ (x : BlockPages). PutsPages size b (n * count * per + r * per) x (region_of new i) pages) was
       (subst (λ (x : BlockPages). PutsPages size b (n * count * per + r * per) (region_of part r) x pages) now puts));
 }
 
 -- EACH REGION HAS ITS PAGES: so has the block
-pub block_put : (size per count b : ℕ) (old new : List BlockPages) (pages : List RoundPage) → AreRegions per size count old → PutsRegions size per b 0 old new pages
+pub block_put : (size per count b : ℕ) (old new : List BlockPages) (pages : List RoundPage) → AreRegions per size count old
+    → PutsRegions size per b 0 old new pages
     → PutsPages size b 0 (in_regions per size count old) (in_regions per size count new) pages
 unfolding in_regions
 block_put size per count b old new pages are puts = record {
@@ -189,7 +204,8 @@ block_put size per count b old new pages are puts = record {
 }
 
 -- and they are still its regions
-pub regions_kept : (size per count b : ℕ) (old new : List BlockPages) (pages : List RoundPage) → AreRegions per size count old → PutsRegions size per b 0 old new pages → AreRegions per size count new
+pub regions_kept : (size per count b : ℕ) (old new : List BlockPages) (pages : List RoundPage) → AreRegions per size count old
+    → PutsRegions size per b 0 old new pages → AreRegions per size count new
 regions_kept size per count b old new pages are puts = record {
   is_some = are.is_some;
   has_room = rw puts.same_len are.has_room;
@@ -206,11 +222,13 @@ pub record PutTo (b : ℕ) (start now : List BlockPages) (pages : List RoundPage
   pub before : (k : ℕ) → k < b → PutsPages (pages_of_block start k).size k 0 (pages_of_block start k) (pages_of_block now k) pages
   pub behind : (k : ℕ) → b ≤ k → pages_of_block now k ≡ pages_of_block start k
 
+-- a block whose pages were put is added to those before it
 pub put_to_more : (b : ℕ) (start now : List BlockPages) (x d : BlockPages) (pages : List RoundPage) → PutTo b start now pages → b < length now
     → PutsPages (get_or now b d).size b 0 (get_or now b d) x pages → PutTo (b + 1) start (set now b x) pages
 put_to_more b start now x d pages done lt puts =
     let old : get_or now b d ≡ pages_of_block start b = get_or_default now b d no_pages lt ∙ done.behind b (omega arith) in
-    let here : PutsPages (pages_of_block start b).size b 0 (pages_of_block start b) x pages = subst (λ (y : BlockPages). PutsPages y.size b 0 y x pages) old puts in
+    let here : PutsPages (pages_of_block start b).size b 0 (pages_of_block start b) x pages =
+    subst (λ (y : BlockPages). PutsPages y.size b 0 y x pages) old puts in
     record {
       len = length-set now b x ∙ done.len;
       before = λ k low. elim (cases_eq k b) [
@@ -222,7 +240,9 @@ put_to_more b start now x d pages done lt puts =
 
 -- ---- EACH BLOCK HAS ITS PAGES: so the memory has the round
 
-pub blocks_held : (table : RamTable) (olds news : List BlockPages) (pages : List RoundPage) → IsHeld table olds → All (HasPageSize table.page_size) pages → length news ≡ length olds
+-- blocks into which pages were put are held for the same table
+pub blocks_held : (table : RamTable) (olds news : List BlockPages) (pages : List RoundPage) → IsHeld table olds
+    → All (HasPageSize table.page_size) pages → length news ≡ length olds
     → ((k : ℕ) → k < length olds → PutsPages table.page_size k 0 (pages_of_block olds k) (pages_of_block news k) pages)
     → IsHeld table news
 blocks_held table olds news pages held sizes len h = record {
@@ -243,14 +263,17 @@ blocks_held table olds news pages held sizes len h = record {
       };
 }
 
+-- blocks into which a round's pages were put are the image with the round
 pub blocks_image : (table : RamTable) (olds news : List BlockPages) (pages : List RoundPage) → IsHeld table olds
     → ((k : ℕ) → k < length olds → PutsPages table.page_size k 0 (pages_of_block olds k) (pages_of_block news k) pages)
     → image_in table news ≡ with_round (image_in table olds) (map (round_page table.page_size) pages)
 blocks_image table olds news pages held h =
-    image_agree table (held_at news) (λ p. option_map_or (λ (x : Page). x.content) (last_at p (map (round_page table.page_size) pages)) (content_at (image_in table olds) p)) (λ p is.
+    image_agree table (held_at news) (λ p. option_map_or (λ (x : Page). x.content)
+    (last_at p (map (round_page table.page_size) pages)) (content_at (image_in table olds) p)) (λ p is.
     let low : p.block < length olds = omega (arith, held.same_count, is.has_block) in
     let inside : p.page < length (pages_of_block olds p.block).pages = omega (arith, (held.has_pages p.block is.has_block).same_count, is.has_page) in
     (h p.block low).each p.page inside
     ∙ ap (λ (q : ℕ). given table.page_size (place_at p.block q) pages (held_at olds p)) (zero_plus p.page)
     ∙ given_last table.page_size p pages (held_at olds p)
-    ∙ ap (λ (c : List ℕ). option_map_or (λ (x : Page). x.content) (last_at p (map (round_page table.page_size) pages)) c) (sym (content_at-image_of table (held_at olds) p is)))
+    ∙ ap (λ (c : List ℕ). option_map_or (λ (x : Page). x.content) (last_at p (map (round_page table.page_size) pages)) c)
+    (sym (content_at-image_of table (held_at olds) p is)))

@@ -24,30 +24,37 @@ use Rattle.mig_mem.proofs.Images.{image_agree, image_from, image_is, with_page-i
 pub last_at-append : (p : Place) (xs ys : List Page) → last_at p (xs ++ ys) ≡ option_or (last_at p ys) (last_at p xs)
 unfolding last_at
 last_at-append p xs ys =
-    ap (λ (l : List Page). find (λ (x : Page). place_eq x.place p) l) (reverse-append xs ys) ∙ find-append (λ (x : Page). place_eq x.place p) (reverse ys) (reverse xs)
+    ap (λ (l : List Page). find (λ (x : Page). place_eq x.place p) l) (reverse-append xs ys)
+    ∙ find-append (λ (x : Page). place_eq x.place p) (reverse ys) (reverse xs)
 
+-- no page was written, so none is the last at a place
 pub last_at-nil : (p : Place) → last_at p [] ≡ None
 unfolding last_at
 last_at-nil p = refl
 
+-- the last of one page is it, if it lies there
 pub last_at-one : (p : Place) (x : Page) → last_at p (x ∷ []) ≡ (if place_eq x.place p then Some x else None)
 unfolding last_at
 last_at-one p x = refl
 
+-- the last page at a place is the newest, if it lies there, or else the one before
 pub last_at-push : (p : Place) (xs : List Page) (x : Page) → last_at p (xs ++ x ∷ []) ≡ (if place_eq x.place p then Some x else last_at p xs)
 last_at-push p xs x = last_at-append p xs (x ∷ []) ∙ ap (λ (o : Option Page). option_or o (last_at p xs)) (last_at-one p x)
     ∙ elim (cases_Bool (place_eq x.place p)) [ inl t ↦ rw t refl | inr f ↦ rw f refl ]
 
+-- the last page at a place is the last of the later ones, or else the first page if it lies there
 pub last_at-cons : (p : Place) (x : Page) (xs : List Page) → last_at p (x ∷ xs) ≡ option_or (last_at p xs) (if place_eq x.place p then Some x else None)
 last_at-cons p x xs = last_at-append p (x ∷ []) xs ∙ ap (λ (o : Option Page). option_or (last_at p xs) o) (last_at-one p x)
 
 -- ---- the memory after rounds
 
 -- a later page's content, or else what there was before
-pub map_or-or : (a b : Option Page) (d : List ℕ) → option_map_or (λ (x : Page). x.content) (option_or a b) d ≡ option_map_or (λ (x : Page). x.content) a (option_map_or (λ (x : Page). x.content) b d)
+pub map_or-or : (a b : Option Page) (d : List ℕ)
+    → option_map_or (λ (x : Page). x.content) (option_or a b) d ≡ option_map_or (λ (x : Page). x.content) a (option_map_or (λ (x : Page). x.content) b d)
 map_or-or None b d = refl
 map_or-or (Some x) b d = refl
 
+-- the pages of one round more follow those of the rounds before
 pub all_pages-push : (rounds : List (List Page)) (r : List Page) → all_pages (rounds ++ r ∷ []) ≡ all_pages rounds ++ r
 all_pages-push rounds r = flat_map-append (λ (r : List Page). r) rounds (r ∷ []) ∙ ap (λ (l : List Page). all_pages rounds ++ l) (append-nil r)
 
@@ -74,20 +81,23 @@ pub with_page-more : (table : RamTable) (before : Place → List ℕ) (xs : List
     → with_page (image_of table (λ p. option_map_or (λ (y : Page). y.content) (last_at p xs) (before p))) x.place x.content
     ≡ image_of table (λ p. option_map_or (λ (y : Page). y.content) (last_at p (xs ++ x ∷ [])) (before p))
 with_page-more table before xs x =
-    with_page-image_of table (λ p. option_map_or (λ (y : Page). y.content) (last_at p xs) (before p)) (λ p. option_map_or (λ (y : Page). y.content) (last_at p (xs ++ x ∷ [])) (before p))
+    with_page-image_of table (λ p. option_map_or (λ (y : Page). y.content) (last_at p xs) (before p))
+    (λ p. option_map_or (λ (y : Page). y.content) (last_at p (xs ++ x ∷ [])) (before p))
     x.place x.content
     (let t : place_eq x.place x.place ≡ true = place_eq-from x.place x.place refl in
     sym (ap (λ (o : Option Page). option_map_or (λ (y : Page). y.content) o (before x.place))
     (last_at-push x.place xs x ∙ cond-true (place_eq x.place x.place) (Some x) (last_at x.place xs) t)))
     (λ q _ other.
     let n : place_eq x.place q ≡ false = elim (cases_Bool (place_eq x.place q)) [ inl t ↦ absurd (other (sym (place_eq-true x.place q t))) | inr f ↦ f ] in
-    sym (ap (λ (o : Option Page). option_map_or (λ (y : Page). y.content) o (before q)) (last_at-push q xs x ∙ cond-false (place_eq x.place q) (Some x) (last_at q xs) n)))
+    sym (ap (λ (o : Option Page). option_map_or (λ (y : Page). y.content) o (before q))
+    (last_at-push q xs x ∙ cond-false (place_eq x.place q) (Some x) (last_at q xs) n)))
 
 -- ---- the round of an image
 
 at_place : Image → Place → Page
 at_place m q = record { place = q; content = content_at m q }
 
+-- a round has no page at a place that isn't among its places
 pub last_at-round_none : (m : Image) (p : Place) (ps : List Place) → has_place ps p ≡ false → last_at p (round_of m ps) ≡ None
 unfolding pages_of at_place
 last_at-round_none m p [] h = last_at-nil p
@@ -98,7 +108,8 @@ last_at-round_none m p (q ∷ qs) h =
     ∙ cond-false (place_eq q p) (Some (at_place m q)) None both.0
 
 -- a place that the round has gets its content in the image
-pub last_at-round : (m : Image) (p : Place) (ps : List Place) → has_place ps p ≡ true → last_at p (round_of m ps) ≡ Some (record { place = p; content = content_at m p })
+pub last_at-round : (m : Image) (p : Place) (ps : List Place) → has_place ps p ≡ true
+    → last_at p (round_of m ps) ≡ Some (record { place = p; content = content_at m p })
 unfolding pages_of at_place
 last_at-round m p [] h = absurd cc
 last_at-round m p (q ∷ qs) h =
@@ -123,7 +134,8 @@ image_round m dirty is within = record {
 -- ---- what rounds leave
 
 -- a round of one page
-pub after-one : (table : RamTable) (rounds : List (List Page)) (x : Page) → after table (rounds ++ (x ∷ []) ∷ []) ≡ with_page (after table rounds) x.place x.content
+pub after-one : (table : RamTable) (rounds : List (List Page)) (x : Page)
+    → after table (rounds ++ (x ∷ []) ∷ []) ≡ with_page (after table rounds) x.place x.content
 after-one table rounds x =
     after-push table rounds (x ∷ []) ∙ image_agree table
     (λ p. option_map_or (λ (y : Page). y.content) (last_at p (x ∷ [])) (content_at (after table rounds) p))
@@ -145,11 +157,13 @@ last_of P p (x ∷ xs) c all Q h rest =
     (last_of P p xs (option_map_or (λ (y : Page). y.content) one c) (All-tail P x xs all) Q h
     (elim (cases_Bool (place_eq x.place p)) [ inl t ↦ rw t (h x (All-head P x xs all)) | inr n ↦ rw n rest ]))
 
+-- the memory after rounds is a memory
 pub after_image : (table : RamTable) (rounds : List (List Page)) → All (IsRound table) rounds → IsImage (after table rounds)
 after_image table rounds all =
     image_from table (λ p. option_map_or (λ (x : Page). x.content) (last_at p (all_pages rounds)) (zero_page table.page_size)) (λ p is.
     last_of (λ x. length x.content ≡ table.page_size) p (all_pages rounds) (zero_page table.page_size)
-    (All-flat_map (λ x. length x.content ≡ table.page_size) (λ (r : List Page). r) rounds (All-weaker (IsRound table) (λ r. All (λ x. length x.content ≡ table.page_size) r) (λ r is_round. is_round.has_sizes) rounds all))
+    (All-flat_map (λ x. length x.content ≡ table.page_size) (λ (r : List Page). r) rounds
+    (All-weaker (IsRound table) (λ r. All (λ x. length x.content ≡ table.page_size) r) (λ r is_round. is_round.has_sizes) rounds all))
     (λ l. length l ≡ table.page_size) (λ x h. h) (length-replicate table.page_size 0))
 
 -- ---- rounds that are put into a memory
@@ -161,7 +175,8 @@ given p xs c = option_map_or (λ (x : Page). x.content) (last_at p xs) c
 -- no round
 pub onto-nil : (m : Image) → IsImage m → with_rounds m [] ≡ m
 onto-nil m is =
-    image_agree m.table (λ p. given p [] (content_at m p)) (content_at m) (λ p _. ap (λ (o : Option Page). option_map_or (λ (x : Page). x.content) o (content_at m p)) (last_at-nil p))
+    image_agree m.table (λ p. given p [] (content_at m p)) (content_at m)
+    (λ p _. ap (λ (o : Option Page). option_map_or (λ (x : Page). x.content) o (content_at m p)) (last_at-nil p))
     ∙ sym (image_is m is)
 
 -- one round more
@@ -189,6 +204,7 @@ onto_image m rounds image all =
     (All-weaker (IsRound m.table) (λ r. All (λ x. length x.content ≡ m.table.page_size) r) (λ r is_round. is_round.has_sizes) rounds all))
     (λ l. length l ≡ m.table.page_size) (λ x h. h) (content_size m p image is))
 
+-- rounds applied one after another make memories, from any memory on
 pub rounds_onto : RoundsGoOnto
 rounds_onto = record { none = onto-nil; one_more = onto-push; makes_memory = onto_image }
 
@@ -197,5 +213,6 @@ pub all_pages_sent : (m before : Image) → IsImage m → m.table ≡ before.tab
 all_pages_sent m before image same =
     ap (λ (t : RamTable). image_of t (λ p. given p (round_of m (places m.table)) (content_at before p))) (sym same)
     ∙ image_agree m.table (λ p. given p (round_of m (places m.table)) (content_at before p)) (content_at m) (λ p is.
-    ap (λ (o : Option Page). option_map_or (λ (x : Page). x.content) o (content_at before p)) (last_at-round m p (places m.table) (has_place-places m.table p is)))
+    ap (λ (o : Option Page). option_map_or (λ (x : Page). x.content) o (content_at before p))
+    (last_at-round m p (places m.table) (has_place-places m.table p is)))
     ∙ sym (image_is m image)

@@ -28,6 +28,7 @@ use Rattle.mig_mem.proofs.TablePlaces.{all_places, has_place-places, place_from_
 
 -- ---- the places that pass a test
 
+-- tests that agree on the places of a table select the same places
 pub where_agree : (table : RamTable) (f g : Place → Bool) → ((p : Place) → IsPlace table p → f p ≡ g p) → places_where table f ≡ places_where table g
 unfolding places_where
 where_agree table f g same = filter_agree_on f g (places table) (All-weaker (IsPlace table) (λ p. f p ≡ g p) same (places table) (all_places table))
@@ -36,10 +37,12 @@ filter_none : {X : Type 0} (xs : List X) → filter (λ _. false) xs ≡ []
 filter_none [] = refl
 filter_none (x ∷ xs) = filter_none xs
 
+-- if no place of the table passes, none is selected
 pub where_none : (table : RamTable) (f : Place → Bool) → ((p : Place) → IsPlace table p → f p ≡ false) → places_where table f ≡ []
 unfolding places_where
 where_none table f none = where_agree table f (λ _. false) none ∙ filter_none (places table)
 
+-- the places of a table that pass a test are a set of places
 pub where_set : (table : RamTable) (f : Place → Bool) → IsTable table → IsPlaceSet (record { table = table; marked = places_where table f })
 unfolding places_where
 where_set table f is = record {
@@ -57,16 +60,19 @@ any_and f p (q ∷ qs) = elim (cases_Bool (place_eq q p)) [
   | inr n ↦ rw n (elim (cases_Bool (f q)) [ inl u ↦ rw u (any_and f p qs) | inr u ↦ rw u (any_and f p qs) ])
 ]
 
+-- a place of the table is among those that pass a test if it passes
 pub has_place-where : (table : RamTable) (f : Place → Bool) (p : Place) → IsPlace table p → has_place (places_where table f) p ≡ f p
 unfolding places_where
 has_place-where table f p is =
     list_any-filter (λ q. place_eq q p) f (places table) ∙ any_and f p (places table)
     ∙ ap (λ (b : Bool). f p && b) (has_place-places table p is) ∙ elim (cases_Bool (f p)) [ inl t ↦ rw t refl | inr n ↦ rw n refl ]
 
+-- a place outside of the table is never selected
 pub has_place-where_past : (table : RamTable) (f : Place → Bool) (p : Place) → (IsPlace table p → ⊥) → has_place (places_where table f) p ≡ false
 unfolding places_where
 has_place-where_past table f p past =
-    let no : has_place (places table) p ≡ false = elim (cases_Bool (has_place (places table) p)) [ inl t ↦ absurd (past (place_from_has table p t)) | inr n ↦ n ] in
+    let no : has_place (places table) p ≡ false =
+    elim (cases_Bool (has_place (places table) p)) [ inl t ↦ absurd (past (place_from_has table p t)) | inr n ↦ n ] in
     list_any-filter (λ q. place_eq q p) f (places table) ∙ any_and f p (places table)
     ∙ ap (λ (b : Bool). f p && b) no ∙ elim (cases_Bool (f p)) [ inl t ↦ rw t refl | inr n ↦ rw n refl ]
 
@@ -105,6 +111,7 @@ longer_by_one f p (q ∷ qs) order new has = elim (cases_Bool (place_eq q p)) [
       elim (cases_Bool (f q)) [ inl u ↦ rw (n, u) (omega (arith, ih)) | inr u ↦ rw (n, u) ih ]
 ]
 
+-- a new place makes the set larger by one
 pub count_more : (table : RamTable) (f : Place → Bool) (p : Place) → IsPlace table p → f p ≡ false
     → length (places_where table (λ q. place_eq q p || f q)) ≡ length (places_where table f) + 1
 unfolding places_where
@@ -116,7 +123,8 @@ unfolding places
 length-places table =
     let blocks : List Block = table.blocks in
     let pages : ℕ → ℕ = λ b. (block blocks b).pages in
-    let table_from : blocks ≡ map (block blocks) (range_with_len 0 (length blocks)) = fill_by_all (block blocks) blocks (length blocks) (record { id = []; pages = 0 }) refl (λ k lt. refl) in
+    let table_from : blocks ≡ map (block blocks) (range_with_len 0 (length blocks)) =
+    fill_by_all (block blocks) blocks (length blocks) (record { id = []; pages = 0 }) refl (λ k lt. refl) in
     let each : (b : ℕ) → length (block_places blocks b) ≡ pages b = λ b. length-map-range_with_len (place_at b) 0 (pages b) in
     let numbers : List ℕ = range_with_len 0 (length blocks) in
     let same : sum_by (λ b. length (block_places blocks b)) numbers ≡ sum_by pages numbers = omega (
@@ -148,17 +156,9 @@ marks_at words = is_marked (buffers_of words)
 pub row_at : {A : Type 0} (words : List (Vec ℕ A)) (i : ℕ) (x : Vec ℕ A) → i < length words → x ≡ get_or words i x → get_or (buffers_of words) i [] ≡ x.items
 row_at {A} words i x h e = get_or-map (λ (v : Vec ℕ A). v.items) words i x [] h ∙ ap (λ (v : Vec ℕ A). v.items) (sym e)
 
+-- there is a row of words for each block of the table
 pub has_row : {A : Type 0} (table : RamTable) (words : List (Vec ℕ A)) (i : ℕ) → HasWords table (buffers_of words) → i < length table.blocks → i < length words
 has_row {A} table words i room h = omega (arith, room.blocks, length-map words (λ (v : Vec ℕ A). v.items))
-
--- a page of the table has a mark in its row
-pub has_mark : {A : Type 0} (table : RamTable) (words : List (Vec ℕ A)) (p : Place) (x : Vec ℕ A) → HasWords table (buffers_of words) → IsPlace table p
-    → x ≡ get_or words p.block x → p.page < 64 * length x.items
-has_mark {A} table words p x room is e =
-    let row : get_or (buffers_of words) p.block [] ≡ x.items = row_at words p.block x (has_row table words p.block room is.has_block) e in
-    let len : length x.items ≡ ((block table.blocks p.block).pages + 63) / 64 = ap (λ (l : List ℕ). length l) (sym row) ∙ room.pages p.block is.has_block in
-    let page : p.page < (block table.blocks p.block).pages = is.has_page in
-    omega arith
 
 -- what a row says of a page
 pub mark_read : {A : Type 0} (table : RamTable) (words : List (Vec ℕ A)) (p : Place) (x : Vec ℕ A) → HasWords table (buffers_of words) → IsPlace table p
@@ -166,13 +166,15 @@ pub mark_read : {A : Type 0} (table : RamTable) (words : List (Vec ℕ A)) (p : 
 mark_read table words p x room is e = ap (λ (l : List ℕ). is_set l p.page) (sym (row_at words p.block x (has_row table words p.block room is.has_block) e))
 
 -- what a mark says that was read in the row's slice
-pub mark_seen : {A : Type 0} (table : RamTable) (words : List (Vec ℕ A)) (p : Place) (x : Vec ℕ A) (slice : List ℕ) (seen : Bool) → HasWords table (buffers_of words) → IsPlace table p
+pub mark_seen : {A : Type 0} (table : RamTable) (words : List (Vec ℕ A)) (p : Place) (x : Vec ℕ A) (slice : List ℕ) (seen : Bool)
+    → HasWords table (buffers_of words) → IsPlace table p
     → x ≡ get_or words p.block x → slice ≡ x.items → seen ≡ is_set slice p.page → marks_at words p ≡ seen
 mark_seen table words p x slice seen room is e same read =
     sym (mark_read table words p x room is e) ∙ ap (λ (l : List ℕ). is_set l p.page) (sym same) ∙ sym read
 
 -- a row is short: no block has that many pages
-pub row_short : {A : Type 0} (table : RamTable) (words : List (Vec ℕ A)) (i : ℕ) (x : Vec ℕ A) → IsTable table → HasWords table (buffers_of words) → i < length table.blocks
+pub row_short : {A : Type 0} (table : RamTable) (words : List (Vec ℕ A)) (i : ℕ) (x : Vec ℕ A) → IsTable table
+    → HasWords table (buffers_of words) → i < length table.blocks
     → x ≡ get_or words i x → length x.items < 2 ^ 50
 row_short {A} table words i x is room lt e =
     let row : get_or (buffers_of words) i [] ≡ x.items = row_at words i x (has_row table words i room lt) e in
@@ -182,7 +184,8 @@ row_short {A} table words i x is room lt e =
     let few : (block table.blocks i).pages ≤ (block table.blocks i).pages * table.page_size = grind arith in
     omega arith
 
-room-set : (table : RamTable) (rows : List (List ℕ)) (i : ℕ) (new : List ℕ) → HasWords table rows → i < length table.blocks → length new ≡ length (get_or rows i []) → HasWords table (set rows i new)
+room-set : (table : RamTable) (rows : List (List ℕ)) (i : ℕ) (new : List ℕ) → HasWords table rows → i < length table.blocks
+    → length new ≡ length (get_or rows i []) → HasWords table (set rows i new)
 room-set table rows i new room h len = record {
   blocks = length-set rows i new ∙ room.blocks;
   pages = λ k lt. elim (cases_eq k i) [
@@ -193,7 +196,8 @@ room-set table rows i new room h len = record {
 }
 
 -- ONE MARK MORE, in its row: the set has one place more
-pub marked_more : {A : Type 0} (table : RamTable) (words : List (Vec ℕ A)) (count : ℕ) (p : Place) (x v : Vec ℕ A) → IsCounted table words count → IsPlace table p
+pub marked_more : {A : Type 0} (table : RamTable) (words : List (Vec ℕ A)) (count : ℕ) (p : Place) (x v : Vec ℕ A)
+    → IsCounted table words count → IsPlace table p
     → x ≡ get_or words p.block x → length v.items ≡ length x.items → ((q : ℕ) → is_set v.items q ≡ (q == p.page || is_set x.items q)) → marks_at words p ≡ false
     → IsCounted table (set words p.block v) (count + 1) × (set_in table (set words p.block v) ≡ with_place (set_in table words) p)
 marked_more {A} table words count p x v counted is e len more new =
@@ -205,7 +209,8 @@ marked_more {A} table words count p x v counted is e len more new =
     ap (λ (l : List (List ℕ)). is_marked l q) rows' ∙ elim (cases_eq q.block p.block) [
       | inl at ↦
           let t : (q.block == p.block) ≡ true = eq-eqb q.block p.block at in
-          let here : get_or (set rows p.block v.items) q.block [] ≡ v.items = ap (λ (b : ℕ). get_or (set rows p.block v.items) b []) at ∙ get_or-set_same rows p.block v.items [] has in
+          let here : get_or (set rows p.block v.items) q.block [] ≡ v.items =
+          ap (λ (b : ℕ). get_or (set rows p.block v.items) b []) at ∙ get_or-set_same rows p.block v.items [] has in
           let was : get_or rows q.block [] ≡ x.items = ap (λ (b : ℕ). get_or rows b []) at ∙ row in
           rw (here, was, t) (more q.page)
       | inr away ↦
@@ -224,16 +229,20 @@ marked_more {A} table words count p x v counted is e len more new =
     )
 
 -- one place more, if the row was written through its slice
-pub slice_more : {A : Type 0} (table : RamTable) (words : List (Vec ℕ A)) (count : ℕ) (p : Place) (x : Vec ℕ A) (slice new : List ℕ) → IsCounted table words count → IsPlace table p
-    → x ≡ get_or words p.block x → slice ≡ x.items → length slice ≡ x.len → length new ≡ length slice → ((q : ℕ) → is_set new q ≡ (q == p.page || is_set slice q)) → marks_at words p ≡ false
-    → IsCounted table (set words p.block (with_items x new)) (count + 1) × (set_in table (set words p.block (with_items x new)) ≡ with_place (set_in table words) p)
+pub slice_more : {A : Type 0} (table : RamTable) (words : List (Vec ℕ A)) (count : ℕ) (p : Place) (x : Vec ℕ A)
+    (slice new : List ℕ) → IsCounted table words count → IsPlace table p
+    → x ≡ get_or words p.block x → slice ≡ x.items → length slice ≡ x.len → length new ≡ length slice
+    → ((q : ℕ) → is_set new q ≡ (q == p.page || is_set slice q)) → marks_at words p ≡ false
+    → IsCounted table (set words p.block (with_items x new)) (count + 1)
+    × (set_in table (set words p.block (with_items x new)) ≡ with_place (set_in table words) p)
 slice_more table words count p x slice new counted is e same room len more absent =
     let held : (with_items x new).items ≡ new = with_items_is x new (len ∙ room) in
     marked_more table words count p x (with_items x new) counted is e (ap (λ (l : List ℕ). length l) held ∙ len ∙ ap (λ (l : List ℕ). length l) same)
     (λ q. ap (λ (l : List ℕ). is_set l q) held ∙ more q ∙ ap (λ (l : List ℕ). q == p.page || is_set l q) same) absent
 
 -- and a mark that is there already
-pub marked_already : {A : Type 0} (table : RamTable) (words : List (Vec ℕ A)) (p : Place) → marks_at words p ≡ true → set_in table words ≡ with_place (set_in table words) p
+pub marked_already : {A : Type 0} (table : RamTable) (words : List (Vec ℕ A)) (p : Place) → marks_at words p ≡ true
+    → set_in table words ≡ with_place (set_in table words) p
 marked_already table words p h =
     sym (where_with table (marks_at words) p ∙ ap (λ (l : List Place). record { table = table; marked = l }) (where_same table (marks_at words) p h))
 
@@ -241,14 +250,18 @@ marked_already table words p h =
 
 -- the places that pass a test and aren't this one
 pub where_without : (table : RamTable) (f : Place → Bool) (p : Place)
-    → without_place (record { table = table; marked = places_where table f }) p ≡ record { table = table; marked = places_where table (λ q. f q && not (place_eq q p)) }
+    → without_place (record { table = table; marked = places_where table f }) p ≡ record {
+      table = table;
+      marked = places_where table (λ q. f q && not (place_eq q p));
+    }
 where_without table f p =
     ap (λ (ps : List Place). record { table = table; marked = ps })
     (where_agree table (λ q. has_place (places_where table f) q && not (place_eq q p)) (λ q. f q && not (place_eq q p))
     (λ q is. ap (λ (b : Bool). b && not (place_eq q p)) (has_place-where table f q is)))
 
 -- a place that isn't marked
-pub marked_absent : {A : Type 0} (table : RamTable) (words : List (Vec ℕ A)) (p : Place) → marks_at words p ≡ false → set_in table words ≡ without_place (set_in table words) p
+pub marked_absent : {A : Type 0} (table : RamTable) (words : List (Vec ℕ A)) (p : Place) → marks_at words p ≡ false
+    → set_in table words ≡ without_place (set_in table words) p
 marked_absent table words p h =
     sym (where_without table (marks_at words) p ∙ ap (λ (l : List Place). record { table = table; marked = l })
     (where_agree table (λ q. marks_at words q && not (place_eq q p)) (marks_at words) (λ q is. elim (cases_Bool (place_eq q p)) [
@@ -258,8 +271,10 @@ marked_absent table words p h =
 
 -- One mark fewer, in its row: the set has one place fewer. With the mark put back it is the set
 -- from before.
-pub marked_fewer : {A : Type 0} (table : RamTable) (words : List (Vec ℕ A)) (count : ℕ) (p : Place) (x v : Vec ℕ A) → IsCounted table words count → IsPlace table p
-    → x ≡ get_or words p.block x → length v.items ≡ length x.items → ((q : ℕ) → is_set v.items q ≡ (is_set x.items q && not (q == p.page))) → marks_at words p ≡ true
+pub marked_fewer : {A : Type 0} (table : RamTable) (words : List (Vec ℕ A)) (count : ℕ) (p : Place) (x v : Vec ℕ A)
+    → IsCounted table words count → IsPlace table p
+    → x ≡ get_or words p.block x → length v.items ≡ length x.items
+    → ((q : ℕ) → is_set v.items q ≡ (is_set x.items q && not (q == p.page))) → marks_at words p ≡ true
     → (1 ≤ count) × (IsCounted table (set words p.block v) (count - 1) × (set_in table (set words p.block v) ≡ without_place (set_in table words) p))
 marked_fewer {A} table words count p x v counted is e len fewer there =
     let new : List (Vec ℕ A) = set words p.block v in
@@ -267,7 +282,8 @@ marked_fewer {A} table words count p x v counted is e len fewer there =
     let has : p.block < length words = has_row table words p.block counted.has_room is.has_block in
     let row : get_or rows p.block [] ≡ x.items = row_at words p.block x has e in
     let rows' : buffers_of new ≡ set rows p.block v.items = map-set (λ (w : Vec ℕ A). w.items) words p.block v in
-    let room : HasWords table (buffers_of new) = rw rows' (room-set table rows p.block v.items counted.has_room is.has_block (len ∙ ap (λ (l : List ℕ). length l) (sym row))) in
+    let room : HasWords table (buffers_of new) =
+    rw rows' (room-set table rows p.block v.items counted.has_room is.has_block (len ∙ ap (λ (l : List ℕ). length l) (sym row))) in
     let v_is : v ≡ get_or new p.block v = sym (get_or-set_same words p.block v v has) in
     let gone : is_set v.items p.page ≡ false = fewer p.page ∙ (let t : (p.page == p.page) ≡ true = eq-eqb p.page p.page refl in
     rw t (elim (cases_Bool (is_set x.items p.page)) [ inl u ↦ rw u refl | inr u ↦ rw u refl ])) in
@@ -288,7 +304,8 @@ marked_fewer {A} table words count p x v counted is e len fewer there =
     ap (λ (l : List (List ℕ)). is_marked l q) rows' ∙ elim (cases_eq q.block p.block) [
       | inl at ↦
           let t : (q.block == p.block) ≡ true = eq-eqb q.block p.block at in
-          let here : get_or (set rows p.block v.items) q.block [] ≡ v.items = ap (λ (b : ℕ). get_or (set rows p.block v.items) b []) at ∙ get_or-set_same rows p.block v.items [] (rw counted.has_room.blocks is.has_block) in
+          let here : get_or (set rows p.block v.items) q.block [] ≡ v.items =
+          ap (λ (b : ℕ). get_or (set rows p.block v.items) b []) at ∙ get_or-set_same rows p.block v.items [] (rw counted.has_room.blocks is.has_block) in
           let before : get_or rows q.block [] ≡ x.items = ap (λ (b : ℕ). get_or rows b []) at ∙ row in
           rw (here, before, t) (fewer q.page)
       | inr away ↦
@@ -306,25 +323,32 @@ marked_fewer {A} table words count p x v counted is e len fewer there =
     )
 
 -- one place fewer, if the row was written through its slice
-pub slice_fewer : {A : Type 0} (table : RamTable) (words : List (Vec ℕ A)) (count : ℕ) (p : Place) (x : Vec ℕ A) (slice new : List ℕ) → IsCounted table words count → IsPlace table p
-    → x ≡ get_or words p.block x → slice ≡ x.items → length slice ≡ x.len → length new ≡ length slice → ((q : ℕ) → is_set new q ≡ (is_set slice q && not (q == p.page))) → marks_at words p ≡ true
-    → (1 ≤ count) × (IsCounted table (set words p.block (with_items x new)) (count - 1) × (set_in table (set words p.block (with_items x new)) ≡ without_place (set_in table words) p))
+pub slice_fewer : {A : Type 0} (table : RamTable) (words : List (Vec ℕ A)) (count : ℕ) (p : Place) (x : Vec ℕ A)
+    (slice new : List ℕ) → IsCounted table words count → IsPlace table p
+    → x ≡ get_or words p.block x → slice ≡ x.items → length slice ≡ x.len → length new ≡ length slice
+    → ((q : ℕ) → is_set new q ≡ (is_set slice q && not (q == p.page))) → marks_at words p ≡ true
+    → (1 ≤ count) × (IsCounted table (set words p.block (with_items x new)) (count - 1)
+    × (set_in table (set words p.block (with_items x new)) ≡ without_place (set_in table words) p))
 slice_fewer table words count p x slice new counted is e same room len fewer there =
     let held : (with_items x new).items ≡ new = with_items_is x new (len ∙ room) in
     marked_fewer table words count p x (with_items x new) counted is e (ap (λ (l : List ℕ). length l) held ∙ len ∙ ap (λ (l : List ℕ). length l) same)
     (λ q. ap (λ (l : List ℕ). is_set l q) held ∙ fewer q ∙ ap (λ (l : List ℕ). is_set l q && not (q == p.page)) same) there
 
 -- what a row says of the set
-pub row_lacks : {A : Type 0} (table : RamTable) (words : List (Vec ℕ A)) (b page : ℕ) (x : Vec ℕ A) → HasWords table (buffers_of words) → b < length table.blocks → x ≡ get_or words b x
+pub row_lacks : {A : Type 0} (table : RamTable) (words : List (Vec ℕ A)) (b page : ℕ) (x : Vec ℕ A)
+    → HasWords table (buffers_of words) → b < length table.blocks → x ≡ get_or words b x
     → is_set x.items page ≡ false → has_place (set_in table words).marked (place_at b page) ≡ false
 row_lacks table words b page x room lt e h = elim (cases_lt page (block table.blocks b).pages) [
   | inl inside ↦
       let is : IsPlace table (place_at b page) = record { has_block = lt; has_page = inside } in
       has_place-where table (marks_at words) (place_at b page) is ∙ sym (mark_read table words (place_at b page) x room is e) ∙ h
-  | inr past ↦ has_place-where_past table (marks_at words) (place_at b page) (λ is. let inside : page < (block table.blocks b).pages = is.has_page in absurd (omega arith))
+  | inr past ↦ has_place-where_past table (marks_at words) (place_at b page)
+      (λ is. let inside : page < (block table.blocks b).pages = is.has_page in absurd (omega arith))
 ]
 
-pub row_has : {A : Type 0} (table : RamTable) (words : List (Vec ℕ A)) (b page : ℕ) (x : Vec ℕ A) → HasWords table (buffers_of words) → b < length table.blocks → x ≡ get_or words b x
+-- a page whose bit is set in its block's row is a place of the set
+pub row_has : {A : Type 0} (table : RamTable) (words : List (Vec ℕ A)) (b page : ℕ) (x : Vec ℕ A)
+    → HasWords table (buffers_of words) → b < length table.blocks → x ≡ get_or words b x
     → page < (block table.blocks b).pages → is_set x.items page ≡ true → has_place (set_in table words).marked (place_at b page) ≡ true
 row_has table words b page x room lt e inside h =
     let is : IsPlace table (place_at b page) = record { has_block = lt; has_page = inside } in
@@ -335,6 +359,7 @@ row_has table words b page x room lt e inside h =
 abbrev pub no_row : RamTable → ℕ → List ℕ
 no_row table b = replicate (((block table.blocks b).pages + 63) / 64) 0
 
+-- words of zeros have no mark
 pub none_set : (n q : ℕ) → is_set (replicate n 0) q ≡ false
 none_set n q =
     let none : get_or (replicate n 0) (q / 64) 0 ≡ 0 = elim (cases_lt (q / 64) n) [
@@ -343,19 +368,25 @@ none_set n q =
     ] in
     unset_from_bit (replicate n 0) q (ap (λ (w : ℕ). bit_at w (q % 64)) none ∙ bit_at-zero (q % 64))
 
-no_row_at : (table : RamTable) (rows : List (List ℕ)) (i : ℕ) → rows ≡ map (no_row table) (range_with_len 0 (length table.blocks)) → i < length table.blocks → get_or rows i [] ≡ no_row table i
-no_row_at table rows i e lt = ap (λ (l : List (List ℕ)). get_or l i []) e ∙ get_or-map-range_with_len (no_row table) 0 (length table.blocks) i i [] lt (omega arith)
+no_row_at : (table : RamTable) (rows : List (List ℕ)) (i : ℕ) → rows ≡ map (no_row table) (range_with_len 0 (length table.blocks))
+    → i < length table.blocks → get_or rows i [] ≡ no_row table i
+no_row_at table rows i e lt = ap (λ (l : List (List ℕ)). get_or l i []) e
+    ∙ get_or-map-range_with_len (no_row table) 0 (length table.blocks) i i [] lt (omega arith)
 
-pub unmarked : {A : Type 0} (table : RamTable) (words : List (Vec ℕ A)) → IsTable table → buffers_of words ≡ map (no_row table) (range_with_len 0 (length table.blocks))
+-- rows without a mark are the empty set, of 0 places
+pub unmarked : {A : Type 0} (table : RamTable) (words : List (Vec ℕ A)) → IsTable table
+    → buffers_of words ≡ map (no_row table) (range_with_len 0 (length table.blocks))
     → IsCounted table words 0 × (set_in table words ≡ record { table = table; marked = [] })
 unmarked {A} table words is e =
     let none : places_where table (marks_at words) ≡ [] = where_none table (marks_at words) (λ p at.
-    ap (λ (l : List ℕ). is_set l p.page) (no_row_at table (buffers_of words) p.block e at.has_block) ∙ none_set (((block table.blocks p.block).pages + 63) / 64) p.page) in (
+    ap (λ (l : List ℕ). is_set l p.page) (no_row_at table (buffers_of words) p.block e at.has_block)
+    ∙ none_set (((block table.blocks p.block).pages + 63) / 64) p.page) in (
       record {
         is_table = is;
         has_room = record {
           blocks = ap (λ (l : List (List ℕ)). length l) e ∙ length-map-range_with_len (no_row table) 0 (length table.blocks);
-          pages = λ i lt. ap (λ (l : List ℕ). length l) (no_row_at table (buffers_of words) i e lt) ∙ length-replicate (((block table.blocks i).pages + 63) / 64) 0;
+          pages = λ i lt. ap (λ (l : List ℕ). length l) (no_row_at table (buffers_of words) i e lt)
+              ∙ length-replicate (((block table.blocks i).pages + 63) / 64) 0;
         };
         counts = ap (λ (l : List Place). length l) (sym none);
       },
@@ -363,7 +394,8 @@ unmarked {A} table words is e =
     )
 
 -- all marks taken away
-pub cleared : {A : Type 0} (table : RamTable) (old : List (List ℕ)) (words : List (Vec ℕ A)) → IsTable table → HasWords table old → AreCleared old (buffers_of words)
+pub cleared : {A : Type 0} (table : RamTable) (old : List (List ℕ)) (words : List (Vec ℕ A)) → IsTable table → HasWords table old
+    → AreCleared old (buffers_of words)
     → IsCounted table words 0 × (set_in table words ≡ record { table = table; marked = [] })
 cleared table old words is room wiped =
     unmarked table words is (fill_by_all (no_row table) (buffers_of words) (length table.blocks) [] (wiped.len ∙ room.blocks)
@@ -375,10 +407,13 @@ pub record ClearedUpTo (old new : List (List ℕ)) (i : ℕ) : Type 0 where
   pub before : (k : ℕ) → k < i → get_or new k [] ≡ replicate (length (get_or old k [])) 0
   pub rest : (k : ℕ) → i ≤ k → get_or new k [] ≡ get_or old k []
 
+-- before the first row no row is cleared
 pub cleared_none : (old : List (List ℕ)) → ClearedUpTo old old 0
 cleared_none old = record { len = refl; before = λ k lt. absurd (omega arith); rest = λ k le. refl }
 
-pub cleared_more : (old rows : List (List ℕ)) (i : ℕ) (row : List ℕ) → i < length old → ClearedUpTo old rows i → row ≡ replicate (length (get_or rows i [])) 0 → ClearedUpTo old (set rows i row) (i + 1)
+-- the next row that is cleared is added to those before it
+pub cleared_more : (old rows : List (List ℕ)) (i : ℕ) (row : List ℕ) → i < length old → ClearedUpTo old rows i
+    → row ≡ replicate (length (get_or rows i [])) 0 → ClearedUpTo old (set rows i row) (i + 1)
 cleared_more old rows i row lt upto is = record {
   len = length-set rows i row ∙ upto.len;
   before = λ k le. elim (cases_eq k i) [
@@ -389,6 +424,7 @@ cleared_more old rows i row lt upto is = record {
   rest = λ k le. get_or-set_other rows i k row [] (λ e. absurd (omega arith)) ∙ upto.rest k (omega arith);
 }
 
+-- if no row is left, all rows are cleared
 pub cleared_all : (old rows : List (List ℕ)) (i : ℕ) → length old ≤ i → ClearedUpTo old rows i → AreCleared old rows
 cleared_all old rows i all upto = record {
   len = upto.len;

@@ -1,12 +1,12 @@
 -- Steps over many marks at once.
-use Rattle.std.proofs.Common.{ℕ, ◌≡◌, ◌<◌, ◌≤◌, ◌+◌, ◌-◌, ◌*◌, ◌/◌, ◌%◌, ◌^◌, ◌==◌, List, [], ◌∷◌, ◌++◌, length, take, get_or, refl, sym, ap, ◌∙◌, inl, inr, arith, suc, Bool, true, false, cond}
+use Rattle.std.proofs.Common.{ℕ, ◌≡◌, ◌<◌, ◌≤◌, ◌+◌, ◌-◌, ◌/◌, ◌%◌, ◌^◌, ◌==◌, List, [], ◌∷◌, ◌++◌, length, take, get_or, refl, sym, ap, ◌∙◌, inl, inr, arith, suc, Bool, true, false, cond}
 use Rattle.std.specs.Prelude.{bit_and, count_ones}
 use Rattle.std.specs.Int.{bit_at}
 use Rattle.std.specs.List.{range_with_len, count_by}
 use Rattle.std.specs.declared.vec.Vec.{Vec}
-use Rattle.std.proofs.lemmas.Bool.{cases_Bool, cases_eq, cases_lt, eq-eqb, ne_eqb}
-use Rattle.std.proofs.lemmas.Nat.{and_le_r, and_mask, shr-shr, shr_below}
-use Rattle.std.proofs.lemmas.Nat.Bits.{bit_at_and, bit_at-lt, bit_at_ones, bit_at_lowest}
+use Rattle.std.proofs.lemmas.Bool.{cases_Bool, cases_lt}
+use Rattle.std.proofs.lemmas.Nat.{and_le_r, shr-shr, shr_below}
+use Rattle.std.proofs.lemmas.Nat.Bits.{bit_at_and, bit_at-lt, bit_at_ones}
 use Rattle.std.proofs.Math.Seq.{take-suc}
 use Rattle.std.proofs.lemmas.List.{map_push}
 use Rattle.std.proofs.lemmas.List.Sums.{sum_by-cons}
@@ -44,22 +44,6 @@ step_part bits room left ones wide is few = record {
       ap (λ (n : ℕ). n == 1) (bit_at_and bits 255 i ∙ omega (arith, bit_at_ones 8 i hi, bit_at-lt bits i))));
 }
 
--- over the lowest one
-pub step_one : (bits room left ones : ℕ) → 0 < room → ones ≡ bit_and bits 1 → 0 < left → IsStepOver bits room left 1 ones
-step_one bits room left ones wide is some =
-    let low : bit_at bits 0 ≡ bits % 2 = bit_at_lowest bits in
-    let same : bit_and bits 1 ≡ bits % 2 = and_mask bits 1 in
-    let one : cond (bit_at bits 0 == 1) 1 0 ≡ ones = elim (cases_eq (bit_at bits 0) 1) [
-      | inl e ↦ let t : (bit_at bits 0 == 1) ≡ true = eq-eqb (bit_at bits 0) 1 e in rw t (omega arith)
-      | inr ne ↦ let f : (bit_at bits 0 == 1) ≡ false = ne_eqb (bit_at bits 0) 1 ne in rw f (omega arith)
-    ] in
-    record {
-      some = omega arith;
-      within = omega arith;
-      few = omega arith;
-      counts = omega (arith, one, sum_by-cons (λ (i : ℕ). cond (bit_at bits i == 1) 1 0) 0 []);
-    }
-
 -- a shifted word has fewer bits
 pub shifted_fits : (word s : ℕ) → word < 2 ^ 64 → s < 64 → word / 2 ^ s < 2 ^ (64 - s)
 shifted_fits word s fits small =
@@ -69,7 +53,9 @@ shifted_fits word s fits small =
 -- ---- the walk
 
 -- a run in two parts
-between_parts : (words : List ℕ) (from m n : ℕ) → count_by (is_set words) (range_with_len from (m + n)) ≡ count_by (is_set words) (range_with_len from m) + count_by (is_set words) (range_with_len (from + m) n)
+between_parts : (words : List ℕ) (from m n : ℕ)
+    → count_by (is_set words) (range_with_len from (m + n)) ≡ count_by (is_set words) (range_with_len from m) + count_by
+    (is_set words) (range_with_len (from + m) n)
 between_parts words from m n =
     let f : ℕ → Bool = λ i. is_set words (i + from) in
     count_later (is_set words) from 0 from (m + n) (omega arith) ∙ count_parts f m n
@@ -78,12 +64,14 @@ between_parts words from m n =
       count_later (is_set words) from 0 from m (omega arith),
       count_later (is_set words) (from + m) 0 (from + m) n (omega arith),
       count_agree (λ i. f (i + m)) (λ i. is_set words (i + (from + m))) (range_with_len 0 n)
-          (All-range (λ i. f (i + m) ≡ is_set words (i + (from + m))) 0 n (λ i lo hi. let e : (i + m) + from ≡ i + (from + m) = omega arith in ap (λ (q : ℕ). is_set words q) e)),
+          (All-range (λ i. f (i + m) ≡ is_set words (i + (from + m))) 0 n
+          (λ i lo hi. let e : (i + m) + from ≡ i + (from + m) = omega arith in ap (λ (q : ℕ). is_set words q) e)),
     )
 
 -- the marks of a step's bits
 stepped : (words : List ℕ) (page width : ℕ) → page % 64 + width ≤ 64
-    → count_by (is_set words) (range_with_len page width) ≡ count_by (λ i. bit_at (get_or words (page / 64) 0 / 2 ^ (page % 64)) i == 1) (range_with_len 0 width)
+    → count_by (is_set words) (range_with_len page width) ≡ count_by
+    (λ i. bit_at (get_or words (page / 64) 0 / 2 ^ (page % 64)) i == 1) (range_with_len 0 width)
 unfolding is_set
 stepped words page width within =
     count_later (is_set words) page 0 page width (omega arith)
@@ -98,9 +86,7 @@ pub record IsOnWay (words : List ℕ) (from count page left : ℕ) : Type 0 wher
   pub low : from ≤ page
   pub counts : marks_between words from page + left ≡ count
 
-pub on_way : (words : List ℕ) (from count : ℕ) → IsOnWay words from count from count
-on_way words from count = let none : from - from ≡ 0 = omega arith in record { low = omega arith; counts = rw none (omega arith) }
-
+-- a step over some pages leaves fewer marks to pass, by those that it passed
 pub steps_on : (words : List ℕ) (from count page left width ones : ℕ) → IsOnWay words from count page left
     → IsStepOver (get_or words (page / 64) 0 / 2 ^ (page % 64)) (64 - page % 64) left width ones → IsOnWay words from count (page + width) (left - ones)
 steps_on words from count page left width ones way step =
@@ -116,13 +102,6 @@ steps_on words from count page left width ones way step =
       counts = rw all (omega (arith, way.counts, between_parts words from (page - from) width, more));
     }
 
-pub way_ends : (words : List ℕ) (from count page left : ℕ) → IsOnWay words from count page left → (page < 64 * length words → left ≡ 0) → IsPastMarks words from count page
-way_ends words from count page left way ends = record {
-  low = way.low;
-  few = omega (arith, way.counts);
-  all = λ lt. omega (arith, way.counts, ends lt);
-}
-
 -- ---- the same in a set
 
 abbrev one_if : Bool → ℕ
@@ -137,7 +116,8 @@ count_less f g [] h = omega arith
 count_less f g (x ∷ xs) h =
     let rest : count_by f xs ≤ count_by g xs = count_less f g xs h in
     elim (cases_Bool (f x)) [
-      | inl t ↦ let u : g x ≡ true = h x t in omega (arith, sum_by-cons (λ (n : ℕ). cond (f n) 1 0) x xs, sum_by-cons (λ (n : ℕ). cond (g n) 1 0) x xs, ones_of (f x) true t, ones_of (g x) true u)
+      | inl t ↦ let u : g x ≡ true = h x t in omega
+          (arith, sum_by-cons (λ (n : ℕ). cond (f n) 1 0) x xs, sum_by-cons (λ (n : ℕ). cond (g n) 1 0) x xs, ones_of (f x) true t, ones_of (g x) true u)
       | inr n ↦ omega (arith, sum_by-cons (λ (n : ℕ). cond (f n) 1 0) x xs, sum_by-cons (λ (n : ℕ). cond (g n) 1 0) x xs, ones_of (f x) false n)
     ]
 
@@ -146,7 +126,9 @@ row_len : {A : Type 0} (table : RamTable) (words : List (Vec ℕ A)) (b : ℕ) (
 row_len {A} table words b x room lt e =
     ap (λ (l : List ℕ). length l) (sym (row_at words b x (has_row table words b room lt) e)) ∙ room.pages b lt
 
-pub past_places : {A : Type 0} (table : RamTable) (words : List (Vec ℕ A)) (b from count page : ℕ) (x : Vec ℕ A) → HasWords table (buffers_of words) → b < length table.blocks
+-- a page after so many marks of a row is after so many places of the set
+pub past_places : {A : Type 0} (table : RamTable) (words : List (Vec ℕ A)) (b from count page : ℕ) (x : Vec ℕ A)
+    → HasWords table (buffers_of words) → b < length table.blocks
     → x ≡ get_or words b x → IsPastMarks x.items from count page → IsPastPlaces (set_in table words) b from count page
 past_places {A} table words b from count page x room lt e past =
     let set : PlaceSet = set_in table words in
@@ -158,7 +140,8 @@ past_places {A} table words b from count page x room lt e past =
     let less : (q : ℕ) → has q ≡ true → is_set x.items q ≡ true = λ q there. elim (cases_lt q (block table.blocks b).pages) [
       | inl inside ↦ sym (within q inside) ∙ there
       | inr outside ↦
-          let none : has q ≡ false = has_place-where_past table (marks_at words) (place_at b q) (λ is. let inside : q < (block table.blocks b).pages = is.has_page in absurd (omega arith)) in
+          let none : has q ≡ false = has_place-where_past table (marks_at words) (place_at b q)
+          (λ is. let inside : q < (block table.blocks b).pages = is.has_page in absurd (omega arith)) in
           absurd cc
     ] in
     let low : from ≤ page = past.low in
@@ -175,7 +158,8 @@ past_places {A} table words b from count page x room lt e past =
 -- ---- a copy
 
 -- the marks of the first blocks, and those of one more
-pub copied_more : {A : Type 0} (rows : List (List ℕ)) (copies : List (Vec ℕ A)) (i : ℕ) (v : Vec ℕ A) → i < length rows → buffers_of copies ≡ take i rows → v.items ≡ get_or rows i []
+pub copied_more : {A : Type 0} (rows : List (List ℕ)) (copies : List (Vec ℕ A)) (i : ℕ) (v : Vec ℕ A) → i < length rows
+    → buffers_of copies ≡ take i rows → v.items ≡ get_or rows i []
     → buffers_of (copies ++ v ∷ []) ≡ take (i + 1) rows
 copied_more {A} rows copies i v lt before same =
     let next : i + 1 ≡ suc i = omega arith in
@@ -183,7 +167,8 @@ copied_more {A} rows copies i v lt before same =
     ∙ sym (take-suc rows i [] lt) ∙ ap (λ (n : ℕ). take n rows) (sym next)
 
 -- the marks of all blocks
-pub copied_counted : {A B : Type 0} (table copy : RamTable) (words : List (Vec ℕ A)) (copies : List (Vec ℕ B)) (count : ℕ) → copy ≡ table → buffers_of copies ≡ buffers_of words
+pub copied_counted : {A B : Type 0} (table copy : RamTable) (words : List (Vec ℕ A)) (copies : List (Vec ℕ B)) (count : ℕ)
+    → copy ≡ table → buffers_of copies ≡ buffers_of words
     → IsCounted table words count → IsCounted copy copies count × (set_in copy copies ≡ set_in table words)
 copied_counted {A} {B} table copy words copies count of_table same counted =
     let set : set_in copy copies ≡ set_in table words =

@@ -6,6 +6,7 @@ use Rattle.std.proofs.lemmas.Bool.{cases_Bool}
 use Rattle.std.proofs.lemmas.List.Elements.{All-head, All-tail}
 use Rattle.std.proofs.lemmas.List.Folds.{list_any_at}
 use Rattle.std.proofs.lemmas.Slice.Eq.{bytes_eq-Decides}
+use Rattle.std.proofs.lemmas.Map.Views.{Contains-from_any}
 use Rattle.mig_mem.specs.declared.place.Place.{Place}
 use Rattle.mig_mem.specs.RamTable.{RamTable}
 use Rattle.mig_mem.specs.Place.{place_eq, has_place, IsPlace}
@@ -13,11 +14,16 @@ use Rattle.mig_mem.specs.Image.{Page, Image, IsImage, content_at, image_of, zero
 use Rattle.mig_mem.specs.Round.{round_of, last_at, all_pages, after}
 use Rattle.mig_mem.specs.Tracking.{Snapshot, HasChanges, IsFaithful, last_image, rounds_of, AreImagesOf}
 use Rattle.mig_mem.proofs.Images.{image_agree, image_is, content_at-image_of}
-use Rattle.mig_mem.proofs.PlaceOrder.{place_eq-from}
+use Rattle.mig_mem.proofs.PlaceOrder.{place_eq-from, place_eq-true}
 use Rattle.mig_mem.proofs.Rounds.{last_at-append, last_at-nil, last_at-round, last_at-round_none, map_or-or}
 
-has_from_contains : (ps : List Place) (p : Place) → Contains ps p → has_place ps p ≡ true
+-- an element of a list of places is a place that the list has
+pub has_from_contains : (ps : List Place) (p : Place) → Contains ps p → has_place ps p ≡ true
 has_from_contains ps p h = list_any_at (λ q. place_eq q p) ps h.0 p h.1 (place_eq-from _ p h.2)
+
+-- a place that a list has is one of its elements
+pub contains_from_has : (ps : List Place) (p : Place) → has_place ps p ≡ true → Contains ps p
+contains_from_has ps p h = Contains-from_any {eq = λ x y. place_eq y x} (λ x y e. sym (place_eq-true y x e)) p ps h
 
 -- a round with all changes leaves the image
 one_round : (before : Image) (s : Snapshot) → HasChanges before s → (p : Place) → IsPlace s.image.table p
@@ -29,7 +35,8 @@ one_round before s changes p is = elim (cases_Bool (has_place s.dirty p)) [
         | inl t ↦ sym ((bytes_eq-Decides (content_at s.image p) (content_at before p)).0 t)
         | inr f ↦
             let dirty : has_place s.dirty p ≡ true = has_from_contains s.dirty p (changes p is (λ same.
-            let t : bytes_eq (content_at s.image p) (content_at before p) ≡ true = (bytes_eq-Decides (content_at s.image p) (content_at before p)).1 same in absurd cc)) in absurd cc
+            let t : bytes_eq (content_at s.image p) (content_at before p) ≡ true =
+            (bytes_eq-Decides (content_at s.image p) (content_at before p)).1 same in absurd cc)) in absurd cc
       ]
 ]
 
@@ -40,7 +47,8 @@ follows table before [] all faithful p is = ap (λ (o : Option Page). option_map
 follows table before (s ∷ ss) all faithful p is =
     let here = All-head (λ (x : Snapshot). IsImage x.image × (x.image.table ≡ table)) s ss all in
     let at : IsPlace s.image.table p = rw here.1 is in
-    ap (λ (o : Option Page). option_map_or (λ (x : Page). x.content) o (content_at before p)) (last_at-append p (round_of s.image s.dirty) (all_pages (rounds_of ss)))
+    ap (λ (o : Option Page). option_map_or (λ (x : Page). x.content) o (content_at before p))
+    (last_at-append p (round_of s.image s.dirty) (all_pages (rounds_of ss)))
     ∙ map_or-or (last_at p (all_pages (rounds_of ss))) (last_at p (round_of s.image s.dirty)) (content_at before p)
     ∙ ap (λ (c : List ℕ). option_map_or (λ (x : Page). x.content) (last_at p (all_pages (rounds_of ss))) c) (one_round before s faithful.0 p at)
     ∙ follows table s.image ss (All-tail (λ (x : Snapshot). IsImage x.image × (x.image.table ≡ table)) s ss all) faithful.1 p is
@@ -59,7 +67,8 @@ pub tracked : (table : RamTable) (ss : List Snapshot) → AreImagesOf table ss �
     → after table (rounds_of ss) ≡ last_image (zero_image table) ss
 tracked table ss all faithful =
     let zero : Place → List ℕ = λ _. zero_page table.page_size in
-    image_agree table (λ p. option_map_or (λ (x : Page). x.content) (last_at p (all_pages (rounds_of ss))) (zero_page table.page_size)) (content_at (last_image (zero_image table) ss))
+    image_agree table (λ p. option_map_or (λ (x : Page). x.content) (last_at p (all_pages (rounds_of ss)))
+    (zero_page table.page_size)) (content_at (last_image (zero_image table) ss))
     (λ p is.
     ap (λ (c : List ℕ). option_map_or (λ (x : Page). x.content) (last_at p (all_pages (rounds_of ss))) c) (sym (content_at-image_of table zero p is))
     ∙ follows table (zero_image table) ss all faithful p is)

@@ -4,7 +4,7 @@ use Rattle.std.specs.Prelude.{IsTrue}
 use Rattle.std.specs.List.{find, All}
 use Rattle.std.proofs.lemmas.Bool.{cases_Bool, or_cases, cases_lt}
 use Rattle.std.proofs.lemmas.List.{take-append-drop, drop_more, drop_all, take_all, take_more, length_push}
-use Rattle.std.proofs.lemmas.List.Elements.{All-head, All-tail, All-nil, All-cons, All-push, All-weaker}
+use Rattle.std.proofs.lemmas.List.Elements.{All-head, All-tail, All-nil, All-push, All-weaker}
 use Rattle.std.proofs.lemmas.List.Folds.{find-append}
 use Rattle.std.proofs.lemmas.Option.{same_Some}
 use Rattle.std.specs.Option.{option_or}
@@ -26,15 +26,12 @@ All-has P p (q ∷ qs) all h = elim (cases_Bool (place_eq q p)) [
   | inr n ↦ All-has P p qs (All-tail P q qs all) (elim (or_cases (place_eq q p) (has_place qs p) h) [ inl t ↦ absurd cc | inr t ↦ t ])
 ]
 
-has_itself : (q : Place) (qs : List Place) → has_place (q ∷ qs) q ≡ true
+-- a list of places has its first one
+pub has_itself : (q : Place) (qs : List Place) → has_place (q ∷ qs) q ≡ true
 has_itself q qs = let t : place_eq q q ≡ true = place_eq-from q q refl in rw t refl
 
 has_later : (q p : Place) (qs : List Place) → has_place qs p ≡ true → has_place (q ∷ qs) p ≡ true
 has_later q p qs h = elim (cases_Bool (place_eq q p)) [ inl t ↦ rw t refl | inr n ↦ rw n h ]
-
-pub All-from_has : (P : Place → Type 0) (ps : List Place) → ((p : Place) → has_place ps p ≡ true → P p) → All P ps
-All-from_has P [] h = All-nil P
-All-from_has P (q ∷ qs) h = All-cons P q qs (h q (has_itself q qs)) (All-from_has P qs (λ p is. h p (has_later q p qs is)))
 
 -- ---- the first that passes
 
@@ -51,27 +48,34 @@ find_first f p (q ∷ qs) order has passes before = elim (cases_Bool (place_eq q
       rw fq (find_first f p qs order.1 later passes (λ r is lt. before r (has_later q r qs is) lt))
 ]
 
+-- if no place that a list has passes, none is found
 pub find_nothing : (f : Place → Bool) (ps : List Place) → ((q : Place) → has_place ps q ≡ true → f q ≡ false) → find f ps ≡ None
 find_nothing f [] none = refl
 find_nothing f (q ∷ qs) none = let fq : f q ≡ false = none q (has_itself q qs) in rw fq (find_nothing f qs (λ r is. none r (has_later q r qs is)))
 
 -- the least place of a table that passes
-pub first_place : (table : RamTable) (f : Place → Bool) (p : Place) → IsPlace table p → f p ≡ true → ((q : Place) → IsPlace table q → place_lt q p ≡ true → f q ≡ false)
+pub first_place : (table : RamTable) (f : Place → Bool) (p : Place) → IsPlace table p → f p ≡ true
+    → ((q : Place) → IsPlace table q → place_lt q p ≡ true → f q ≡ false)
     → find f (places table) ≡ Some p
 first_place table f p is passes before =
     find_first f p (places table) (places_order table) (has_place-places table p is) passes (λ q has lt. before q (place_from_has table q has) lt)
 
+-- if no place of the table passes, none is found
 pub no_place : (table : RamTable) (f : Place → Bool) → ((q : Place) → IsPlace table q → f q ≡ false) → find f (places table) ≡ None
 no_place table f none = find_nothing f (places table) (λ q has. none q (place_from_has table q has))
 
 -- ---- from a place on
 
+-- the first marked place from a place on is found there
 pub first_from : (s : PlaceSet) (from p : Place) → IsPlaceSet s → has_place s.marked p ≡ true → place_lt p from ≡ false
     → ((q : Place) → has_place s.marked q ≡ true → place_lt q p ≡ true → place_lt q from ≡ true) → find (λ q. not (place_lt q from)) s.marked ≡ Some p
 first_from s from p is has at before =
-    find_first (λ q. not (place_lt q from)) p s.marked (order_from_AllPairs place_lt s.marked is.is_ascending) has (ap not at) (λ q in_set lt. ap not (before q in_set lt))
+    find_first (λ q. not (place_lt q from)) p s.marked (order_from_AllPairs place_lt s.marked is.is_ascending) has (ap not at)
+    (λ q in_set lt. ap not (before q in_set lt))
 
-pub none_from : (s : PlaceSet) (from : Place) → ((q : Place) → has_place s.marked q ≡ true → place_lt q from ≡ true) → find (λ q. not (place_lt q from)) s.marked ≡ None
+-- if all marked places lie below a place, none is found from it on
+pub none_from : (s : PlaceSet) (from : Place) → ((q : Place) → has_place s.marked q ≡ true → place_lt q from ≡ true)
+    → find (λ q. not (place_lt q from)) s.marked ≡ None
 none_from s from before = find_nothing (λ q. not (place_lt q from)) s.marked (λ q in_set. ap not (before q in_set))
 
 -- how far a walk from a place has come: what it has passed of the set lies before where it began
@@ -79,11 +83,13 @@ pub record HasWalked (s : PlaceSet) (from at : Place) : Type 0 where
   pub reached : place_lt at from ≡ false
   pub before : (q : Place) → has_place s.marked q ≡ true → place_lt q at ≡ true → place_lt q from ≡ true
 
+-- before the first step of a walk no place was passed
 pub walked_none : (s : PlaceSet) (from : Place) → HasWalked s from from
 walked_none s from = record { reached = place_ge-from from from (inr (refl, omega arith)); before = λ q h lt. lt }
 
 -- the rest of a block has none of the set
-pub walked_block : (s : PlaceSet) (from : Place) (b page : ℕ) → HasWalked s from (place_at b page) → ((q : ℕ) → page ≤ q → has_place s.marked (place_at b q) ≡ false)
+pub walked_block : (s : PlaceSet) (from : Place) (b page : ℕ) → HasWalked s from (place_at b page)
+    → ((q : ℕ) → page ≤ q → has_place s.marked (place_at b q) ≡ false)
     → HasWalked s from (place_at (b + 1) 0)
 walked_block s from b page walked none = record {
   reached = place_ge-from (place_at (b + 1) 0) from (inl (elim (place_lt-false (place_at b page) from walked.reached) [
@@ -152,6 +158,7 @@ pub record HasListed (s : PlaceSet) (from : Place) (ps : List Place) : Type 0 wh
   pub passed : All (λ q. place_lt q from ≡ true) ps
   pub left : All (λ q. place_lt q from ≡ false) (drop (length ps) s.marked)
 
+-- before the first step of a walk no place was listed
 pub listed_none : (s : PlaceSet) → HasListed s (place_at 0 0) []
 listed_none s = record {
   few = omega arith;
@@ -169,7 +176,8 @@ next_is : (s : PlaceSet) (from : Place) (ps : List Place) → HasListed s from p
 next_is s from ps listed =
     let test : Place → Bool = λ q. not (place_lt q from) in
     let none : find test ps ≡ None = find_nothing test ps (λ q h. ap not (All-has (λ r. place_lt r from ≡ true) q ps listed.passed h)) in
-    ap (λ (l : List Place). find test l) (sym (take-append-drop (length ps) s.marked) ∙ ap (λ (l : List Place). l ++ drop (length ps) s.marked) (sym listed.front))
+    ap (λ (l : List Place). find test l) (sym (take-append-drop (length ps) s.marked)
+    ∙ ap (λ (l : List Place). l ++ drop (length ps) s.marked) (sym listed.front))
     ∙ find-append test ps (drop (length ps) s.marked) ∙ ap (λ (o : Option Place). option_or o (find test (drop (length ps) s.marked))) none
 
 -- what is left, at the next place
@@ -182,6 +190,7 @@ left_is s from ps listed lt d =
     let passes : place_lt q from ≡ false = All-head (λ r. place_lt r from ≡ false) q (drop (n + 1) s.marked) (rw split at listed.left) in
     next_is s from ps listed ∙ ap (λ (l : List Place). find (λ r. not (place_lt r from)) l) split ∙ rw passes refl
 
+-- if no marked place is left, all marked places were listed
 pub listed_all : (s : PlaceSet) (from : Place) (ps : List Place) → HasListed s from ps → find (λ q. not (place_lt q from)) s.marked ≡ None → ps ≡ s.marked
 listed_all s from ps listed none = elim (cases_lt (length ps) (length s.marked)) [
   | inr ge ↦ listed.front ∙ take_all (length ps) s.marked ge
@@ -212,6 +221,7 @@ order-drop zero ps h = h
 order-drop (suc n) [] h = tt
 order-drop (suc n) (p ∷ ps) h = order-drop n ps h.1
 
+-- the next marked place is listed after those before it, and the walk goes on after it
 pub listed_more : (s : PlaceSet) (from p : Place) (ps : List Place) → IsPlaceSet s → HasListed s from ps → find (λ q. not (place_lt q from)) s.marked ≡ Some p
     → HasListed s (place_at p.block (p.page + 1)) (ps ++ p ∷ []) × (length ps < length s.marked)
 listed_more s from p ps is listed some = elim (cases_lt (length ps) (length s.marked)) [
@@ -229,7 +239,8 @@ listed_more s from p ps is listed some = elim (cases_lt (length ps) (length s.ma
       let next : Place = place_at p.block (p.page + 1) in (
         record {
           few = omega arith;
-          front = ap (λ (l : List Place). l ++ p ∷ []) listed.front ∙ ap (λ (q : Place). take n s.marked ++ q ∷ []) (sym same) ∙ sym (take_more s.marked n p lt) ∙ ap (λ (k : ℕ). take k s.marked) (sym long);
+          front = ap (λ (l : List Place). l ++ p ∷ []) listed.front ∙ ap (λ (q : Place). take n s.marked ++ q ∷ []) (sym same)
+              ∙ sym (take_more s.marked n p lt) ∙ ap (λ (k : ℕ). take k s.marked) (sym long);
           passed = All-push (λ r. place_lt r next ≡ true) ps p
               (All-weaker (λ r. place_lt r from ≡ true) (λ r. place_lt r next ≡ true) (λ r h. lt_next r from p h ge) ps listed.passed)
               (place_lt-from p next (inr (refl, omega arith)));
@@ -243,7 +254,8 @@ listed_more s from p ps is listed some = elim (cases_lt (length ps) (length s.ma
 pub found_place : (f : Place → Bool) (p : Place) (ps : List Place) → find f ps ≡ Some p → has_place ps p ≡ true
 found_place f p [] h = absurd cc
 found_place f p (q ∷ qs) h = elim (cases_Bool (f q)) [
-  | inl t ↦ let some : Some q ≡ Some p = rw t at h in let same : q ≡ p = same_Some q p some in ap (λ (r : Place). has_place (q ∷ qs) r) (sym same) ∙ has_itself q qs
+  | inl t ↦ let some : Some q ≡ Some p = rw t at h in let same : q ≡ p = same_Some q p some in
+      ap (λ (r : Place). has_place (q ∷ qs) r) (sym same) ∙ has_itself q qs
   | inr n ↦ has_later q p qs (found_place f p qs (rw n at h))
 ]
 

@@ -16,9 +16,9 @@ use Rattle.mig_packet.specs.Faults.{first_of}
 use Rattle.mig_packet.specs.PageSize.{IsPageSize}
 use Rattle.mig_packet.specs.Packet.{is_sync, packet_faults, IsPacketText}
 use Rattle.mig_packet.specs.Waiting.{weight, weight_of_all, IsWithin, room_after, is_over}
-use Rattle.mig_packet.specs.Progress.{ChannelProgress, start, judged_len, faults, first_fault, due_fault, after_item, after}
-use Rattle.mig_packet.specs.Reading.{AreFaultless, after_all, Front, Ends, Reads, Settings, with_waiting, state_at, IsReading}
-use Rattle.mig_packet.specs.Law.{HasFaultAt, WaitingIsBounded, WaitingBytesAreBounded, LimitOnlyRefuses, RefusedIsOver}
+use Rattle.mig_packet.specs.Progress.{ChannelProgress, start, judged_len, faults, first_fault, after_item, after}
+use Rattle.mig_packet.specs.Reading.{AreFaultless, after_all, Front, Ends, state_at}
+use Rattle.mig_packet.specs.Law.{WaitingIsBounded, WaitingBytesAreBounded, LimitOnlyRefuses, RefusedIsOver}
 use Rattle.mig_packet.proofs.Later.{IsLater-front}
 use Rattle.mig_packet.proofs.Limits.{open_packets}
 use Rattle.mig_packet.proofs.Waiting.{faultless_within, free_within}
@@ -44,7 +44,8 @@ one_within (Some n) packets packet within fits =
 -- with SYNC or without
 bounded_packet : (waiting : Option ℕ) (c : ChannelProgress) (packet : List ℕ) (sync : Bool) → is_over (room_after c.waiting c.packets) (weight packet) ≡ false
     → Bounded waiting c
-    → Bounded waiting (cond sync (record c { packets = []; rounds = c.rounds ++ (c.packets ++ packet ∷ []) ∷ [] }) (record c { packets = c.packets ++ packet ∷ [] }))
+    → Bounded waiting (cond sync (record c { packets = []; rounds = c.rounds ++ (c.packets ++ packet ∷ []) ∷ [] })
+    (record c { packets = c.packets ++ packet ∷ [] }))
 bounded_packet waiting c packet true fits b =
     let round = c.packets ++ packet ∷ [] in
     let within : IsWithin waiting round = one_within waiting c.packets packet b.in_open_round
@@ -68,10 +69,12 @@ bounded_item waiting c None item free b =
 bounded_item waiting c (Some id) item free b =
     bounded_packet waiting c item (is_sync item) (faultless_within c.page_size (room_after c.waiting c.packets) item free).1 b
 
-bounded_all : (waiting : Option ℕ) (c : ChannelProgress) (items : List (List ℕ)) → AreFaultless c items → Bounded waiting c → Bounded waiting (after_all c items)
+bounded_all : (waiting : Option ℕ) (c : ChannelProgress) (items : List (List ℕ)) → AreFaultless c items → Bounded waiting c
+    → Bounded waiting (after_all c items)
 bounded_all waiting c [] free b = b
 bounded_all waiting c (item ∷ items) free b = bounded_all waiting (after c item) items free.2 (bounded_item waiting c c.hello item free.1 b)
 
+-- no round, complete or open, counts more than the limit
 pub waiting_is_bounded : WaitingIsBounded
 waiting_is_bounded = λ given text ended reading is.
     let from : ChannelProgress = start given.page_size given.uuid given.channels given.waiting in
@@ -86,8 +89,10 @@ waiting_is_bounded = λ given text ended reading is.
 
 -- a packet has no more than a page for itself, and one for each of its pages
 one_bytes : (p : ℕ) (packet : List ℕ) → IsPageSize p → IsPacketText p packet → length packet ≤ weight packet * p
-one_bytes p packet (inl e) = subst (λ (n : ℕ). IsPacketText n packet → length packet ≤ weight packet * n) (sym e) (λ is. let long = is.has_length in omega (arith, long))
-one_bytes p packet (inr e) = subst (λ (n : ℕ). IsPacketText n packet → length packet ≤ weight packet * n) (sym e) (λ is. let long = is.has_length in omega (arith, long))
+one_bytes p packet (inl e) = subst (λ (n : ℕ). IsPacketText n packet → length packet ≤ weight packet * n) (sym e)
+    (λ is. let long = is.has_length in omega (arith, long))
+one_bytes p packet (inr e) = subst (λ (n : ℕ). IsPacketText n packet → length packet ≤ weight packet * n) (sym e)
+    (λ is. let long = is.has_length in omega (arith, long))
 
 joined : (a b x y p : ℕ) → x ≤ a * p → y ≤ b * p → x + y ≤ (a + b) * p
 joined a b x y p l r = omega (arith, l, r, add-mul a b p)
@@ -101,10 +106,12 @@ all_bytes p (packet ∷ packets) size are =
     subst (λ (n : ℕ). n ≤ weight_of_all (packet ∷ packets) * p) (sym (length-append packet (concat packets)))
     (subst (λ (n : ℕ). length packet + length (concat packets) ≤ n * p) (sym (sum_by-cons weight packet packets)) both)
 
+-- the packets of an open round have no more bytes than the limit times a page
 pub waiting_bytes_are_bounded : WaitingBytesAreBounded
 waiting_bytes_are_bounded = λ given text ended reading waiting size some is.
     let p : ℕ = given.page_size in
-    let within : IsWithin (Some waiting) is.to.packets = subst (λ (w : Option ℕ). IsWithin w is.to.packets) some (waiting_is_bounded given text ended reading is).1 in
+    let within : IsWithin (Some waiting) is.to.packets =
+    subst (λ (w : Option ℕ). IsWithin w is.to.packets) some (waiting_is_bounded given text ended reading is).1 in
     le_trans (all_bytes p is.to.packets size (open_packets given text ended reading is)) (mul-le (weight_of_all is.to.packets) p waiting p within (omega arith))
 
 -- ---- the reading without a limit
@@ -113,11 +120,13 @@ abbrev pub unlimited : ChannelProgress → ChannelProgress
 unlimited c = record c { waiting = None }
 
 after_packet-unlimited : (c : ChannelProgress) (packet : List ℕ) (sync : Bool)
-    → cond sync (record (unlimited c) { packets = []; rounds = c.rounds ++ (c.packets ++ packet ∷ []) ∷ [] }) (record (unlimited c) { packets = c.packets ++ packet ∷ [] })
+    → cond sync (record (unlimited c) { packets = []; rounds = c.rounds ++ (c.packets ++ packet ∷ []) ∷ [] })
+    (record (unlimited c) { packets = c.packets ++ packet ∷ [] })
     ≡ unlimited (cond sync (record c { packets = []; rounds = c.rounds ++ (c.packets ++ packet ∷ []) ∷ [] }) (record c { packets = c.packets ++ packet ∷ [] }))
 after_packet-unlimited c packet true = refl
 after_packet-unlimited c packet false = refl
 
+-- an item changes the progress without a limit as it does with one
 pub after-unlimited : (c : ChannelProgress) (h : Option ℕ) (item : List ℕ) → after_item (unlimited c) h item ≡ unlimited (after_item c h item)
 after-unlimited c None item = refl
 after-unlimited c (Some id) item = after_packet-unlimited c item (is_sync item)
@@ -134,6 +143,7 @@ faultless-unlimited c (item ∷ items) free = (
   subst (λ (x : ChannelProgress). AreFaultless x items) (sym (after-unlimited c c.hello item)) (faultless-unlimited (after c item) items free.2),
 )
 
+-- items change the progress without a limit as they do with one
 pub after_all-unlimited : (c : ChannelProgress) (items : List (List ℕ)) → after_all (unlimited c) items ≡ unlimited (after_all c items)
 after_all-unlimited c [] = refl
 after_all-unlimited c (item ∷ items) =
@@ -169,7 +179,9 @@ ends-unlimited c rest (Bad f) other e =
     due_by (leb (judged_len c.page_size c.hello) (length rest)) (first_fault c rest) (first_fault (unlimited c) rest) (Some f)
     (fault-unlimited c c.hello rest f not_waiting) e
 
-pub state-unlimited : (ended : Bool) (c : ChannelProgress) (rest : List ℕ) (found : ChannelState) → state_at ended (unlimited c) rest found ≡ state_at ended c rest found
+-- the state without a limit is the state with one
+pub state-unlimited : (ended : Bool) (c : ChannelProgress) (rest : List ℕ) (found : ChannelState)
+    → state_at ended (unlimited c) rest found ≡ state_at ended c rest found
 state-unlimited true c rest Reading = refl
 state-unlimited true c rest Closed = refl
 state-unlimited true c rest (Bad f) = refl
@@ -180,6 +192,7 @@ stays_bad : (ended : Bool) (c : ChannelProgress) (rest : List ℕ) (f : ChannelF
 stays_bad true c rest f = refl
 stays_bad false c rest f = refl
 
+-- a reading without the limit's fault is the one without a limit
 pub limit_only_refuses : LimitOnlyRefuses
 limit_only_refuses = λ given text ended reading is other.
     let from : ChannelProgress = start given.page_size given.uuid given.channels given.waiting in
@@ -209,7 +222,8 @@ limit_only_refuses = λ given text ended reading is other.
 -- ---- what is refused
 
 -- the fault is that of a later test
-later_test : (b : Bool) (f : ChannelFault) (more : Option ChannelFault) → f ≢ fault.Waiting → cond b (Some f) more ≡ Some fault.Waiting → more ≡ Some fault.Waiting
+later_test : (b : Bool) (f : ChannelFault) (more : Option ChannelFault) → f ≢ fault.Waiting
+    → cond b (Some f) more ≡ Some fault.Waiting → more ≡ Some fault.Waiting
 later_test true f more other e = absurd (other (let same : f ≡ fault.Waiting = cc in same))
 later_test false f more other e = e
 
@@ -222,7 +236,10 @@ hello_never magic version uuid id = λ e.
     let none = later_test id fault.HelloId None (λ same. absurd cc) after_uuid in absurd cc
 
 last_of_packet : (magic version flags count size over : Bool) (n : ℕ)
-    → first_of ((magic, fault.PacketMagic) ∷ (version, fault.PacketVersion) ∷ (flags, fault.PacketFlags n) ∷ (count, fault.PageCount) ∷ (size, fault.PacketSize) ∷ (over, fault.Waiting) ∷ []) ≡ Some fault.Waiting
+    → first_of ((magic, fault.PacketMagic) ∷ (version, fault.PacketVersion) ∷ (flags, fault.PacketFlags n) ∷ (
+      count,
+      fault.PageCount,
+    ) ∷ (size, fault.PacketSize) ∷ (over, fault.Waiting) ∷ []) ≡ Some fault.Waiting
     → over ≡ true
 last_of_packet magic version flags count size over n e =
     let after_magic = later_test magic fault.PacketMagic _ (λ same. absurd cc) e in
@@ -251,6 +268,7 @@ was_judged : (b : Bool) (x : Option ChannelFault) (f : ChannelFault) → cond b 
 was_judged true x f e = e
 was_judged false x f e = absurd cc
 
+-- a packet that the limit refuses counts more than it, with those of its round
 pub refused_is_over : RefusedIsOver
 refused_is_over = λ given text n at.
     let c = at.to in

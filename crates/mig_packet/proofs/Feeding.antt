@@ -48,7 +48,9 @@ after_is c (Some id) item some = refl
 front_item : (c : ChannelProgress) (item : List ℕ) → IsItem c.page_size c.hello item → first_fault c item ≡ None → Front c item (after c item)
 front_item c item is none = Front-push c c [] item (Front-none c) is none
 
-pub reads_behind : (c d to : ChannelProgress) (item rest pending : List ℕ) (left : ℕ) (s : ChannelState) → IsItem c.page_size c.hello item → first_fault c item ≡ None
+-- an item without a fault is read, and then what follows it
+pub reads_behind : (c d to : ChannelProgress) (item rest pending : List ℕ) (left : ℕ) (s : ChannelState)
+    → IsItem c.page_size c.hello item → first_fault c item ≡ None
     → d ≡ after c item → ReadsOn d rest to pending left s → ReadsOn c (item ++ rest) to pending left s
 reads_behind c d to item rest pending left s is none d_is r = record {
   rest = r.rest;
@@ -64,6 +66,7 @@ reads_behind c d to item rest pending left s is none d_is r = record {
 
 -- ---- what is taken if memory runs out
 
+-- an item without a fault is taken, and then what follows it
 pub taken_behind : (c d to : ChannelProgress) (item rest : List ℕ) → IsItem c.page_size c.hello item → first_fault c item ≡ None → d ≡ after c item
     → HasTaken d rest to → HasTaken c (item ++ rest) to
 taken_behind c d to item rest is none d_is t = record {
@@ -74,13 +77,15 @@ taken_behind c d to item rest is none d_is t = record {
 }
 
 -- what a reading keeps is no whole item
-pub unfinished_behind : (from : ChannelProgress) (bytes : List ℕ) (to : ChannelProgress) (pending : List ℕ) (left : ℕ) (s : ChannelState) → ReadsOn from bytes to pending left s
+pub unfinished_behind : (from : ChannelProgress) (bytes : List ℕ) (to : ChannelProgress) (pending : List
+    ℕ) (left : ℕ) (s : ChannelState) → ReadsOn from bytes to pending left s
     → s ≡ Reading → IsUnfinished to pending
 unfinished_behind from bytes to pending left s r reading =
     subst (IsUnfinished to) (r.has_rest reading) (unfinished from bytes to r.rest (subst (λ (x : ChannelState). Reads from bytes to r.rest x) reading r.reads))
 
 -- the piece was too short
-pub still_reading : (c : ChannelProgress) (bytes pending : List ℕ) (left : ℕ) → left ≡ length bytes → (bytes ≡ pending) × IsUnfinished c pending → ReadsOn c bytes c pending left Reading
+pub still_reading : (c : ChannelProgress) (bytes pending : List ℕ) (left : ℕ) → left ≡ length bytes
+    → (bytes ≡ pending) × IsUnfinished c pending → ReadsOn c bytes c pending left Reading
 still_reading c bytes pending left all h = record {
   rest = pending;
   reads = subst (λ (x : List ℕ). Reads c x c pending Reading) (sym h.0) (reads_short c pending h.1);
@@ -89,7 +94,8 @@ still_reading c bytes pending left all h = record {
 }
 
 -- a fault is due
-pub now_faulty : (c : ChannelProgress) (bytes pending : List ℕ) (left : ℕ) (fault : ChannelFault) → left ≡ length bytes → due_fault c bytes ≡ Some fault → ReadsOn c bytes c pending left (Bad fault)
+pub now_faulty : (c : ChannelProgress) (bytes pending : List ℕ) (left : ℕ) (fault : ChannelFault) → left ≡ length bytes
+    → due_fault c bytes ≡ Some fault → ReadsOn c bytes c pending left (Bad fault)
 now_faulty c bytes pending left fault all due = record {
   rest = bytes;
   reads = record { front = []; has_text = refl; leads = Front-none c; ends = due };

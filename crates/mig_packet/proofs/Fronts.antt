@@ -1,40 +1,41 @@
 -- Items one after another.
-use Rattle.std.proofs.Common.{◌≡◌, ◌≢◌, ℕ, ◌+◌, ◌*◌, ◌<◌, ◌≤◌, Bool, true, false, cond, List, [], ◌∷◌, ◌++◌, length}
+use Rattle.std.proofs.Common.{◌≡◌, ◌≢◌, ℕ, ◌+◌, ◌*◌, ◌<◌, ◌≤◌, Bool, cond, List, [], ◌∷◌, ◌++◌, length}
 use Rattle.std.proofs.Common.{take, drop, Option, Some, None, refl, sym, ap, subst, ◌∙◌, append_assoc, arith}
 use Rattle.std.specs.List.{concat}
 use Rattle.std.proofs.lemmas.Bool.{le-leb}
 use Rattle.std.proofs.lemmas.List.{append-nil, length-take-le, take-append-drop, length-append}
 use Rattle.std.proofs.lemmas.List.Folds.{concat-append}
-use Rattle.mig_packet.specs.declared.fault.ChannelFault.{ChannelFault}
 use Rattle.mig_packet.specs.PageSize.{head_len}
 use Rattle.mig_packet.specs.Faults.{first_of}
 use Rattle.mig_packet.specs.Packet.{IsPacketText}
 use Rattle.mig_packet.specs.Progress.{ChannelProgress, judged_len, item_len, faults, first_fault, due_fault, after}
 use Rattle.mig_packet.specs.Reading.{IsItem, AreFaultless, after_all, Front}
 use Rattle.mig_packet.specs.Waiting.{room_after}
-use Rattle.mig_packet.proofs.Judged.{hello_faults_stay, count_stays, faultless_text}
 use Rattle.mig_packet.proofs.Waiting.{faultless_within, faults_within-front}
+use Rattle.mig_packet.proofs.Judging.{hello_faults-front, normal_count-front, free_text}
 
 -- ---- one item
 
+-- an item is at least as long as the part that is judged
 pub judged_le : (p : ℕ) (h : Option ℕ) (item : List ℕ) → IsItem p h item → judged_len p h ≤ length item
 judged_le p None item w = omega arith
 judged_le p (Some id) item w = omega arith
 
 -- what follows an item's judged bytes doesn't change its faults
 pub faults_stay : (c : ChannelProgress) (h : Option ℕ) (a b : List ℕ) → judged_len c.page_size h ≤ length a → faults c h (a ++ b) ≡ faults c h a
-faults_stay c None a b le = hello_faults_stay c.uuid c.channels a b le
+faults_stay c None a b le = hello_faults-front c.uuid c.channels a b le
 faults_stay c (Some id) a b le = faults_within-front c.page_size (room_after c.waiting c.packets) a b le
 
 -- nor its length
 pub len_stays : (p : ℕ) (h : Option ℕ) (a b : List ℕ) → judged_len p h ≤ length a → item_len p h (a ++ b) ≡ item_len p h a
 len_stays p None a b le = refl
-len_stays p (Some id) a b le = ap (λ (n : ℕ). head_len p + n * p) (count_stays p a b le)
+len_stays p (Some id) a b le = ap (λ (n : ℕ). head_len p + n * p) (normal_count-front p a b le)
 
 -- a complete item says its length, whatever follows it
 pub len-append : (p : ℕ) (h : Option ℕ) (item more : List ℕ) → IsItem p h item → item_len p h (item ++ more) ≡ length item
 len-append p h item more is = len_stays p h item more (judged_le p h item is) ∙ sym is
 
+-- the part of an item that is judged is no longer than the item
 pub judged_le_len : (p : ℕ) (h : Option ℕ) (bytes : List ℕ) → judged_len p h ≤ item_len p h bytes
 judged_le_len p None bytes = omega arith
 judged_le_len p (Some id) bytes = omega arith
@@ -58,10 +59,6 @@ no_item p h rest lt item more e is =
 pub no_head : (p : ℕ) (h : Option ℕ) (rest : List ℕ) → length rest < judged_len p h → (item more : List ℕ) → rest ≡ item ++ more → IsItem p h item → ⊥
 no_head p h rest lt item more e is = omega (arith, judged_le p h item is, ap length e, length-append item more)
 
-pub cond_none : (b : Bool) (x : Option ChannelFault) → x ≡ None → cond b x None ≡ None
-cond_none true x e = e
-cond_none false x e = refl
-
 -- what the judged bytes say is due
 pub due_is : (c : ChannelProgress) (bytes : List ℕ) → judged_len c.page_size c.hello ≤ length bytes → due_fault c bytes ≡ first_fault c bytes
 due_is c bytes le = ap (λ (b : Bool). cond b (first_fault c bytes) None) (le-leb (judged_len c.page_size c.hello) (length bytes) le)
@@ -77,7 +74,7 @@ pub item_text : (c : ChannelProgress) (h : Option ℕ) (item : List ℕ) → h �
     → IsPacketText c.page_size item
 item_text c None item some is free = absurd (some refl)
 item_text c (Some id) item some is free =
-    faultless_text c.page_size item (faultless_within c.page_size (room_after c.waiting c.packets) item free).0 is
+    free_text c.page_size item (faultless_within c.page_size (room_after c.waiting c.packets) item free).0 is
 
 -- ---- items
 
@@ -90,6 +87,7 @@ AreFaultless-push : (c : ChannelProgress) (items : List (List ℕ)) (item : List
 AreFaultless-push c [] item free is none = (is, none, tt)
 AreFaultless-push c (i ∷ items) item free is none = (free.0, free.1, AreFaultless-push (after c i) items item free.2 is none)
 
+-- no item leaves the progress as it is
 pub Front-none : (c : ChannelProgress) → Front c [] c
 Front-none c = record { items = []; has_bytes = refl; are_faultless = tt; leads_to = refl }
 
@@ -137,6 +135,7 @@ AreFaultless-append : (c : ChannelProgress) (xs ys : List (List ℕ)) → AreFau
 AreFaultless-append c [] ys f g = g
 AreFaultless-append c (x ∷ xs) ys f g = (f.0, f.1, AreFaultless-append (after c x) xs ys f.2 g)
 
+-- items that follow one another are one front of the stream
 pub Front-append : (a b c : ChannelProgress) (x y : List ℕ) → Front a x b → Front b y c → Front a (x ++ y) c
 Front-append a b c x y f g = record {
   items = f.items ++ g.items;

@@ -13,9 +13,11 @@ use Rattle.mig_packet.specs.PacketHead.{IsPacketHead, offsets_in, as_zeros}
 use Rattle.mig_packet.proofs.Places.{range-front, be32_at-front}
 use Rattle.mig_packet.proofs.Judging.{packet_faults-front, normal_count-front, free_text, text_free}
 
+-- a head lists an offset for each of its pages
 pub count : (head : List ℕ) → normal_count head + zero_count head ≡ length (offsets_in head)
 count head = sym (length-map-range_with_len (offset_at head) 0 (normal_count head + zero_count head))
 
+-- an offset of the list is the number at its place in the head
 pub offset_is : (head : List ℕ) (i : ℕ) → i < length (offsets_in head) → offset_at head i ≡ get_or (offsets_in head) i 0
 offset_is head i lt =
     let within : i < normal_count head + zero_count head = (let e = count head in omega arith) in
@@ -37,11 +39,13 @@ few p head is =
 
 -- ---- more bytes behind a head say nothing else
 
-be64_at-front : (at : ℕ) (a b : List ℕ) → at + 8 ≤ length a → be64_at at (a ++ b) ≡ be64_at at a
+-- a number of eight bytes stays if more bytes follow
+pub be64_at-front : (at : ℕ) (a b : List ℕ) → at + 8 ≤ length a → be64_at at (a ++ b) ≡ be64_at at a
 unfolding be64_at
 be64_at-front at a b le = ap (λ (l : List ℕ). from_be_bytes w64 l) (range-front a b at (at + 8) (omega arith) le)
 
-same_map : {Y : Type 0} (f g : ℕ → Y) (a n : ℕ) → ((i : ℕ) → i < a + n → f i ≡ g i) → map f (range_with_len a n) ≡ map g (range_with_len a n)
+-- functions that agree below the end of a range map it to one list
+pub same_map : {Y : Type 0} (f g : ℕ → Y) (a n : ℕ) → ((i : ℕ) → i < a + n → f i ≡ g i) → map f (range_with_len a n) ≡ map g (range_with_len a n)
 same_map f g a zero same = refl
 same_map {Y} f g a (suc n) same =
     ap (λ (y : Y). y ∷ map f (range_with_len (a + 1) n)) (same a (omega arith))
@@ -63,7 +67,8 @@ pub zeros_front : (p : ℕ) (head more : List ℕ) → IsPacketHead p head → a
 zeros_front p head more is =
     let number : number_in (head ++ more) ≡ number_in head = be64_at-front 24 head more (omega (arith, is.has_length)) in
     let sync : is_sync (head ++ more) ≡ is_sync head = ap (λ (n : ℕ). n == 1) (be32_at-front 8 head more (omega (arith, is.has_length))) in
-    let id : id_in (head ++ more) ≡ id_in head = ap (λ (l : List ℕ). before_first (λ byte. byte == 0) l) (range-front head more 64 319 (omega arith) (omega (arith, is.has_length))) in
+    let id : id_in (head ++ more) ≡ id_in head =
+    ap (λ (l : List ℕ). before_first (λ byte. byte == 0) l) (range-front head more 64 319 (omega arith) (omega (arith, is.has_length))) in
     ap (λ (n : ℕ). record { number = n; sync = is_sync (head ++ more); id = id_in (head ++ more); normal = []; zero = offsets_in (head ++ more) }) number
     ∙ ap (λ (b : Bool). record { number = number_in head; sync = b; id = id_in (head ++ more); normal = []; zero = offsets_in (head ++ more) }) sync
     ∙ ap (λ (l : List ℕ). record { number = number_in head; sync = is_sync head; id = l; normal = []; zero = offsets_in (head ++ more) }) id
@@ -92,7 +97,8 @@ head_front p bytes is =
     let n : ℕ = head_len p in
     record {
       has_length = front_len p bytes is;
-      has_no_fault = ap first_of (sym (packet_faults-front p (take n bytes) (drop n bytes) (let e = front_len p bytes is in omega (arith, e))) ∙ ap (packet_faults p) (take-append-drop n bytes)) ∙ text_free p bytes is;
+      has_no_fault = ap first_of (sym (packet_faults-front p (take n bytes) (drop n bytes)
+          (let e = front_len p bytes is in omega (arith, e))) ∙ ap (packet_faults p) (take-append-drop n bytes)) ∙ text_free p bytes is;
     }
 
 -- which say of the packet all but the contents

@@ -4,7 +4,7 @@ use Rattle.std.proofs.Common.{◌∷◌, ◌++◌, length, get_or, take, drop, O
 use Rattle.std.specs.Prelude.{◌&&◌, slice_range}
 use Rattle.std.specs.Str.{bytes_eq}
 use Rattle.std.proofs.lemmas.List.{take-append-drop, length-take-le, length-append, get_or_append_left}
-use Rattle.std.proofs.lemmas.Bool.{eqb-true, ltb-false, leb-false, le-ltb, lt-leb}
+use Rattle.std.proofs.lemmas.Bool.{eqb-true, ltb-false, leb-false, le-ltb, lt-leb, not-false}
 use Rattle.std.proofs.lemmas.Bool.Decides.{Decides-eqb}
 use Rattle.std.proofs.lemmas.Slice.Eq.{bytes_eq-Decides}
 use Rattle.mig_packet.specs.declared.fault.ChannelFault.{ChannelFault}
@@ -26,13 +26,10 @@ pass : (b : Bool) (f : ChannelFault) (more : List (Bool × ChannelFault)) → b 
 pass true f more e h = absurd cc
 pass false f more e h = h
 
-not-false-is : (b : Bool) → not b ≡ false → b ≡ true
-not-false-is true e = refl
-not-false-is false e = absurd cc
-
 equal-not : (m n : ℕ) → m ≡ n → not (eqb m n) ≡ false
 equal-not m n e = ap not ((Decides-eqb m n).1 e)
 
+-- a fault that isn't there isn't there on any condition
 pub cond_none : (b : Bool) (x : Option ChannelFault) → x ≡ None → cond b x None ≡ None
 cond_none true x e = e
 cond_none false x e = refl
@@ -53,9 +50,9 @@ free_hello uuid channels bytes len free =
       leb-false channels (get_or bytes 24 0) t4.0,
       record {
         has_length = len;
-        has_magic = eqb-true _ _ (not-false-is _ t1.0);
-        has_version = eqb-true _ _ (not-false-is _ t2.0);
-        has_uuid = (bytes_eq-Decides (slice_range bytes 8 24) uuid).0 (not-false-is _ t3.0);
+        has_magic = eqb-true _ _ (not-false _ t1.0);
+        has_version = eqb-true _ _ (not-false _ t2.0);
+        has_uuid = (bytes_eq-Decides (slice_range bytes 8 24) uuid).0 (not-false _ t3.0);
         has_id = refl;
       },
     )
@@ -85,7 +82,7 @@ size_test : (n m k : ℕ) → (not (eqb n 0) && not (eqb m k)) ≡ false → n �
 size_test n m k e some =
     elim (eqb n 0) as (λ b. (eqb n 0 ≡ b) → m ≡ k) [
       | true ↦ λ h. absurd (some (eqb-true n 0 h))
-      | false ↦ λ h. eqb-true m k (not-false-is (eqb m k) (rw h at e))
+      | false ↦ λ h. eqb-true m k (not-false (eqb m k) (rw h at e))
     ] refl
 
 size_free : (n m k : ℕ) → (n ≢ 0 → m ≡ k) → (not (eqb n 0) && not (eqb m k)) ≡ false
@@ -110,8 +107,8 @@ free_text page_size bytes free len =
     let t4 = passed (ltb (page_limit page_size) (normal_count bytes + zero_count bytes)) fault.PageCount size_fault t3.1 in
     let t5 = passed (not (eqb (normal_count bytes) 0) && not (eqb (contents_len_in bytes) (normal_count bytes * page_size))) fault.PacketSize [] t4.1 in
     record {
-      has_magic = eqb-true _ _ (not-false-is _ t1.0);
-      has_version = eqb-true _ _ (not-false-is _ t2.0);
+      has_magic = eqb-true _ _ (not-false _ t1.0);
+      has_version = eqb-true _ _ (not-false _ t2.0);
       has_flags = ltb-false _ _ t3.0;
       has_few = ltb-false _ _ t4.0;
       has_size = size_test (normal_count bytes) (contents_len_in bytes) (normal_count bytes * page_size) t5.0;
@@ -132,6 +129,7 @@ text_free page_size bytes t =
 
 -- ---- what follows a packet's head changes nothing
 
+-- the faults of a packet's head stay if more bytes follow it
 pub packet_faults-front : (page_size : ℕ) (a b : List ℕ) → head_len page_size ≤ length a → packet_faults page_size (a ++ b) ≡ packet_faults page_size a
 packet_faults-front page_size a b le =
     let e0 = be32_at-front 0 a b (omega arith) in
@@ -141,9 +139,11 @@ packet_faults-front page_size a b le =
     let e20 = be32_at-front 20 a b (omega arith) in
     let e32 = be32_at-front 32 a b (omega arith) in rw (e0, e4, e8, e16, e20, e32) refl
 
+-- the number of pages with contents stays if more bytes follow the head
 pub normal_count-front : (page_size : ℕ) (a b : List ℕ) → head_len page_size ≤ length a → normal_count (a ++ b) ≡ normal_count a
 normal_count-front page_size a b le = be32_at-front 16 a b (omega arith)
 
+-- a packet without faults has none that is due
 pub due_free : (page_size : ℕ) (bytes : List ℕ) → first_of (packet_faults page_size bytes) ≡ None → due_packet_fault page_size bytes ≡ None
 due_free page_size bytes free = cond_none (leb (head_len page_size) (length bytes)) (first_of (packet_faults page_size bytes)) free
 

@@ -74,6 +74,7 @@ due_more : (b d : Bool) (x y : Option ChannelFault) (f : ChannelFault) → (b �
 due_more true d x y f longer same e = ap (λ (z : Bool). cond z y None) (longer refl) ∙ same refl ∙ e
 due_more false d x y f longer same e = absurd cc
 
+-- a fault that is due stays if more bytes follow
 pub due-append : (c : ChannelProgress) (rest piece : List ℕ) (f : ChannelFault) → due_fault c rest ≡ Some f → due_fault c (rest ++ piece) ≡ Some f
 due-append c rest piece f e =
     let n = judged_len c.page_size c.hello in
@@ -88,6 +89,7 @@ Ends-more c rest piece Reading other e = absurd (other refl)
 Ends-more c rest piece Closed other e = e
 Ends-more c rest piece (Bad f) other e = due-append c rest piece f e
 
+-- once the reading has ended, more bytes only lengthen the rest
 pub Reads-more : (from : ChannelProgress) (text : List ℕ) (to : ChannelProgress) (rest piece : List ℕ) (s : ChannelState) → s ≢ Reading
     → Reads from text to rest s → Reads from (text ++ piece) to (rest ++ piece) s
 Reads-more from text to rest piece s other r = record {
@@ -172,7 +174,13 @@ later_step : (old mid : ChannelProgress) (h : Option ℕ) (item : List ℕ) (mor
 later_step old mid None item more l = (
   [],
   subst (λ (x : List (List ℕ)). IsLater old x (after_item mid None item)) (sym (append-nil more))
-      (record { same_page_size = l.same_page_size; same_uuid = l.same_uuid; same_channels = l.same_channels; same_waiting = l.same_waiting; has_grown = l.has_grown }),
+      (record {
+        same_page_size = l.same_page_size;
+        same_uuid = l.same_uuid;
+        same_channels = l.same_channels;
+        same_waiting = l.same_waiting;
+        has_grown = l.has_grown;
+      }),
 )
 later_step old mid (Some id) item more l = later_packet old mid (is_sync item) item more l
 

@@ -1,18 +1,17 @@
 -- A closed channel is read so under each limit that none of its rounds passes.
-use Rattle.std.proofs.Common.{◌≡◌, ◌≢◌, ◌+◌, ◌-◌, ◌<◌, ◌≤◌, ◌&&◌, ℕ, Bool, true, false, cond, leb, ltb, List, [], ◌∷◌, ◌++◌, length, Option, Some, None, refl, sym, ap, subst, ◌∙◌, inl, inr, arith}
-use Rattle.std.specs.Prelude.{◌⊎◌, nat_le, nat_lt}
+use Rattle.std.proofs.Common.{◌≡◌, ◌-◌, ◌<◌, ◌≤◌, ℕ, Bool, true, false, cond, leb, ltb, List, [], ◌∷◌, ◌++◌, Option, Some, None, refl, sym, ap, subst, ◌∙◌, inl, inr, arith}
+use Rattle.std.specs.Prelude.{◌⊎◌, nat_le}
 use Rattle.std.specs.List.{All, list_all}
-use Rattle.std.proofs.lemmas.Bool.{cases_Bool, le-leb, lt-leb, leb-true, ltb-true}
+use Rattle.std.proofs.lemmas.Bool.{cases_Bool, le-leb, lt-leb, leb-true, ltb-true, and_left, and_right}
 use Rattle.std.proofs.lemmas.List.Elements.{All-head, All-tail}
 use Rattle.std.proofs.lemmas.List.Folds.{list_all-append}
 use Rattle.std.proofs.lemmas.List.Sums.{sum_by_push}
 use Rattle.mig_packet.specs.declared.state.ChannelState.{ChannelState}
 use Rattle.mig_packet.specs.declared.state.ChannelState.TheVariants.{Reading, Closed, Bad}
 use Rattle.mig_packet.specs.Faults.{first_of}
-use Rattle.mig_packet.specs.PageSize.{head_len}
-use Rattle.mig_packet.specs.Packet.{is_sync, packet_faults}
+use Rattle.mig_packet.specs.Packet.{is_sync}
 use Rattle.mig_packet.specs.Progress.{ChannelProgress, start, faults, first_fault, due_fault, judged_len, after_item, after}
-use Rattle.mig_packet.specs.Reading.{IsItem, AreFaultless, after_all, Front, Ends, state_at, state_at_end, Settings, with_waiting, ChannelReading, IsReading}
+use Rattle.mig_packet.specs.Reading.{AreFaultless, after_all, Ends, state_at, state_at_end, Settings, with_waiting, ChannelReading, IsReading}
 use Rattle.mig_packet.specs.Waiting.{weight, weight_of_all, IsWithin, room_after, is_over}
 use Rattle.mig_packet.specs.Law.{LimitLetsThrough}
 use Rattle.mig_packet.proofs.Waiting.{faultless_within, free_within}
@@ -27,26 +26,23 @@ is_few limit round = nat_le (weight_of_all round) limit
 abbrev IsOver : ℕ → ChannelProgress → Type 0
 IsOver limit c = (list_all (is_few limit) c.rounds ≡ false) ⊎ (limit < weight_of_all c.packets)
 
-few_and : (a b : Bool) → a ≡ false → (a && b) ≡ false
-few_and a b e = rw e refl
-
-and_few : (a b : Bool) → b ≡ false → (a && b) ≡ false
-and_few true b e = e
-and_few false b e = refl
-
 -- with a packet that the open round has no room for, or had none before
-over_packet : (limit : ℕ) (c : ChannelProgress) (packet : List ℕ) (sync : Bool) → (list_all (is_few limit) c.rounds ≡ false) ⊎ (limit < weight_of_all (c.packets ++ packet ∷ []))
-    → IsOver limit (cond sync (record c { packets = []; rounds = c.rounds ++ (c.packets ++ packet ∷ []) ∷ [] }) (record c { packets = c.packets ++ packet ∷ [] }))
+over_packet : (limit : ℕ) (c : ChannelProgress) (packet : List ℕ) (sync : Bool)
+    → (list_all (is_few limit) c.rounds ≡ false) ⊎ (limit < weight_of_all (c.packets ++ packet ∷ []))
+    → IsOver limit (cond sync (record c { packets = []; rounds = c.rounds ++ (c.packets ++ packet ∷ []) ∷ [] })
+    (record c { packets = c.packets ++ packet ∷ [] }))
 over_packet limit c packet true (inl long) =
     let round : List (List ℕ) = c.packets ++ packet ∷ [] in
-    inl (list_all-append (is_few limit) c.rounds (round ∷ []) ∙ few_and (list_all (is_few limit) c.rounds) (list_all (is_few limit) (round ∷ [])) long)
+    inl (list_all-append (is_few limit) c.rounds (round ∷ []) ∙ and_left (list_all (is_few limit) c.rounds) (list_all (is_few limit) (round ∷ [])) long)
 over_packet limit c packet true (inr long) =
     let round : List (List ℕ) = c.packets ++ packet ∷ [] in
     inl (list_all-append (is_few limit) c.rounds (round ∷ [])
-    ∙ and_few (list_all (is_few limit) c.rounds) (list_all (is_few limit) (round ∷ [])) (few_and (is_few limit round) true (lt-leb (weight_of_all round) limit long)))
+    ∙ and_right (list_all (is_few limit) c.rounds) (list_all (is_few limit) (round ∷ []))
+    (and_left (is_few limit round) true (lt-leb (weight_of_all round) limit long)))
 over_packet limit c packet false over = over
 
-grows : (limit : ℕ) (c : ChannelProgress) (packet : List ℕ) → IsOver limit c → (list_all (is_few limit) c.rounds ≡ false) ⊎ (limit < weight_of_all (c.packets ++ packet ∷ []))
+grows : (limit : ℕ) (c : ChannelProgress) (packet : List ℕ) → IsOver limit c
+    → (list_all (is_few limit) c.rounds ≡ false) ⊎ (limit < weight_of_all (c.packets ++ packet ∷ []))
 grows limit c packet (inl long) = inl long
 grows limit c packet (inr long) = inr (omega (arith, long, sum_by_push weight c.packets packet))
 
@@ -60,7 +56,8 @@ over_all limit c (item ∷ items) over = over_all limit (after c item) items (ov
 
 -- ---- all items are let through
 
-lets_item : (limit : ℕ) (c : ChannelProgress) (h : Option ℕ) (item : List ℕ) → c.waiting ≡ Some limit → first_of (faults (unlimited c) h item) ≡ None → (IsOver limit (after_item (unlimited c) h item) → ⊥)
+lets_item : (limit : ℕ) (c : ChannelProgress) (h : Option ℕ) (item : List ℕ) → c.waiting ≡ Some limit
+    → first_of (faults (unlimited c) h item) ≡ None → (IsOver limit (after_item (unlimited c) h item) → ⊥)
     → first_of (faults c h item) ≡ None
 lets_item limit c None item waits free never_over = free
 lets_item limit c (Some id) item waits free never_over =
@@ -68,7 +65,8 @@ lets_item limit c (Some id) item waits free never_over =
     free_within c.page_size room item (faultless_within c.page_size None item free).0 (elim (cases_Bool (is_over room (weight item))) [
       | inr fits ↦ fits
       | inl over ↦ absurd (
-          let less : ltb (limit - weight_of_all c.packets) (weight item) ≡ true = sym (ap (λ (w : Option ℕ). is_over (room_after w c.packets) (weight item)) waits) ∙ over in
+          let less : ltb (limit - weight_of_all c.packets) (weight item) ≡ true =
+          sym (ap (λ (w : Option ℕ). is_over (room_after w c.packets) (weight item)) waits) ∙ over in
           never_over (over_packet limit (unlimited c) item (is_sync item)
           (inr (omega (arith, ltb-true (limit - weight_of_all c.packets) (weight item) less, sum_by_push weight c.packets item)))))
     ])
@@ -77,11 +75,13 @@ same_waiting : (c : ChannelProgress) (h : Option ℕ) (item : List ℕ) → (aft
 same_waiting c None item = refl
 same_waiting c (Some id) item = by_sync (is_sync item)
   where
-    by_sync : (sync : Bool) → (cond sync (record c { packets = []; rounds = c.rounds ++ (c.packets ++ item ∷ []) ∷ [] }) (record c { packets = c.packets ++ item ∷ [] })).waiting ≡ c.waiting
+    by_sync : (sync : Bool) → (cond sync (record c { packets = []; rounds = c.rounds ++ (c.packets ++ item ∷ []) ∷ [] })
+        (record c { packets = c.packets ++ item ∷ [] })).waiting ≡ c.waiting
     by_sync true = refl
     by_sync false = refl
 
-lets_all : (limit : ℕ) (c : ChannelProgress) (items : List (List ℕ)) → c.waiting ≡ Some limit → AreFaultless (unlimited c) items → (IsOver limit (after_all (unlimited c) items) → ⊥) → AreFaultless c items
+lets_all : (limit : ℕ) (c : ChannelProgress) (items : List (List ℕ)) → c.waiting ≡ Some limit → AreFaultless (unlimited c) items
+    → (IsOver limit (after_all (unlimited c) items) → ⊥) → AreFaultless c items
 lets_all limit c [] waits free never_over = tt
 lets_all limit c (item ∷ items) waits free never_over =
     let there : after (unlimited c) item ≡ unlimited (after c item) = after-unlimited c c.hello item in (
@@ -99,7 +99,8 @@ used_up (Some id) (byte ∷ rest) packets e = absurd cc
 used_up (Some id) [] (packet ∷ packets) e = absurd cc
 used_up (Some id) [] [] e = (refl, refl)
 
-closed_so : (c : ChannelProgress) (rest : List ℕ) (found : ChannelState) → Ends c rest found → state_at true c rest found ≡ Closed → (found ≡ Reading) × ((rest ≡ []) × (c.packets ≡ []))
+closed_so : (c : ChannelProgress) (rest : List ℕ) (found : ChannelState) → Ends c rest found → state_at true c rest found ≡ Closed
+    → (found ≡ Reading) × ((rest ≡ []) × (c.packets ≡ []))
 closed_so c rest Reading ends e = (refl, used_up c.hello rest c.packets e)
 closed_so c rest Closed ends e = absurd ends
 closed_so c rest (Bad f) ends e = absurd cc
@@ -119,13 +120,15 @@ none_due c = go (leb (judged_len c.page_size c.hello) 0) refl
 all_few : (limit : ℕ) (rounds : List (List (List ℕ))) → All (IsWithin (Some limit)) rounds → list_all (is_few limit) rounds ≡ true
 all_few limit [] all = refl
 all_few limit (round ∷ rounds) all =
-    rw (le-leb (weight_of_all round) limit (All-head (IsWithin (Some limit)) round rounds all)) (all_few limit rounds (All-tail (IsWithin (Some limit)) round rounds all))
+    rw (le-leb (weight_of_all round) limit (All-head (IsWithin (Some limit)) round rounds all))
+    (all_few limit rounds (All-tail (IsWithin (Some limit)) round rounds all))
 
 not_over : (limit : ℕ) (c : ChannelProgress) → All (IsWithin (Some limit)) c.rounds → c.packets ≡ [] → IsOver limit c → ⊥
 not_over limit c few none (inl long) = absurd (let clash : true ≡ false = sym (all_few limit c.rounds few) ∙ long in cc)
 not_over limit c few none (inr long) = omega (arith, long, ap weight_of_all none)
 
-through : (given : Settings) (limit : ℕ) (text : List ℕ) (reading : ChannelReading) → given.waiting ≡ Some limit → IsReading (with_waiting None given) text true reading → reading.state ≡ Closed
+through : (given : Settings) (limit : ℕ) (text : List ℕ) (reading : ChannelReading) → given.waiting ≡ Some limit
+    → IsReading (with_waiting None given) text true reading → reading.state ≡ Closed
     → All (IsWithin (Some limit)) reading.rounds → IsReading given text true reading
 through given limit text reading waits is closed few =
     let from : ChannelProgress = start given.page_size given.uuid given.channels given.waiting in
@@ -156,6 +159,7 @@ through given limit text reading waits is closed few =
       has_state = is.has_state ∙ ap (λ (x : ChannelProgress). state_at true x is.rest is.found) same ∙ state-unlimited true to is.rest is.found;
     }
 
+-- a closed channel whose rounds are within the limit is read under it as without it
 pub through_law : LimitLetsThrough
 through_law given text reading is closed few = by_limit given.waiting refl
   where

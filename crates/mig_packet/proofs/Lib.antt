@@ -7,7 +7,6 @@ pub mod Waiting
 pub mod Within
 pub mod Parts
 pub mod ReadBack
-pub mod Judged
 pub mod Fronts
 pub mod Unique
 pub mod Rounds

@@ -11,8 +11,8 @@ use Rattle.mig_packet.specs.Progress.{ChannelProgress, start, faults, after_item
 use Rattle.mig_packet.specs.Reading.{IsItem, AreFaultless, after_all, Front, Ends, state_at, state_at_end, Settings, ChannelReading, IsReading}
 use Rattle.mig_packet.specs.Law.{EndsWithSync, ReadingsKeepLimits}
 use Rattle.mig_packet.specs.Waiting.{room_after}
-use Rattle.mig_packet.proofs.Judged.{faultless_text}
 use Rattle.mig_packet.proofs.Waiting.{faultless_within}
+use Rattle.mig_packet.proofs.Judging.{free_text}
 
 -- what holds of all that was read
 record Keeps (page_size : ℕ) (c : ChannelProgress) : Type 0 where
@@ -68,7 +68,8 @@ keeps_item p c None item e is free k = record {
 }
 keeps_item p c (Some id) item e is free k =
     keeps_packet p c item (is_sync item) refl (λ none. absurd (let clash : None ≡ Some id = sym none ∙ e in cc))
-    (subst (λ (n : ℕ). IsPacketText n item) k.same_page_size (faultless_text c.page_size item (faultless_within c.page_size (room_after c.waiting c.packets) item free).0 is)) k
+    (subst (λ (n : ℕ). IsPacketText n item) k.same_page_size
+    (free_text c.page_size item (faultless_within c.page_size (room_after c.waiting c.packets) item free).0 is)) k
 
 keeps_all : (p : ℕ) (c : ChannelProgress) (items : List (List ℕ)) → AreFaultless c items → Keeps p c → Keeps p (after_all c items)
 keeps_all p c [] free k = k
@@ -117,6 +118,7 @@ pub open_packets : (given : Settings) (text : List ℕ) (ended : Bool) (reading 
     → All (IsPacketText given.page_size) is.to.packets
 open_packets given text ended reading is = (kept given text ended reading is).in_open_round
 
+-- each reading keeps its limits
 pub limits_law : ReadingsKeepLimits
 limits_law = λ given text ended reading size_is is.
     let page_size : ℕ = given.page_size in

@@ -2,10 +2,9 @@
 use Rattle.std.proofs.Common.{◌≡◌, ◌≢◌, ℕ, zero, suc, ◌+◌, ◌-◌, ◌*◌, ◌<◌, ◌≤◌, Bool, true, false, cond, eqb, List, [], ◌∷◌, ◌++◌}
 use Rattle.std.proofs.Common.{length, get_or, take, drop, map, Option, Some, None, refl, sym, ap, subst, ◌∙◌, append_assoc, arith}
 use Rattle.std.specs.Prelude.{slice_range}
-use Rattle.std.specs.Int.{w64, from_be_bytes}
 use Rattle.std.specs.List.{All, flat_map, range_with_len}
 use Rattle.std.proofs.Math.Nat.{mul-le-mul_left}
-use Rattle.std.proofs.lemmas.Bool.{eqb-true, lt-leb}
+use Rattle.std.proofs.lemmas.Bool.{eqb-true, lt-leb, ne_eqb}
 use Rattle.std.proofs.lemmas.Bool.Decides.{Decides-eqb}
 use Rattle.std.proofs.lemmas.List.{append-nil, length-append, map-append, take_at}
 use Rattle.std.proofs.lemmas.List.Elements.{All-head, All-tail, All-push}
@@ -20,20 +19,14 @@ use Rattle.mig_packet.specs.Progress.{ChannelProgress, judged_len, item_len, fau
 use Rattle.mig_packet.specs.Reading.{IsItem, Front, Ends, Reads}
 use Rattle.mig_packet.specs.Reader.{IsUnfinished}
 use Rattle.mig_packet.specs.Paging.{OpenPacket, IsOpenPacket, bytes_of, is_complete, read_to, open_bytes, Completes}
-use Rattle.mig_packet.specs.Fields.{be64_at}
-use Rattle.mig_packet.proofs.Places.{range-front, range-past, be32_at-front}
+use Rattle.mig_packet.proofs.Places.{range-past, be32_at-front}
 use Rattle.mig_packet.proofs.Judging.{packet_faults-front, normal_count-front, free_text}
 use Rattle.mig_packet.specs.Waiting.{room_after, packet_faults_within}
 use Rattle.mig_packet.proofs.Waiting.{faults_within-front}
 use Rattle.mig_packet.proofs.Fronts.{due_is, Front-push}
 use Rattle.mig_packet.proofs.Feeding.{reads_short}
-
-pub differ : (m n : ℕ) → m ≢ n → eqb m n ≡ false
-differ m n other =
-    elim (eqb m n) as (λ b. (eqb m n ≡ b) → b ≡ false) [
-      | true ↦ λ same. absurd (other (eqb-true m n same))
-      | false ↦ λ h. refl
-    ] refl
+use Rattle.mig_packet.proofs.Heads.{be64_at-front}
+use Rattle.mig_packet.proofs.ReadBack.{page_same}
 
 -- ---- a reading that goes on
 
@@ -97,6 +90,7 @@ contents_length size (x ∷ pages) sizes =
     let one : suc (length pages) * size ≡ size + length pages * size = grind arith in
     omega (arith, here, others, one, length-append x.content (contents pages))
 
+-- an open packet's bytes are its head and the pages that were read
 pub bytes_length : (size : ℕ) (p : OpenPacket) → IsOpenPacket size p → length (bytes_of p) ≡ head_len size + length p.pages * size
 bytes_length size p is =
     let head = is.is_head.has_length in omega (arith, head, contents_length size p.pages is.are_whole, length-append p.head (contents p.pages))
@@ -170,14 +164,16 @@ after_known c id item e = ap (λ (h : Option ℕ). after_item c h item) e
 
 -- How bytes stand that end in a packet that was begun.
 pub packet_reads : (from c : ChannelProgress) (id : ℕ) (front text : List ℕ) (p : OpenPacket) (kept : List ℕ) → c.hello ≡ Some id → Front from front c
-    → text ≡ front ++ (bytes_of p ++ kept) → IsOpenPacket c.page_size p → first_fault c p.head ≡ None → length kept < c.page_size → (length p.pages ≡ normal_count p.head → kept ≡ [])
+    → text ≡ front ++ (bytes_of p ++ kept) → IsOpenPacket c.page_size p → first_fault c p.head ≡ None → length kept < c.page_size
+    → (length p.pages ≡ normal_count p.head → kept ≡ [])
     → Reads from text (read_to c (Some p)) (open_bytes (Some p) ++ kept) Reading
 packet_reads from c id front text p kept e leads has_text is free short none =
     elim (is_complete p) as (λ b. (is_complete p ≡ b) → Reads from text (cond b (after_packet c (bytes_of p)) c) (cond b [] (bytes_of p) ++ kept) Reading) [
       | true ↦ λ complete.
           let all : length p.pages ≡ normal_count p.head = eqb-true (length p.pages) (normal_count p.head) complete in
           let item = bytes_of p in
-          let whole : text ≡ front ++ item = has_text ∙ ap (λ (x : List ℕ). front ++ (item ++ x)) (none all) ∙ ap (λ (x : List ℕ). front ++ x) (append-nil item) in
+          let whole : text ≡ front ++ item = has_text ∙ ap (λ (x : List ℕ). front ++ (item ++ x)) (none all)
+          ∙ ap (λ (x : List ℕ). front ++ x) (append-nil item) in
           let whole_free : first_fault c item ≡ None = ap (first_fault c) (sym (append-nil item)) ∙ faults_of_head c id p [] e is ∙ free in
           let pushed : Front from (front ++ item) (after c item) = Front-push from c front item leads (whole_packet c id p e is all) whole_free in
           let d = after_packet c item in
@@ -204,7 +200,7 @@ pub still_open : (from c : ChannelProgress) (text : List ℕ) (p : OpenPacket) (
     → Reads from text (read_to c (Some p)) (open_bytes (Some p) ++ kept) s → Reads from text c (bytes_of p ++ kept) s
 still_open from c text p kept s few r =
     let incomplete : is_complete p ≡ false =
-    (let other : length p.pages ≢ normal_count p.head = omega (arith, few) in differ (length p.pages) (normal_count p.head) other) in
+    (let other : length p.pages ≢ normal_count p.head = omega (arith, few) in ne_eqb (length p.pages) (normal_count p.head) other) in
     subst (λ (b : Bool). Reads from text (cond b (after_packet c (bytes_of p)) c) (cond b [] (bytes_of p) ++ kept) s) incomplete r
 
 -- if none is left, the packet was read
@@ -225,6 +221,7 @@ range_push a (suc n) =
 abbrev with_one : OpenPacket → NormalPage → OpenPacket
 with_one p x = record p { pages = p.pages ++ x ∷ [] }
 
+-- a packet stays open if its next page is read
 pub open_push : (size : ℕ) (p : OpenPacket) (x : NormalPage) → IsOpenPacket size p → length p.pages < normal_count p.head
     → x.offset ≡ offset_at p.head (length p.pages) → length x.content ≡ size → IsOpenPacket size (with_one p x)
 open_push size p x is few offset whole =
@@ -241,6 +238,7 @@ open_push size p x is few offset whole =
       are_whole = All-push (IsWholePage size) p.pages x is.are_whole whole;
     }
 
+-- a page that is read follows the bytes of its packet
 pub bytes_push : (p : OpenPacket) (x : NormalPage) → bytes_of (with_one p x) ≡ bytes_of p ++ x.content
 bytes_push p x =
     ap (λ (l : List ℕ). p.head ++ l) (flat_map-append (λ (y : NormalPage). y.content) p.pages (x ∷ [])
@@ -250,9 +248,6 @@ bytes_push p x =
 
 abbrev page_in : ℕ → List ℕ → (ℕ → ℕ) → ℕ → NormalPage
 page_in size bytes offset i = record { offset = offset i; content = content_at size bytes i }
-
-page_same : (m n : ℕ) (x y : List ℕ) → m ≡ n → x ≡ y → ◌≡◌ {A = NormalPage} (record { offset = m; content = x }) (record { offset = n; content = y })
-page_same m n x y offset content = cc
 
 -- the content after this many bytes
 content_there : (size i : ℕ) (bytes before content rest : List ℕ) → length before ≡ head_len size + i * size → length content ≡ size
@@ -284,16 +279,13 @@ pages_said size k offset bytes before (x ∷ pages) len e sizes offsets =
 
 -- ---- the head's fields are the packet's
 
-be64_front : (at : ℕ) (a b : List ℕ) → at + 8 ≤ length a → be64_at at (a ++ b) ≡ be64_at at a
-unfolding be64_at
-be64_front at a b le = ap (from_be_bytes w64) (range-front a b at (at + 8) (omega arith) le)
-
 map_same : (k n : ℕ) (f g : ℕ → ℕ) → ((i : ℕ) → k ≤ i → i < k + n → f i ≡ g i) → map f (range_with_len k n) ≡ map g (range_with_len k n)
 map_same k zero f g same = refl
 map_same k (suc n) f g same =
     ap (λ (x : ℕ). x ∷ map f (range_with_len (k + 1) n)) (same k (omega arith) (omega arith))
     ∙ ap (λ (l : List ℕ). g k ∷ l) (map_same (k + 1) n f g (λ i le lt. same i (omega (arith, le)) (omega (arith, lt))))
 
+-- an open packet is a sync packet if its head is one
 pub sync_said : (size : ℕ) (p : OpenPacket) → IsOpenPacket size p → is_sync (bytes_of p) ≡ is_sync p.head
 sync_said size p is = ap (λ (n : ℕ). eqb n 1) (be32_at-front 8 p.head (contents p.pages) (omega (arith, head_long size p is)))
 
@@ -309,7 +301,7 @@ completes size p is all =
     let few = text.has_few in
     let n = length p.pages in
     let offsets : map (offset_at p.head) (range_with_len 0 n) ≡ map (offset_at bytes) (range_with_len 0 n) = map_same 0 n (offset_at p.head) (offset_at bytes)
-    (λ i le lt. sym (be64_front (320 + 8 * i) p.head (contents p.pages) (omega (arith, lt, all, count, few, long)))) in
+    (λ i le lt. sym (be64_at-front (320 + 8 * i) p.head (contents p.pages) (omega (arith, lt, all, count, few, long)))) in
     let zero_pages : head_len size + 0 * size ≡ head_len size = omega arith in
     let head = is.is_head.has_length in
     let pages : map (page_in size bytes (offset_at bytes)) (range_with_len 0 n) ≡ p.pages =

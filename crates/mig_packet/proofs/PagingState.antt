@@ -1,19 +1,19 @@
 -- What a reader of pages returns is the reading of the bytes that it took.
-use Rattle.std.proofs.Common.{◌≡◌, ◌≢◌, ℕ, ◌<◌, Bool, true, false, cond, eqb, not, List, [], ◌∷◌, ◌++◌, length, Option, Some, None}
+use Rattle.std.proofs.Common.{◌≡◌, ◌≢◌, ℕ, ◌<◌, Bool, true, false, cond, not, List, [], ◌∷◌, ◌++◌, length, Option, Some, None}
 use Rattle.std.specs.Prelude.{IfSome, ◌⊎◌}
 use Rattle.std.proofs.Common.{inl, inr, refl, sym, ap, subst, ◌∙◌, arith}
 use Rattle.std.proofs.lemmas.List.{length-append}
 use Rattle.mig_packet.specs.declared.state.ChannelState.{ChannelState}
 use Rattle.mig_packet.specs.declared.state.ChannelState.TheVariants.{Reading, Closed, Bad}
 use Rattle.mig_packet.specs.declared.fault.ChannelFault.TheVariants.{Truncated, Unsynced}
-use Rattle.mig_packet.specs.Packet.{normal_count, is_sync}
+use Rattle.mig_packet.specs.Packet.{is_sync}
 use Rattle.mig_packet.specs.Progress.{ChannelProgress, after_packet}
 use Rattle.mig_packet.specs.Reading.{Settings, state_at, state_at_end}
 use Rattle.mig_packet.specs.Reader.{HasState, HasHello}
 use Rattle.mig_packet.specs.Paging.{OpenPacket, IsOpenPacket, bytes_of, is_complete, GivenSoFar, PageHolder, read_to, open_bytes, kept_of, has_any}
-use Rattle.mig_packet.specs.Paging.{Gives, HolderTells, HasReading, IsPart}
+use Rattle.mig_packet.specs.Paging.{Gives, HolderTells, HasReading}
 use Rattle.mig_packet.specs.PagingStep.{is_between, is_unsynced, closing_state}
-use Rattle.mig_packet.proofs.Paging.{bytes_length, sync_said, differ}
+use Rattle.mig_packet.proofs.Paging.{bytes_length, sync_said}
 use Rattle.mig_packet.proofs.PagingSteps.{hello_stays, sync_has_any}
 
 -- ---- the state at the end
@@ -50,12 +50,9 @@ closes_inside size id c p [] true e is =
     ∙ ap (λ (b : Bool). cond b (Bad Unsynced) Closed) (sym (sync_has_any c (bytes_of p) (is_sync p.head) (sync_said size p is)))
     ∙ sym (open_round id (after_packet c (bytes_of p)).packets)
 closes_inside size id c p (byte ∷ kept) true e is = refl
-closes_inside size id c p [] false e is = ap (λ (b : Bool). closed_by b (not (is_sync p.head))) e ∙ sym (cut id (bytes_of p ++ []) c.packets (long size p [] is))
+closes_inside size id c p [] false e is = ap (λ (b : Bool). closed_by b (not (is_sync p.head))) e
+    ∙ sym (cut id (bytes_of p ++ []) c.packets (long size p [] is))
 closes_inside size id c p (byte ∷ kept) false e is = sym (cut id (bytes_of p ++ byte ∷ kept) c.packets (long size p (byte ∷ kept) is))
-
-no_hello : (packet : Option (List ℕ × ℕ)) (kept rest : List ℕ) (packets : List (List ℕ)) (unsynced : Bool)
-    → closed_by (is_between None packet kept) unsynced ≡ state_at_end None rest packets
-no_hello packet kept rest packets unsynced = refl
 
 closes : (size : ℕ) (c : ChannelProgress) (packet : Option OpenPacket) (hello : Option ℕ) (has_packets : Bool) (kept : List ℕ)
     → has_packets ≡ has_any c.packets → IfSome packet (IsOpenPacket size)
@@ -148,12 +145,3 @@ hello_told r hello e = λ given text so_far g.
     let to = read_to so_far.read so_far.packet in
     let h : HasReading given text false so_far r.found = told given text so_far r false r.found g refl in
     (h.reading, h.is_reading, e ∙ g.has_hello ∙ sym h.has_hello)
-
--- ---- whether a packet is complete, by what is kept
-
-pub between_inside : (size : ℕ) (hello : Option ℕ) (i : ℕ) (head kept : List ℕ) (found : ChannelState) → IsPart size hello (Some i) head kept found
-    → eqb i (normal_count head) ≡ is_between hello (Some (head, i)) kept
-between_inside size None i head kept found part = absurd (part.0 refl)
-between_inside size (Some id) i head [] found part = refl
-between_inside size (Some id) i head (byte ∷ kept) found part =
-    differ i (normal_count head) (λ same. absurd (let none : byte ∷ kept ≡ [] = part.5 same in cc))

@@ -7,8 +7,8 @@ use Rattle.std.proofs.lemmas.Bool.{lt-leb}
 use Rattle.std.specs.List.{flat_map}
 use Rattle.mig_packet.specs.declared.state.ChannelState.{ChannelState}
 use Rattle.mig_packet.specs.declared.state.ChannelState.TheVariants.{Reading, Bad}
-use Rattle.mig_packet.specs.declared.page_reader.Came.{Came}
-use Rattle.mig_packet.specs.declared.page_reader.Came.TheVariants as came
+use Rattle.mig_packet.specs.declared.page_reader.ChannelEvent.{ChannelEvent}
+use Rattle.mig_packet.specs.declared.page_reader.ChannelEvent.TheVariants as event
 use Rattle.mig_packet.specs.declared.page_reader.PageContent.{PageContent}
 use Rattle.mig_packet.specs.Faults.{first_of}
 use Rattle.mig_packet.specs.Hello.{hello_faults}
@@ -58,11 +58,13 @@ fault_same given c front h room bytes f e left =
     ap first_of (faults_same given c c.hello bytes later.same_page_size later.same_uuid later.same_channels later.same_waiting)
     ∙ ap (λ (x : Option ℕ). fault_of given x (room_after given.waiting c.packets) bytes) (sym e) ∙ ap (λ (x : Option ℕ). fault_of given h x bytes) (sym left)
 
-known : (h : Option ℕ) → h ≢ None → (id : ℕ) × (h ≡ Some id)
+-- an answer that isn't none is some number
+pub known : (h : Option ℕ) → h ≢ None → (id : ℕ) × (h ≡ Some id)
 known None some = absurd (some refl)
 known (Some id) some = (id, refl)
 
-none_kept : (packet : Option OpenPacket) → kept_of packet ≡ None → packet ≡ None
+-- if nothing is kept of a packet, no packet is open
+pub none_kept : (packet : Option OpenPacket) → kept_of packet ≡ None → packet ≡ None
 none_kept None e = refl
 none_kept (Some p) e = absurd cc
 
@@ -70,6 +72,7 @@ pushed : (packets : List (List ℕ)) (packet : List ℕ) → has_any (packets ++
 pushed [] packet = refl
 pushed (x ∷ packets) packet = refl
 
+-- a packet changes no hello
 pub hello_stays : (c : ChannelProgress) (packet : List ℕ) (sync : Bool) → is_sync packet ≡ sync → (after_packet c packet).hello ≡ c.hello
 hello_stays c packet true e = ap (λ (b : Bool). (by_sync c packet b).hello) e
 hello_stays c packet false e = ap (λ (b : Bool). (by_sync c packet b).hello) e
@@ -94,16 +97,18 @@ fed_grown text taken old new fed has_fed = omega (arith, fed, has_fed, length-ap
 -- ---- a hello
 
 judged_item : (given : Settings) (read : ChannelProgress) (front : List ℕ) (old : PageHolder) (bytes : List ℕ) → old.given ≡ given → old.hello ≡ read.hello
-    → old.room ≡ room_after given.waiting read.packets → Front (from given) front read → IsJudged old bytes → (length bytes ≡ judged_len read.page_size read.hello) × (first_fault read bytes ≡ None)
+    → old.room ≡ room_after given.waiting read.packets → Front (from given) front read → IsJudged old bytes
+    → (length bytes ≡ judged_len read.page_size read.hello) × (first_fault read bytes ≡ None)
 judged_item given read front old bytes same hello room f j = (
   j.has_length ∙ ap (λ (x : Settings). judged_len x.page_size old.hello) same ∙ ap (λ (n : ℕ). judged_len n old.hello) (sym (same_size given read front f))
       ∙ ap (judged_len read.page_size) hello,
   fault_same given read front old.hello old.room bytes f hello room ∙ ap (λ (x : Settings). fault_of x old.hello old.room bytes) (sym same) ∙ j.has_no_fault,
 )
 
+-- a hello that is read is added to the channel's progress
 pub moves_hello : (given : Settings) (text : List ℕ) (read : ChannelProgress) (packet : Option OpenPacket) (id : ℕ) (taken : List ℕ) (old new : PageHolder)
-    → Moves (came.Hello id) taken old new → new.fed ≡ old.fed + length taken → Gives given text (so_far read packet) old
-    → Gives given (text ++ taken) (with_came (came.Hello id) new (so_far read packet)) new
+    → Moves (event.Hello id) taken old new → new.fed ≡ old.fed + length taken → Gives given text (so_far read packet) old
+    → Gives given (text ++ taken) (with_came (event.Hello id) new (so_far read packet)) new
 moves_hello given text read (Some p) id taken old new m fed g =
     absurd (let clash : None ≡ Some (p.head, length p.pages) = sym m.1.has_none_begun ∙ g.has_packet in cc)
 moves_hello given text read None id taken old new m fed g =
@@ -142,9 +147,11 @@ gives_packet : (given : Settings) (text front : List ℕ) (read : ChannelProgres
     → new.given ≡ given → new.fed ≡ length text → new.kept ≡ kept → new.found ≡ Reading → new.packet ≡ Some (p.head, length p.pages)
     → new.hello ≡ read.hello → new.has_packets ≡ has_any read.packets → new.room ≡ room_after given.waiting read.packets
     → Gives given text (so_far read (Some p)) new
-gives_packet given text front read p id kept new is_size f has_text hello is free short none same fed same_kept reading packet same_hello same_packets same_room =
+gives_packet given text front read p id kept new is_size f has_text hello is free short none same fed same_kept reading packet
+    same_hello same_packets same_room =
     let size = same_size given read front f in
-    let done : Reads (from given) text (read_to read (Some p)) (open_bytes (Some p) ++ kept) Reading = packet_reads (from given) read id front text p kept hello f
+    let done : Reads (from given) text (read_to read (Some p)) (open_bytes (Some p) ++ kept) Reading =
+    packet_reads (from given) read id front text p kept hello f
     has_text (subst (λ (n : ℕ). IsOpenPacket n p) (sym size) is) free (omega (arith, short, size)) none in
     record {
       is_page_size = is_size;
@@ -166,9 +173,10 @@ size_large : (size : ℕ) → IsPageSize size → 0 < size
 size_large size (inl e) = omega (arith, e)
 size_large size (inr e) = omega (arith, e)
 
+-- a head that is read opens its packet
 pub moves_head : (given : Settings) (text : List ℕ) (read : ChannelProgress) (packet : Option OpenPacket) (taken : List ℕ) (old new : PageHolder)
-    → Moves came.Head taken old new → new.fed ≡ old.fed + length taken → Gives given text (so_far read packet) old
-    → Gives given (text ++ taken) (with_came came.Head new (so_far read packet)) new
+    → Moves event.Head taken old new → new.fed ≡ old.fed + length taken → Gives given text (so_far read packet) old
+    → Gives given (text ++ taken) (with_came event.Head new (so_far read packet)) new
 moves_head given text read (Some p) taken old new m fed g =
     absurd (let clash : None ≡ Some (p.head, length p.pages) = sym m.1.has_none_begun ∙ g.has_packet in cc)
 moves_head given text read None taken old new m fed g =
@@ -212,10 +220,11 @@ page_bytes : (p : OpenPacket) (x : NormalPage) (kept taken : List ℕ) → x.con
 page_bytes p x kept taken e = append-nil (bytes_of (record p { pages = p.pages ++ x ∷ [] })) ∙ bytes_push p x ∙ ap (λ (y : List ℕ). bytes_of p ++ y) e
     ∙ sym (append_assoc (bytes_of p) kept taken)
 
+-- a page that is read is added to the open packet
 pub moves_page : (given : Settings) (text : List ℕ) (read : ChannelProgress) (packet : Option OpenPacket) (offset : ℕ) (page : PageContent) (taken : List ℕ)
-    (old new : PageHolder) → Moves (came.Page offset page) taken old new → new.fed ≡ old.fed + length taken
+    (old new : PageHolder) → Moves (event.Page offset page) taken old new → new.fed ≡ old.fed + length taken
     → Gives given text (so_far read packet) old
-    → Gives given (text ++ taken) (with_came (came.Page offset page) new (so_far read packet)) new
+    → Gives given (text ++ taken) (with_came (event.Page offset page) new (so_far read packet)) new
 moves_page given text read None offset page taken old new m fed g =
     absurd (let clash : None ≡ Some m.0 = sym g.has_packet ∙ m.1.is_begun in cc)
 moves_page given text read (Some p) offset page taken old new m fed g =
@@ -241,9 +250,11 @@ moves_page given text read (Some p) offset page taken old new m fed g =
     (subst (λ (n : ℕ). IsOpenPacket n p) (sym size) is) r0 in
     let bytes_are : bytes_of q ++ [] ≡ (bytes_of p ++ old.kept) ++ taken = page_bytes p x old.kept taken m.2 in
     let len : length (p.pages ++ x ∷ []) ≡ length p.pages + 1 = omega (arith, length-append p.pages (x ∷ [])) in
-    let now : new.packet ≡ Some (q.head, length q.pages) = ap (λ (y : PageHolder). y.packet) e ∙ one_more m.0.0 p.head m.0.1 (length p.pages) (length q.pages) head count len in
+    let now : new.packet ≡ Some (q.head, length q.pages) = ap (λ (y : PageHolder). y.packet) e
+    ∙ one_more m.0.0 p.head m.0.1 (length p.pages) (length q.pages) head count len in
     gives_packet given (text ++ taken) r0.front read q told.0 [] new g.is_page_size r0.leads
-    (grown_text text r0.front (bytes_of p ++ old.kept) taken r0.has_text ∙ ap (λ (y : List ℕ). r0.front ++ y) (sym bytes_are)) told.1 open_q free large (λ _. refl)
+    (grown_text text r0.front (bytes_of p ++ old.kept) taken r0.has_text
+    ∙ ap (λ (y : List ℕ). r0.front ++ y) (sym bytes_are)) told.1 open_q free large (λ _. refl)
     (ap (λ (y : PageHolder). y.given) e ∙ g.has_settings) (fed_grown text taken old.fed new.fed fed g.has_fed) (ap (λ (y : PageHolder). y.kept) e)
     (ap (λ (y : PageHolder). y.found) e ∙ step.is_reading) now (ap (λ (y : PageHolder). y.hello) e ∙ g.has_hello)
     (ap (λ (y : PageHolder). y.has_packets) e ∙ g.has_packets) (ap (λ (y : PageHolder). y.room) e ∙ g.has_room)
@@ -257,10 +268,12 @@ short_none r (Some x) e short = absurd cc
 short_some : (r : PageHolder) (o : Option (List ℕ × ℕ)) (x : List ℕ × ℕ) → o ≡ Some x → IsShort r o
     → (x.1 < normal_count x.0) × (length r.kept < r.given.page_size) × (r.hello ≢ None)
 short_some r None x e short = absurd cc
-short_some r (Some y) x e short = let same : y ≡ x = cc in subst (λ (z : List ℕ × ℕ). (z.1 < normal_count z.0) × (length r.kept < r.given.page_size) × (r.hello ≢ None)) same short
+short_some r (Some y) x e short = let same : y ≡ x = cc in
+    subst (λ (z : List ℕ × ℕ). (z.1 < normal_count z.0) × (length r.kept < r.given.page_size) × (r.hello ≢ None)) same short
 
+-- bytes that complete nothing are kept
 pub moves_more : (given : Settings) (text : List ℕ) (read : ChannelProgress) (packet : Option OpenPacket) (taken : List ℕ) (old new : PageHolder)
-    → Moves came.More taken old new → new.fed ≡ old.fed + length taken → Gives given text (so_far read packet) old
+    → Moves event.More taken old new → new.fed ≡ old.fed + length taken → Gives given text (so_far read packet) old
     → Gives given (text ++ taken) (so_far read packet) new
 moves_more given text read None taken old new m fed g =
     let e : new ≡ record old { kept = old.kept ++ taken; page = new.page; fed = new.fed } = m.2 in
@@ -303,10 +316,12 @@ moves_more given text read (Some p) taken old new m fed g =
     (grown_text text r.front (bytes_of p ++ old.kept) taken r.has_text ∙ ap (λ (y : List ℕ). r.front ++ y) (append_assoc (bytes_of p) old.kept taken))
     told.1 g.is_open free (omega (arith, short.1, size, ap length kept)) (λ all. absurd (omega (arith, all, few)))
     same (fed_grown text taken old.fed new.fed fed g.has_fed) kept (ap (λ (y : PageHolder). y.found) e ∙ m.0) begun
-    (ap (λ (y : PageHolder). y.hello) e ∙ g.has_hello) (ap (λ (y : PageHolder). y.has_packets) e ∙ g.has_packets) (ap (λ (y : PageHolder). y.room) e ∙ g.has_room)
+    (ap (λ (y : PageHolder). y.hello) e ∙ g.has_hello) (ap (λ (y : PageHolder). y.has_packets) e ∙ g.has_packets)
+    (ap (λ (y : PageHolder). y.room) e ∙ g.has_room)
 
 -- ---- a packet that is complete
 
+-- packets wait for a SYNC after a packet without one
 pub sync_has_any : (c : ChannelProgress) (packet : List ℕ) (sync : Bool) → is_sync packet ≡ sync → has_any (after_packet c packet).packets ≡ not sync
 sync_has_any c packet true e = ap (λ (b : Bool). has_any (by_sync c packet b).packets) e
 sync_has_any c packet false e = ap (λ (b : Bool). has_any (by_sync c packet b).packets) e ∙ pushed c.packets packet
@@ -329,14 +344,22 @@ room_said : (waiting room : Option ℕ) (head packet : List ℕ) → is_sync hea
     → next_room waiting room head ≡ next_room waiting room packet
 room_said waiting room head packet syncs weighs = λ i. cond (syncs i) waiting (less_room room (weighs i))
 
-pub moves_packet : (given : Settings) (text : List ℕ) (read : ChannelProgress) (packet : Option OpenPacket) (sync : Bool) (taken : List ℕ) (old new : PageHolder)
-    → Moves (came.Packet sync) taken old new → new.fed ≡ old.fed + length taken → Gives given text (so_far read packet) old
-    → Gives given (text ++ taken) (with_came (came.Packet sync) new (so_far read packet)) new
+-- a packet that ends is added to the channel's progress
+pub moves_packet : (given : Settings) (text : List ℕ) (read : ChannelProgress) (packet : Option
+    OpenPacket) (sync : Bool) (taken : List ℕ) (old new : PageHolder)
+    → Moves (event.Packet sync) taken old new → new.fed ≡ old.fed + length taken → Gives given text (so_far read packet) old
+    → Gives given (text ++ taken) (with_came (event.Packet sync) new (so_far read packet)) new
 moves_packet given text read None sync taken old new m fed g =
     absurd (let clash : None ≡ Some (m.0, normal_count m.0) = sym g.has_packet ∙ m.1.is_begun in cc)
 moves_packet given text read (Some p) sync taken old new m fed g =
     let step : IsLast sync m.0 old new = m.1 in
-    let e : new ≡ record old { packet = None; kept = []; page = new.page; has_packets = not sync; room = next_room old.given.waiting old.room m.0 } = step.leaves in
+    let e : new ≡ record old {
+      packet = None;
+      kept = [];
+      page = new.page;
+      has_packets = not sync;
+      room = next_room old.given.waiting old.room m.0;
+    } = step.leaves in
     let begun : Some (m.0, normal_count m.0) ≡ Some (p.head, length p.pages) = sym step.is_begun ∙ g.has_packet in
     let same_packet : (m.0, normal_count m.0) ≡ (p.head, length p.pages) = cc in
     let head : m.0 ≡ p.head = ap (λ (x : List ℕ × ℕ). x.0) same_packet in
@@ -350,7 +373,8 @@ moves_packet given text read (Some p) sync taken old new m fed g =
       has_settings = ap (λ (x : PageHolder). x.given) e ∙ g.has_settings;
       has_fed = fed_grown text taken old.fed new.fed fed g.has_fed;
       reads = reads_by (from given) text (text ++ taken) (after_packet read bytes) [] old.kept new.kept old.found new.found
-          (ap (λ (x : List ℕ). text ++ x) m.2 ∙ append-nil text) (ap (λ (x : PageHolder). x.kept) e ∙ sym step.has_kept) (ap (λ (x : PageHolder). x.found) e) done;
+          (ap (λ (x : List ℕ). text ++ x) m.2 ∙ append-nil text) (ap (λ (x : PageHolder). x.kept) e ∙ sym step.has_kept)
+          (ap (λ (x : PageHolder). x.found) e) done;
       is_open = tt;
       is_reading = tt;
       has_packet = ap (λ (x : PageHolder). x.packet) e;
@@ -364,8 +388,9 @@ moves_packet given text read (Some p) sync taken old new m fed g =
 
 -- ---- a fault
 
+-- bytes after the end of the reading are only counted
 pub moves_over : (given : Settings) (text : List ℕ) (read : ChannelProgress) (packet : Option OpenPacket) (taken : List ℕ) (old new : PageHolder)
-    → Moves came.Over taken old new → new.fed ≡ old.fed + length taken → Gives given text (so_far read packet) old
+    → Moves event.Over taken old new → new.fed ≡ old.fed + length taken → Gives given text (so_far read packet) old
     → Gives given (text ++ taken) (so_far read packet) new
 moves_over given text read packet taken old new (inl m) fed g =
     let same_text : text ≡ text ++ taken = sym (append-nil text) ∙ ap (λ (x : List ℕ). text ++ x) (sym m.1) in
@@ -397,57 +422,62 @@ moves_over given text read None taken old new (inr m) fed g =
 
 -- ---- one call
 
-moves : (given : Settings) (text : List ℕ) (read : ChannelProgress) (packet : Option OpenPacket) (answer : Came) (taken : List ℕ) (old new : PageHolder)
+moves : (given : Settings) (text : List ℕ) (read : ChannelProgress) (packet : Option OpenPacket) (answer : ChannelEvent) (taken : List ℕ) (old new : PageHolder)
     → Moves answer taken old new → new.fed ≡ old.fed + length taken → Gives given text (so_far read packet) old
     → Gives given (text ++ taken) (with_came answer new (so_far read packet)) new
-moves given text read packet (came.Hello id) taken old new m fed g = moves_hello given text read packet id taken old new m fed g
-moves given text read packet came.Head taken old new m fed g = moves_head given text read packet taken old new m fed g
-moves given text read packet (came.Page offset page) taken old new m fed g = moves_page given text read packet offset page taken old new m fed g
-moves given text read packet (came.Packet sync) taken old new m fed g = moves_packet given text read packet sync taken old new m fed g
-moves given text read packet came.More taken old new m fed g = moves_more given text read packet taken old new m fed g
-moves given text read packet came.Over taken old new m fed g = moves_over given text read packet taken old new m fed g
+moves given text read packet (event.Hello id) taken old new m fed g = moves_hello given text read packet id taken old new m fed g
+moves given text read packet event.Head taken old new m fed g = moves_head given text read packet taken old new m fed g
+moves given text read packet (event.Page offset page) taken old new m fed g = moves_page given text read packet offset page taken old new m fed g
+moves given text read packet (event.Packet sync) taken old new m fed g = moves_packet given text read packet sync taken old new m fed g
+moves given text read packet event.More taken old new m fed g = moves_more given text read packet taken old new m fed g
+moves given text read packet event.Over taken old new m fed g = moves_over given text read packet taken old new m fed g
 
-pub steps_give : (answer : Came) (count : ℕ) (piece : List ℕ) (old new : PageHolder) → Steps answer count piece old new → GivesOn (take count piece) answer old new
+-- a step of the reader gives what it returns of the bytes that it took
+pub steps_give : (answer : ChannelEvent) (count : ℕ) (piece : List ℕ) (old new : PageHolder) → Steps answer count piece old new
+    → GivesOn (take count piece) answer old new
 steps_give answer count piece old new s = λ given text given_so_far g.
     let len : length (take count piece) ≡ count = length-take-le count piece s.takes in
     let fed : new.fed ≡ old.fed + length (take count piece) = omega (arith, s.has_fed, len) in
     moves given text given_so_far.read given_so_far.packet answer (take count piece) old new s.moves fed g
 
 -- what comes after what was given
-comes : (given : Settings) (text : List ℕ) (read : ChannelProgress) (packet : Option OpenPacket) (answer : Came) (taken : List ℕ) (old new : PageHolder)
+comes : (given : Settings) (text : List ℕ) (read : ChannelProgress) (packet : Option OpenPacket) (answer : ChannelEvent) (taken : List ℕ) (old new : PageHolder)
     → Moves answer taken old new → Gives given text (so_far read packet) old → Comes given.page_size answer (so_far read packet)
-comes given text read packet (came.Hello id) taken old new m g = (sym g.has_hello ∙ m.0, none_kept packet (sym g.has_packet ∙ m.1.has_none_begun))
-comes given text read packet came.Head taken old new m g = (λ none. m.0 (g.has_hello ∙ none), none_kept packet (sym g.has_packet ∙ m.1.has_none_begun))
-comes given text read None (came.Page offset page) taken old new m g = absurd (let clash : None ≡ Some m.0 = sym g.has_packet ∙ m.1.is_begun in cc)
-comes given text read (Some p) (came.Page offset page) taken old new m g =
+comes given text read packet (event.Hello id) taken old new m g = (sym g.has_hello ∙ m.0, none_kept packet (sym g.has_packet ∙ m.1.has_none_begun))
+comes given text read packet event.Head taken old new m g = (λ none. m.0 (g.has_hello ∙ none), none_kept packet (sym g.has_packet ∙ m.1.has_none_begun))
+comes given text read None (event.Page offset page) taken old new m g = absurd (let clash : None ≡ Some m.0 = sym g.has_packet ∙ m.1.is_begun in cc)
+comes given text read (Some p) (event.Page offset page) taken old new m g =
     let begun : Some m.0 ≡ Some (p.head, length p.pages) = sym m.1.is_begun ∙ g.has_packet in
     let same : m.0 ≡ (p.head, length p.pages) = cc in
     let head = ap (λ (x : List ℕ × ℕ). normal_count x.0) same in
     let count = ap (λ (x : List ℕ × ℕ). x.1) same in omega (arith, m.1.is_left, head, count)
-comes given text read None (came.Packet sync) taken old new m g = absurd (let clash : None ≡ Some (m.0, normal_count m.0) = sym g.has_packet ∙ m.1.is_begun in cc)
-comes given text read (Some p) (came.Packet sync) taken old new m g =
+comes given text read None (event.Packet sync) taken old new m g =
+    absurd (let clash : None ≡ Some (m.0, normal_count m.0) = sym g.has_packet ∙ m.1.is_begun in cc)
+comes given text read (Some p) (event.Packet sync) taken old new m g =
     let begun : Some (m.0, normal_count m.0) ≡ Some (p.head, length p.pages) = sym m.1.is_begun ∙ g.has_packet in
     let same : (m.0, normal_count m.0) ≡ (p.head, length p.pages) = cc in
     let head : m.0 ≡ p.head = ap (λ (x : List ℕ × ℕ). x.0) same in
     let all : length p.pages ≡ normal_count p.head = sym (ap (λ (x : List ℕ × ℕ). x.1) same) ∙ ap normal_count head in
     let told : is_sync p.head ≡ sync = ap is_sync (sym head) ∙ sym m.1.has_sync in
     subst (Completes given.page_size p) told (completes given.page_size p g.is_open all)
-comes given text read packet came.More taken old new m g = tt
-comes given text read packet came.Over taken old new m g = tt
+comes given text read packet event.More taken old new m g = tt
+comes given text read packet event.Over taken old new m g = tt
 
-pub steps_come : (answer : Came) (count : ℕ) (piece : List ℕ) (old new : PageHolder) → Steps answer count piece old new
+-- a step of the reader returns what comes next of the bytes
+pub steps_come : (answer : ChannelEvent) (count : ℕ) (piece : List ℕ) (old new : PageHolder) → Steps answer count piece old new
     → HolderTells old (λ given text given_so_far. Comes given.page_size answer given_so_far)
 steps_come answer count piece old new s = λ given text given_so_far g.
     comes given text given_so_far.read given_so_far.packet answer (take count piece) old new s.moves g
 
 -- nothing is held back
-needs : (answer : Came) (taken : List ℕ) (old new : PageHolder) → Moves answer taken old new → NeedsMore answer new
-needs (came.Hello id) taken old new m = tt
-needs came.Head taken old new m = tt
-needs (came.Page offset page) taken old new m = tt
-needs (came.Packet sync) taken old new m = tt
-needs came.More taken old new m = m.1
-needs came.Over taken old new m = tt
+needs : (answer : ChannelEvent) (taken : List ℕ) (old new : PageHolder) → Moves answer taken old new → NeedsMore answer new
+needs (event.Hello id) taken old new m = tt
+needs event.Head taken old new m = tt
+needs (event.Page offset page) taken old new m = tt
+needs (event.Packet sync) taken old new m = tt
+needs event.More taken old new m = m.1
+needs event.Over taken old new m = tt
 
-pub steps_need : (answer : Came) (count : ℕ) (piece : List ℕ) (old new : PageHolder) → Steps answer count piece old new → NeedsMore answer new
+-- a reader that asks for more needs more
+pub steps_need : (answer : ChannelEvent) (count : ℕ) (piece : List ℕ) (old new : PageHolder) → Steps answer count piece old new → NeedsMore answer new
 steps_need answer count piece old new s = needs answer (take count piece) old new s.moves

@@ -18,11 +18,13 @@ open_is size (Some p) is =
     ]
 
 -- the others are complete items without a fault
-pub valid_place : (r : PageHolder) (n : ℕ) → n ≡ (r.fed - open_len r.given.page_size r.packet) - length r.kept → HolderTells r (λ given text so_far. IsValidUpTo given text n)
+pub valid_place : (r : PageHolder) (n : ℕ) → n ≡ (r.fed - open_len r.given.page_size r.packet) - length r.kept
+    → HolderTells r (λ given text so_far. IsValidUpTo given text n)
 valid_place r n e = λ given text so_far g.
     let rest : List ℕ = open_bytes so_far.packet ++ r.kept in
     let open_ : open_len r.given.page_size r.packet ≡ length (open_bytes so_far.packet) =
-    ap (λ (o : Option (List ℕ × ℕ)). open_len r.given.page_size o) g.has_packet ∙ ap (λ (s : Settings). open_len s.page_size (kept_of so_far.packet)) g.has_settings
+    ap (λ (o : Option (List ℕ × ℕ)). open_len r.given.page_size o) g.has_packet
+    ∙ ap (λ (s : Settings). open_len s.page_size (kept_of so_far.packet)) g.has_settings
     ∙ open_is given.page_size so_far.packet g.is_open in
     let text_len : length text ≡ length (g.reads.front ++ rest) = ap (λ (l : List ℕ). length l) g.reads.has_text in
     let fed = g.has_fed in

@@ -17,6 +17,7 @@ use Rattle.mig_packet.proofs.Parts.{sync_back, flags_small, length-written_id, i
 
 -- ---- a hello
 
+-- a hello that is written is one for its id and UUID
 pub hello_back : (uuid : List ℕ) (id : ℕ) → length uuid ≡ 16 → IsHello uuid id (written_hello uuid id)
 unfolding be32 be32_at
 hello_back uuid id len =
@@ -41,7 +42,8 @@ fields_same : (m n : ℕ) (s t : Bool) (i j : List ℕ) (a b : List NormalPage) 
     → ◌≡◌ {A = Fields} (record { number = m; sync = s; id = i; normal = a; zero = y }) (record { number = n; sync = t; id = j; normal = b; zero = z })
 fields_same m n s t i j a b y z number sync id normal zero = cc
 
-page_same : (m n : ℕ) (x y : List ℕ) → m ≡ n → x ≡ y → ◌≡◌ {A = NormalPage} (record { offset = m; content = x }) (record { offset = n; content = y })
+-- pages of equal offsets and contents are equal
+pub page_same : (m n : ℕ) (x y : List ℕ) → m ≡ n → x ≡ y → ◌≡◌ {A = NormalPage} (record { offset = m; content = x }) (record { offset = n; content = y })
 page_same m n x y offset content = cc
 
 -- the normal pages that are read are those that were written

@@ -41,6 +41,7 @@ room_longer waiting room left packets now packet old less e =
 pub room_again : (waiting : Option ℕ) (now : List (List ℕ)) → now ≡ [] → waiting ≡ room_after waiting now
 room_again waiting now e = sym (ap (room_after waiting) e ∙ room_at_first waiting)
 
+-- a number whose test for none fails isn't none
 pub some_there : (h : Option ℕ) → is_none h ≡ false → h ≢ None
 some_there None off = absurd cc
 some_there (Some id) off = λ e. absurd cc

@@ -7,7 +7,7 @@ use Rattle.mig_packet.specs.declared.state.ChannelState.{ChannelState}
 use Rattle.mig_packet.specs.declared.state.ChannelState.TheVariants.{Reading, Closed, Bad}
 use Rattle.mig_packet.specs.Progress.{ChannelProgress, start}
 use Rattle.mig_packet.specs.Reading.{Reads, ChannelReading, Settings, IsReading, state_at, state_at_end}
-use Rattle.mig_packet.specs.Reader.{Reader, RoundOfPackets, IsUnfinished, ReadsOn, with_taken, HasState, IsSettled, HasHello, HasRound}
+use Rattle.mig_packet.specs.Reader.{Reader, RoundOfPackets, IsUnfinished, ReadsOn, with_taken, HasState, IsFinal, HasHello, HasRound}
 use Rattle.mig_packet.specs.Reader.{SoFar, Stands, StepsOn, Tells, nothing_yet, with_piece, one_taken, waiting}
 use Rattle.mig_packet.proofs.Feeding.{reads_short}
 use Rattle.mig_packet.proofs.Later.{Reads-on, Reads-more, IsLater-front}
@@ -18,7 +18,8 @@ abbrev from : Settings → ChannelProgress
 from given = start given.page_size given.uuid given.channels given.waiting
 
 -- before the first byte
-pub stands_first : (given : Settings) (r : Reader) → r.progress ≡ from given → r.pending ≡ [] → r.found ≡ Reading → r.valid_up_to ≡ 0 → r.fed ≡ 0 → r.ended ≡ false
+pub stands_first : (given : Settings) (r : Reader) → r.progress ≡ from given → r.pending ≡ [] → r.found ≡ Reading
+    → r.valid_up_to ≡ 0 → r.fed ≡ 0 → r.ended ≡ false
     → Stands given nothing_yet r
 stands_first given r progress pending found valid fed ended =
     let none : IsUnfinished (from given) [] = record { has_no_fault = refl; is_short = λ le. absurd (omega (arith, le)) } in
@@ -54,7 +55,15 @@ fed_on old mid piece left valid_up_to at_is reading run same_fed same_ended = λ
       has_pending = run.has_rest;
       has_valid_up_to =
           let bytes : length (text ++ piece) ≡ length s.reads.front + length run.reads.front + length run.rest =
-          length-append text piece ∙ omega (arith, ap length s.reads.has_text, length-append s.reads.front s.rest, ap length kept, ap length run.reads.has_text, length-append old.pending piece, length-append run.reads.front run.rest) in
+          length-append text piece ∙ omega (
+            arith,
+            ap length s.reads.has_text,
+            length-append s.reads.front s.rest,
+            ap length kept,
+            ap length run.reads.has_text,
+            length-append old.pending piece,
+            length-append run.reads.front run.rest,
+          ) in
           omega (arith, at_is, bytes, run.has_left, same_fed, s.has_fed, length-append text piece);
     }
 
@@ -94,12 +103,14 @@ taken_on old new round same same_pending same_found same_valid same_fed same_end
 abbrev IsTakenFrom : ChannelProgress → ChannelProgress → RoundOfPackets → Type 0
 IsTakenFrom old new r = old ≡ with_taken (r.packets ∷ []) new
 
+-- a round that is taken leaves the reader as it stands after that
 pub taken_each : (o : Option RoundOfPackets) (old new : Reader) (c d : ChannelProgress) → old.progress ≡ c → new ≡ record old { progress = d }
     → IfSome o (IsTakenFrom c d) → IfSome o (λ r. StepsOn one_taken old new)
 taken_each None old new c d e f h = tt
 taken_each (Some r) old new c d e f h =
     taken_on old new r.packets (e ∙ h ∙ ap (λ (x : Reader). with_taken (r.packets ∷ []) x.progress) (sym f))
-    (ap (λ (x : Reader). x.pending) f) (ap (λ (x : Reader). x.found) f) (ap (λ (x : Reader). x.valid_up_to) f) (ap (λ (x : Reader). x.fed) f) (ap (λ (x : Reader). x.ended) f)
+    (ap (λ (x : Reader). x.pending) f) (ap (λ (x : Reader). x.found) f) (ap (λ (x : Reader). x.valid_up_to) f)
+    (ap (λ (x : Reader). x.fed) f) (ap (λ (x : Reader). x.ended) f)
 
 -- one round fewer waits
 pub fewer_each : (o : Option RoundOfPackets) (old new : Reader) (c d : ChannelProgress) → old.progress ≡ c → new.progress ≡ d
@@ -138,6 +149,7 @@ state_kept false c taken rest pending Reading same = refl
 state_kept false c taken rest pending Closed same = refl
 state_kept false c taken rest pending (Bad f) same = refl
 
+-- the state that a reader computes is the one of its channel so far
 pub state_stands : (r : Reader) (state : ChannelState) → state ≡ state_at r.ended r.progress r.pending r.found
     → Tells r (λ given so_far. HasState given so_far.text so_far.ended state)
 state_stands r state e = λ given so_far s. (
@@ -148,12 +160,13 @@ state_stands r state e = λ given so_far s. (
 )
 
 -- a reader that reads on represents no bytes with a fault
-pub not_settled : (r : Reader) → r.found ≡ Reading → Tells r (λ given so_far. IsSettled given so_far.text → ⊥)
+pub not_settled : (r : Reader) → r.found ≡ Reading → Tells r (λ given so_far. IsFinal given so_far.text → ⊥)
 not_settled r reading = λ given so_far s settled.
     let is : IsReading given so_far.text false settled.1.0 = settled.1.1 in
     let same = told_alone given so_far r false s settled.1.0 is in
     settled.2 (settled.1.2 ∙ is.has_state ∙ sym same.2 ∙ reading)
 
+-- the hello that a reader keeps is the one of its channel so far
 pub hello_stands : (r : Reader) (hello : Option ℕ) → hello ≡ r.progress.hello → Tells r (λ given so_far. HasHello given so_far.text hello)
 hello_stands r hello e = λ given so_far s. (told r s.rounds false s.rest, is_told given so_far r false s, e)
 
@@ -175,6 +188,7 @@ same_page_size given so_far r s = (IsLater-front (from given) (with_taken s.roun
 abbrev RoundIs : Reader → RoundOfPackets → Type 0
 RoundIs old r = Tells old (λ given so_far. (r.page_size ≡ given.page_size) × HasRound given so_far.text so_far.taken r.packets)
 
+-- a round that is taken is the channel's next one
 pub round_each : (o : Option RoundOfPackets) (old : Reader) (c d : ChannelProgress) → old.progress ≡ c
     → IfSome o (IsTakenFrom c d) → IfSome o (λ r. r.page_size ≡ c.page_size) → IfSome o (RoundIs old)
 round_each None old c d e h size = tt
@@ -193,6 +207,7 @@ no_round old none = λ given so_far s i round h.
     is.has_rounds ∙ ap (λ (x : ChannelProgress). x.rounds) (sym same.0) ∙ ap (λ (x : List (List (List ℕ))). s.rounds ++ x) none ∙ append-nil s.rounds in
     omega (arith, h.2, ap length rounds, s.has_taken)
 
+-- if no round is there, the channel has no further one
 pub none_each : (X : Type 0) (o : Option RoundOfPackets) (old : Reader) (c : ChannelProgress) → old.progress ≡ c
     → IfNone o ((c.rounds ≡ []) × X) → IfNone o (NoRound old)
 none_each X None old c e h = no_round old (ap (λ (x : ChannelProgress). x.rounds) e ∙ h.0)

@@ -7,7 +7,8 @@ use Rattle.mig_packet.specs.declared.state.ChannelState.TheVariants.{Reading, Cl
 use Rattle.mig_packet.specs.Faults.{first_of}
 use Rattle.mig_packet.specs.Progress.{ChannelProgress, judged_len, item_len, first_fault, due_fault, after}
 use Rattle.mig_packet.specs.Reading.{IsItem, AreFaultless, after_all, Ends, Reads}
-use Rattle.mig_packet.proofs.Fronts.{len-append, faults_stay, judged_le, cond_none}
+use Rattle.mig_packet.proofs.Fronts.{len-append, faults_stay, judged_le}
+use Rattle.mig_packet.proofs.Judging.{cond_none}
 
 -- of two items at one place one is the other
 pub one_item : (p : ℕ) (h : Option ℕ) (a b x y : List ℕ) → IsItem p h a → IsItem p h b → a ++ x ≡ b ++ y → (a ≡ b) × (x ≡ y)

@@ -1,7 +1,6 @@
 -- What packets count toward a limit, and the faults of a packet's head together with the limit.
-use Rattle.std.proofs.Common.{◌≡◌, ℕ, ◌+◌, ◌-◌, ◌≤◌, Bool, true, false, cond, eqb, List, [], ◌∷◌, ◌++◌, length, Option, Some, None}
-use Rattle.std.proofs.Common.{refl, sym, ap, ◌∙◌, arith}
-use Rattle.std.specs.Prelude.{sum_by}
+use Rattle.std.proofs.Common.{◌≡◌, ℕ, ◌-◌, ◌≤◌, Bool, true, false, List, [], ◌∷◌, ◌++◌, length, Option, Some, None}
+use Rattle.std.proofs.Common.{refl, ap, ◌∙◌, arith}
 use Rattle.std.proofs.lemmas.List.Sums.{sum_by_push}
 use Rattle.mig_packet.specs.declared.fault.ChannelFault.{ChannelFault}
 use Rattle.mig_packet.specs.declared.fault.ChannelFault.TheVariants as fault
@@ -47,11 +46,13 @@ free_within page_size room bytes free fits =
 
 -- ---- what follows a packet's head changes nothing
 
+-- a packet's weight stays if more bytes follow its head
 pub weight-front : (page_size : ℕ) (a b : List ℕ) → head_len page_size ≤ length a → weight (a ++ b) ≡ weight a
 weight-front page_size a b le =
     let e16 = be32_at-front 16 a b (omega arith) in
     let e32 = be32_at-front 32 a b (omega arith) in rw (e16, e32) refl
 
+-- the faults within a room stay if more bytes follow the head
 pub faults_within-front : (page_size : ℕ) (room : Option ℕ) (a b : List ℕ) → head_len page_size ≤ length a
     → packet_faults_within page_size room (a ++ b) ≡ packet_faults_within page_size room a
 faults_within-front page_size room a b le =
@@ -60,10 +61,12 @@ faults_within-front page_size room a b le =
 
 -- ---- room
 
+-- before the first packet there is the whole room
 pub room_at_first : (waiting : Option ℕ) → room_after waiting [] ≡ waiting
 room_at_first None = refl
 room_at_first (Some waiting) = let e : waiting - 0 ≡ waiting = omega arith in ap (λ (n : ℕ). Some n) e
 
+-- a packet that is kept lessens the room by its weight
 pub room_push : (waiting : Option ℕ) (packets : List (List ℕ)) (packet : List ℕ)
     → room_after waiting (packets ++ packet ∷ []) ≡ less_room (room_after waiting packets) (weight packet)
 room_push None packets packet = refl

@@ -1,5 +1,5 @@
 -- The packet at the beginning of bytes, where its round has some room.
-use Rattle.std.proofs.Common.{◌≡◌, ℕ, ◌≤◌, Bool, false, leb, List, ◌++◌, length, take, drop, Option, Some, None, sym, ap, subst, ◌∙◌, arith}
+use Rattle.std.proofs.Common.{◌≡◌, ℕ, ◌≤◌, false, leb, List, ◌++◌, length, take, drop, Option, Some, None, sym, ap, subst, ◌∙◌, arith}
 use Rattle.std.proofs.lemmas.List.{take-append-drop}
 use Rattle.mig_packet.specs.declared.front.PacketRead.{PacketRead}
 use Rattle.mig_packet.specs.declared.front.PacketRead.TheVariants as packet

@@ -1,5 +1,5 @@
 -- The hello or packet at the beginning of bytes, as `read_hello`, `read_packet` and
--- `read_packet_within` return it.
+-- `read_packet_with` return it.
 use Rattle.std.specs.Prelude.{◌≡◌, ℕ, ◌≤◌, ◌<◌, nat_le, if◌then◌else◌, List, ◌++◌, length, take, Option, Some, None, IsFalse}
 use Rattle.mig_packet.specs.declared.front.HelloRead.{HelloRead}
 use Rattle.mig_packet.specs.declared.front.HelloRead.TheVariants as hello

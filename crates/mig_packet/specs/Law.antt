@@ -11,7 +11,7 @@ use Rattle.mig_packet.specs.declared.fault.ChannelFault.TheVariants.{Waiting}
 use Rattle.mig_packet.specs.Waiting.{weight, weight_of_all, IsWithin}
 use Rattle.mig_packet.specs.Progress.{ChannelProgress, start, due_fault}
 use Rattle.mig_packet.specs.Reading.{Front, ChannelReading, Settings, with_waiting, IsReading}
-use Rattle.mig_packet.specs.Reader.{HasState, IsSettled, HasFront, IsValidUpTo}
+use Rattle.mig_packet.specs.Reader.{HasState, IsFinal, HasFront, IsValidUpTo}
 use Rattle.mig_packet.specs.ChannelItems.{ChannelItem, AreItems}
 
 -- The bytes that are written for a UUID and an id are a hello with them.
@@ -96,7 +96,7 @@ IsValidUpToOnePlace = (given : Settings) (text : List ℕ)
 -- More bytes leave the offset as it was, or increase it. Once the bytes have a fault, it stays.
 abbrev pub LongerTextsStayValid : Type 0
 LongerTextsStayValid = (given : Settings) (text more : List ℕ) (m n : ℕ) → IsValidUpTo given text m → IsValidUpTo given (text ++ more) n
-    → (m ≤ n) × (IsSettled given text → m ≡ n)
+    → (m ≤ n) × (IsFinal given text → m ≡ n)
 
 -- A channel that has ended and is closed is valid up to its last byte.
 abbrev pub ClosedIsValid : Type 0

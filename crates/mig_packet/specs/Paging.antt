@@ -6,8 +6,8 @@ use Rattle.std.specs.List.{All, flat_map, range_with_len}
 use Rattle.std.specs.Option.{IsSomeAnd}
 use Rattle.mig_packet.specs.declared.state.ChannelState.{ChannelState}
 use Rattle.mig_packet.specs.declared.state.ChannelState.TheVariants.{Reading}
-use Rattle.mig_packet.specs.declared.page_reader.Came.{Came}
-use Rattle.mig_packet.specs.declared.page_reader.Came.TheVariants as came
+use Rattle.mig_packet.specs.declared.page_reader.ChannelEvent.{ChannelEvent}
+use Rattle.mig_packet.specs.declared.page_reader.ChannelEvent.TheVariants as event
 use Rattle.mig_packet.specs.declared.page_reader.PageContent.{PageContent}
 use Rattle.mig_packet.specs.declared.page_reader.PageContent.TheVariants as content
 use Rattle.mig_packet.specs.PageSize.{IsPageSize, head_len}
@@ -90,13 +90,13 @@ head_kept None = []
 head_kept (Some packet) = packet.0
 
 -- the results given, with this one
-abbrev pub with_came : Came → PageHolder → GivenSoFar → GivenSoFar
-with_came (came.Hello id) r so_far = record so_far { read = record so_far.read { hello = Some id } }
-with_came came.Head r so_far = record so_far { packet = Some (record { head = head_kept r.packet; pages = [] }) }
-with_came (came.Page offset page) r so_far = record so_far { packet = with_page offset (content_of page r) so_far.packet }
-with_came (came.Packet sync) r so_far = record { read = with_packet so_far.read so_far.packet; packet = None }
-with_came came.More r so_far = so_far
-with_came came.Over r so_far = so_far
+abbrev pub with_came : ChannelEvent → PageHolder → GivenSoFar → GivenSoFar
+with_came (event.Hello id) r so_far = record so_far { read = record so_far.read { hello = Some id } }
+with_came event.Head r so_far = record so_far { packet = Some (record { head = head_kept r.packet; pages = [] }) }
+with_came (event.Page offset page) r so_far = record so_far { packet = with_page offset (content_of page r) so_far.packet }
+with_came (event.Packet sync) r so_far = record { read = with_packet so_far.read so_far.packet; packet = None }
+with_came event.More r so_far = so_far
+with_came event.Over r so_far = so_far
 
 -- how far the bytes are read: a packet is complete with its last page
 abbrev pub read_to : ChannelProgress → Option OpenPacket → ChannelProgress
@@ -138,7 +138,7 @@ HolderTells r says = (given : Settings) (text : List ℕ) (so_far : GivenSoFar) 
 
 -- A call takes these bytes and returns this result: what the reader gave before, it has given with
 -- the result added.
-abbrev pub GivesOn : List ℕ → Came → PageHolder → PageHolder → Type 0
+abbrev pub GivesOn : List ℕ → ChannelEvent → PageHolder → PageHolder → Type 0
 GivesOn taken answer old new = (given : Settings) (text : List ℕ) (so_far : GivenSoFar)
     → Gives given text so_far old → Gives given (text ++ taken) (with_came answer new so_far) new
 
@@ -152,18 +152,18 @@ pub record Completes (page_size : ℕ) (packet : OpenPacket) (sync : Bool) : Typ
   pub has_pages : said.normal ≡ packet.pages
 
 -- the result that follows those given so far
-abbrev pub Comes : ℕ → Came → GivenSoFar → Type 0
-Comes page_size (came.Hello id) so_far = (so_far.read.hello ≡ None) × (so_far.packet ≡ None)
-Comes page_size came.Head so_far = (so_far.read.hello ≢ None) × (so_far.packet ≡ None)
-Comes page_size (came.Page offset page) so_far = IsSomeAnd so_far.packet (λ packet. length packet.pages < normal_count packet.head)
-Comes page_size (came.Packet sync) so_far = IsSomeAnd so_far.packet (λ packet. Completes page_size packet sync)
+abbrev pub Comes : ℕ → ChannelEvent → GivenSoFar → Type 0
+Comes page_size (event.Hello id) so_far = (so_far.read.hello ≡ None) × (so_far.packet ≡ None)
+Comes page_size event.Head so_far = (so_far.read.hello ≢ None) × (so_far.packet ≡ None)
+Comes page_size (event.Page offset page) so_far = IsSomeAnd so_far.packet (λ packet. length packet.pages < normal_count packet.head)
+Comes page_size (event.Packet sync) so_far = IsSomeAnd so_far.packet (λ packet. Completes page_size packet sync)
 Comes page_size other so_far = ⊤
 
 -- More: all bytes of the piece were taken, and the next is needed. Over: the bytes taken have a
 -- fault, which is never within a packet that was begun, or the channel was ended.
-abbrev pub Stops : Came → ℕ → List ℕ → PageHolder → Type 0
-Stops came.More taken piece r = (taken ≡ length piece) × (r.found ≡ Reading) × IsFalse r.ended
-Stops came.Over taken piece r = ((r.found ≢ Reading) × (r.packet ≡ None)) ⊎ IsTrue r.ended
+abbrev pub Stops : ChannelEvent → ℕ → List ℕ → PageHolder → Type 0
+Stops event.More taken piece r = (taken ≡ length piece) × (r.found ≡ Reading) × IsFalse r.ended
+Stops event.Over taken piece r = ((r.found ≢ Reading) × (r.packet ≡ None)) ⊎ IsTrue r.ended
 Stops other taken piece r = ⊤
 
 -- Fewer bytes are kept than the hello or the head has, or than the next page of the packet.
@@ -172,18 +172,18 @@ IsShort r None = length r.kept < judged_len r.given.page_size r.hello
 IsShort r (Some packet) = (packet.1 < normal_count packet.0) × (length r.kept < r.given.page_size) × (r.hello ≢ None)
 
 -- So all that can be given is given.
-abbrev pub NeedsMore : Came → PageHolder → Type 0
-NeedsMore came.More r = IsShort r r.packet
+abbrev pub NeedsMore : ChannelEvent → PageHolder → Type 0
+NeedsMore event.More r = IsShort r r.packet
 NeedsMore other r = ⊤
 
 -- a page is complete
-abbrev pub IsWhole : Came → PageHolder → Type 0
-IsWhole (came.Page offset page) r = length (content_of page r) ≡ r.given.page_size
+abbrev pub IsWhole : ChannelEvent → PageHolder → Type 0
+IsWhole (event.Page offset page) r = length (content_of page r) ≡ r.given.page_size
 IsWhole other r = ⊤
 
 -- Only a page that a piece cut is copied: a page that is complete in the piece is lent from it.
-abbrev pub CopiesCutPages : Came → List ℕ → PageHolder → Type 0
-CopiesCutPages (came.Page offset content.Kept) piece old = (old.kept ≢ []) ⊎ (length piece < old.given.page_size)
+abbrev pub CopiesCutPages : ChannelEvent → List ℕ → PageHolder → Type 0
+CopiesCutPages (event.Page offset content.Kept) piece old = (old.kept ≢ []) ⊎ (length piece < old.given.page_size)
 CopiesCutPages other piece old = ⊤
 
 -- ---- how much is left
@@ -197,9 +197,9 @@ abbrev pub left : ℕ → PageHolder → ℕ
 left bytes r = 2 * bytes + one_if_begun r.packet
 
 -- a call that neither needs more nor finds the end leaves less
-abbrev pub LeavesLess : Came → ℕ → List ℕ → PageHolder → PageHolder → Type 0
-LeavesLess came.More taken piece old new = ⊤
-LeavesLess came.Over taken piece old new = ⊤
+abbrev pub LeavesLess : ChannelEvent → ℕ → List ℕ → PageHolder → PageHolder → Type 0
+LeavesLess event.More taken piece old new = ⊤
+LeavesLess event.Over taken piece old new = ⊤
 LeavesLess other taken piece old new = left (length piece - taken) new < left (length piece) old
 
 -- ---- its results

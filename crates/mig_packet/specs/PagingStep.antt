@@ -4,8 +4,8 @@ use Rattle.mig_packet.specs.declared.state.ChannelState.{ChannelState}
 use Rattle.mig_packet.specs.declared.state.ChannelState.TheVariants.{Reading, Closed, Bad}
 use Rattle.mig_packet.specs.declared.fault.ChannelFault.TheVariants.{Truncated, Unsynced}
 use Rattle.mig_packet.specs.declared.fault.ChannelFault.{ChannelFault}
-use Rattle.mig_packet.specs.declared.page_reader.Came.{Came}
-use Rattle.mig_packet.specs.declared.page_reader.Came.TheVariants as came
+use Rattle.mig_packet.specs.declared.page_reader.ChannelEvent.{ChannelEvent}
+use Rattle.mig_packet.specs.declared.page_reader.ChannelEvent.TheVariants as event
 use Rattle.mig_packet.specs.declared.page_reader.PageContent.{PageContent}
 use Rattle.mig_packet.specs.declared.page_reader.PageContent.TheVariants as content
 use Rattle.mig_packet.specs.Faults.{first_of}
@@ -58,25 +58,25 @@ pub record IsLast (sync : Bool) (head : List ℕ) (old new : PageHolder) : Type 
   pub leaves : new ≡ record old { packet = None; kept = []; page = new.page; has_packets = not sync; room = next_room old.given.waiting old.room head }
 
 -- These bytes of a piece are taken, and this is returned.
-abbrev pub Moves : Came → List ℕ → PageHolder → PageHolder → Type 0
-Moves (came.Hello id) taken old new = (old.hello ≡ None) × IsJudged old (old.kept ++ taken) × (id ≡ get_or (old.kept ++ taken) 24 0)
+abbrev pub Moves : ChannelEvent → List ℕ → PageHolder → PageHolder → Type 0
+Moves (event.Hello id) taken old new = (old.hello ≡ None) × IsJudged old (old.kept ++ taken) × (id ≡ get_or (old.kept ++ taken) 24 0)
     × (new ≡ record old { hello = Some id; kept = []; fed = new.fed })
-Moves came.Head taken old new = (old.hello ≢ None) × IsJudged old (old.kept ++ taken)
+Moves event.Head taken old new = (old.hello ≢ None) × IsJudged old (old.kept ++ taken)
     × (new ≡ record old { packet = Some (old.kept ++ taken, 0); kept = []; page = new.page; fed = new.fed })
-Moves (came.Page offset page) taken old new = (packet : List ℕ × ℕ) × IsPageOf offset (content_of page new) packet old new × (content_of page new ≡ old.kept ++ taken)
-Moves (came.Packet sync) taken old new = (head : List ℕ) × IsLast sync head old new × (taken ≡ [])
-Moves came.More taken old new = (old.found ≡ Reading) × IsShort new new.packet × (new ≡ record old { kept = old.kept ++ taken; page = new.page; fed = new.fed })
-Moves came.Over taken old new = ((new ≡ old) × (taken ≡ [])) ⊎ ((fault : ChannelFault) × IsFaulty (old.kept ++ taken) fault old new)
+Moves (event.Page offset page) taken old new = (packet : List ℕ × ℕ) × IsPageOf offset (content_of page new) packet old new × (content_of page new ≡ old.kept ++ taken)
+Moves (event.Packet sync) taken old new = (head : List ℕ) × IsLast sync head old new × (taken ≡ [])
+Moves event.More taken old new = (old.found ≡ Reading) × IsShort new new.packet × (new ≡ record old { kept = old.kept ++ taken; page = new.page; fed = new.fed })
+Moves event.Over taken old new = ((new ≡ old) × (taken ≡ [])) ⊎ ((fault : ChannelFault) × IsFaulty (old.kept ++ taken) fault old new)
 
 -- a hello, a head or a page takes bytes
-abbrev pub Gains : Came → ℕ → Type 0
-Gains (came.Hello id) count = 0 < count
-Gains came.Head count = 0 < count
-Gains (came.Page offset page) count = 0 < count
+abbrev pub Gains : ChannelEvent → ℕ → Type 0
+Gains (event.Hello id) count = 0 < count
+Gains event.Head count = 0 < count
+Gains (event.Page offset page) count = 0 < count
 Gains other count = ⊤
 
 -- The effect of one call, which takes `count` bytes of a piece.
-pub record Steps (answer : Came) (count : ℕ) (piece : List ℕ) (old new : PageHolder) : Type 0 where
+pub record Steps (answer : ChannelEvent) (count : ℕ) (piece : List ℕ) (old new : PageHolder) : Type 0 where
   pub takes : count ≤ length piece
   pub gains : Gains answer count
   pub stops : Stops answer count piece new

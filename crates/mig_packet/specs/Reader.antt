@@ -106,8 +106,8 @@ abbrev pub HasState : Settings → List ℕ → Bool → ChannelState → Type 0
 HasState given text ended state = (reading : ChannelReading) × IsReading given text ended reading × (state ≡ reading.state)
 
 -- the bytes have a fault already: more bytes change nothing
-abbrev pub IsSettled : Settings → List ℕ → Type 0
-IsSettled given text = (state : ChannelState) × HasState given text false state × (state ≢ Reading)
+abbrev pub IsFinal : Settings → List ℕ → Type 0
+IsFinal given text = (state : ChannelState) × HasState given text false state × (state ≢ Reading)
 
 -- The first n bytes are complete items without a fault.
 pub record HasFront (given : Settings) (text : List ℕ) (n : ℕ) : Type 0 where

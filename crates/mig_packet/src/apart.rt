@@ -9,7 +9,7 @@ ghost use Rattle.mig_packet.specs.Paging.{GivesOn, HolderTells, Comes};
 ghost use Rattle.mig_packet.specs.PacketHead.{IsPacketHead};
 ghost use Rattle.mig_packet.specs.NextHead.{IsNextHead};
 ghost use Rattle.mig_packet.specs.declared.page_reader.PageContent.TheVariants as page_content;
-ghost use Rattle.mig_packet.specs.declared.page_reader.Came.TheVariants as came;
+ghost use Rattle.mig_packet.specs.declared.page_reader.ChannelEvent.TheVariants as event;
 
 use crate::front::head_fault_within;
 use crate::head::PacketHead;
@@ -52,8 +52,8 @@ impl<A: Allocator> PageReader<A> {
     pub fn take_head(&mut self, head: &[u8])
         requires next { IsNextHead head.now self.old }
         requires room { self.old.fed + length head.now < 2 ^ 64 }
-        ensures gives { GivesOn head.now came.Head self.old self.new }
-        ensures comes { HolderTells self.old (λ given text so_far. Comes given.page_size came.Head so_far) }
+        ensures gives { GivesOn head.now event.Head self.old self.new }
+        ensures comes { HolderTells self.old (λ given text so_far. Comes given.page_size event.Head so_far) }
         ensures next { self.new ≡ record self.old { packet = Some (head.now, 0); kept = []; page = self.new.page; fed = self.new.fed } }
         ensures fed { self.new.fed ≡ self.old.fed + length head.now }
         ensures ended { self.new.ended ≡ self.old.ended }
@@ -65,7 +65,7 @@ impl<A: Allocator> PageReader<A> {
     fn move_to_pages(&mut self, head: &[u8])
         requires next { IsNextHead head.now self.old }
         requires room { self.old.fed + length head.now < 2 ^ 64 }
-        ensures moves { Moves came.Head head.now self.old self.new }
+        ensures moves { Moves event.Head head.now self.old self.new }
         ensures next { self.new ≡ record self.old { packet = Some (head.now, 0); kept = []; page = self.new.page; fed = self.new.fed } }
         ensures fed { self.new.fed ≡ self.old.fed + length head.now }
         ensures ended { self.new.ended ≡ self.old.ended }
@@ -84,8 +84,8 @@ impl<A: Allocator> PageReader<A> {
         requires none_kept { self.old.kept ≡ [] }
         requires len { length content.now ≡ self.old.given.page_size }
         requires room { self.old.fed + length content.now < 2 ^ 64 }
-        ensures gives { IfSome self.old.packet (λ packet. GivesOn content.now (came.Page (offset_at packet.0 packet.1) (page_content.Lent content.entry)) self.old self.new) }
-        ensures comes { IfSome self.old.packet (λ packet. HolderTells self.old (λ given text so_far. Comes given.page_size (came.Page (offset_at packet.0 packet.1) (page_content.Lent content.entry)) so_far)) }
+        ensures gives { IfSome self.old.packet (λ packet. GivesOn content.now (event.Page (offset_at packet.0 packet.1) (page_content.Lent content.entry)) self.old self.new) }
+        ensures comes { IfSome self.old.packet (λ packet. HolderTells self.old (λ given text so_far. Comes given.page_size (event.Page (offset_at packet.0 packet.1) (page_content.Lent content.entry)) so_far)) }
         ensures next { IfSome self.old.packet (λ packet. self.new ≡ record self.old { packet = Some (packet.0, packet.1 + 1); kept = []; page = self.new.page; fed = self.new.fed }) }
         ensures fed { self.new.fed ≡ self.old.fed + length content.now }
         ensures ended { self.new.ended ≡ self.old.ended }
@@ -99,7 +99,7 @@ impl<A: Allocator> PageReader<A> {
         requires none_kept { self.old.kept ≡ [] }
         requires len { length content.now ≡ self.old.given.page_size }
         requires room { self.old.fed + length content.now < 2 ^ 64 }
-        ensures moves { IfSome self.old.packet (λ packet. Moves (came.Page (offset_at packet.0 packet.1) (page_content.Lent content.entry)) content.now self.old self.new) }
+        ensures moves { IfSome self.old.packet (λ packet. Moves (event.Page (offset_at packet.0 packet.1) (page_content.Lent content.entry)) content.now self.old self.new) }
         ensures fed { self.new.fed ≡ self.old.fed + length content.now }
         ensures ended { self.new.ended ≡ self.old.ended }
     {
@@ -116,19 +116,19 @@ impl<A: Allocator> PageReader<A> {
     /// round.
     pub fn end_taken(&mut self) -> bool
         requires begun { IsSomeAnd self.old.packet (λ packet. packet.1 ≡ normal_count packet.0) }
-        ensures gives { GivesOn [] (came.Packet result) self.old self.new }
-        ensures comes { HolderTells self.old (λ given text so_far. Comes given.page_size (came.Packet result) so_far) }
+        ensures gives { GivesOn [] (event.Packet result) self.old self.new }
+        ensures comes { HolderTells self.old (λ given text so_far. Comes given.page_size (event.Packet result) so_far) }
         ensures sync { IfSome self.old.packet (λ packet. result ≡ is_sync packet.0) }
         ensures fed { self.new.fed ≡ self.old.fed }
         ensures ended { self.new.ended ≡ self.old.ended }
     {
-        self.move_behind()
+        self.move_after()
     }
 
     // Ends the packet that was begun.
-    fn move_behind(&mut self) -> bool
+    fn move_after(&mut self) -> bool
         requires begun { IsSomeAnd self.old.packet (λ packet. packet.1 ≡ normal_count packet.0) }
-        ensures moves { Moves (came.Packet result) [] self.old self.new }
+        ensures moves { Moves (event.Packet result) [] self.old self.new }
         ensures sync { IfSome self.old.packet (λ packet. result ≡ is_sync packet.0) }
         ensures fed { self.new.fed ≡ self.old.fed }
         ensures ended { self.new.ended ≡ self.old.ended }

@@ -114,7 +114,7 @@ fn read_judged<'a>(page_size: u64, bytes: &'a [u8]) -> PacketRead<'a>
 /// Reads the packet at the beginning of `bytes` as `read_packet` does, where its round has room for
 /// packets that count `room` together. One that counts more is the fault `Waiting`, which is judged
 /// after all others. `None` is no limit.
-pub fn read_packet_within<'a>(page_size: u64, room: Option<u64>, bytes: &'a [u8]) -> PacketRead<'a>
+pub fn read_packet_with<'a>(page_size: u64, room: Option<u64>, bytes: &'a [u8]) -> PacketRead<'a>
     requires { IsPageSize page_size }
     ensures { ReadsPacketWithin page_size room bytes.now result }
 {

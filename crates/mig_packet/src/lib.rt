@@ -42,7 +42,7 @@ mod wanted;
 mod written;
 
 pub use fault::{ChannelFault, NoMemory};
-pub use front::{HelloRead, PacketRead, read_hello, read_packet, read_packet_within};
+pub use front::{HelloRead, PacketRead, read_hello, read_packet, read_packet_with};
 pub use gate::{Gate, OpenGate, Step};
 pub use head::PacketHead;
 pub use laws::{
@@ -51,7 +51,7 @@ pub use laws::{
     written_hellos_are_hellos, written_packets_are_packets,
 };
 pub use packet::{Packet, head_len, page_limit};
-pub use page_reader::{Came, PageContent, PageReader};
+pub use page_reader::{ChannelEvent, PageContent, PageReader};
 pub use put::{hello, put_packet, put_packet_head};
 pub use reader::ChannelReader;
 pub use round::PacketRound;

@@ -15,7 +15,7 @@ ghost use Rattle.mig_packet.specs.Paging.{GivenSoFar, none_given, Gives, GivesOn
 ghost use Rattle.mig_packet.specs.PagingStep.{Moves, Steps, IsTaken, IsCut, is_between, is_unsynced, closing_state};
 ghost use Rattle.mig_packet.specs.PagingValid.{open_len};
 ghost use Rattle.mig_packet.specs.Packet.{normal_count};
-ghost use Rattle.mig_packet.specs.declared.page_reader.Came.TheVariants as came;
+ghost use Rattle.mig_packet.specs.declared.page_reader.ChannelEvent.TheVariants as event;
 ghost use Rattle.std.specs.Option.{IsSomeAnd, option_map};
 
 use crate::format::HELLO_LEN;
@@ -38,7 +38,7 @@ pub enum PageContent<'b> {
 
 /// The result of a call of `PageReader::read_on`.
 #[derive(Clone, Copy, Debug)]
-pub enum Came<'b> {
+pub enum ChannelEvent<'b> {
     /// The hello is complete and has no fault. It named this channel id.
     Hello(u8),
     /// The head of the next packet is complete and has no fault: `PageReader::head` returns it.
@@ -172,31 +172,14 @@ impl<A: Allocator + Copy> PageReader<A> {
     /// Creates the reader of a channel before its first byte: one of `channels` channels of a
     /// migration under `uuid`, with pages of `page_size` bytes.
     ///
+    /// The packets of a round may count `waiting` together, one for each packet and one for each of
+    /// its pages. This reader keeps no packets; it judges the limit all the same, so that it
+    /// reports the fault that `ChannelReader` does. `None` is no limit.
+    ///
     /// # Errors
     ///
     /// `NoMemory`: the room for a head and a page could not be allocated.
     pub fn new(
-        alloc: A,
-        page_size: u64,
-        uuid: Uuid,
-        channels: usize,
-    ) -> Result<PageReader<A>, NoMemory>
-        requires page_size { IsPageSize page_size }
-        ensures gives { IfOk result (λ r. Gives (settings page_size uuid channels) [] (none_given (settings page_size uuid channels)) r) }
-        ensures open { IfOk result (λ r. IsFalse r.ended) }
-        ensures fed { IfOk result (λ r. r.fed ≡ 0) }
-    {
-        PageReader::new_within(alloc, page_size, uuid, channels, None)
-    }
-
-    /// Creates the reader as `new` does, with the limit that `ChannelReader::new_within` takes.
-    /// This reader keeps no packets; it judges the limit all the same, so that both report one
-    /// fault.
-    ///
-    /// # Errors
-    ///
-    /// `NoMemory`: the room for a head and a page could not be allocated.
-    pub fn new_within(
         alloc: A,
         page_size: u64,
         uuid: Uuid,
@@ -269,7 +252,8 @@ impl<A: Allocator> PageReader<A> {
         self.hello
     }
 
-    /// Returns the head of the packet that was begun: from `Came::Head` until `Came::Packet`.
+    /// Returns the head of the packet that was begun: from `ChannelEvent::Head` until
+    /// `ChannelEvent::Packet`.
     pub fn head(&self) -> Option<PacketHead<'_>>
         ensures value { option_map (λ head. head.bytes.now) result ≡ option_map (λ packet. packet.0) self.now.packet }
         ensures page_size { IfSome result (λ head. head.page_size ≡ self.now.given.page_size) }
@@ -305,9 +289,9 @@ impl<A: Allocator> PageReader<A> {
     /// returns how many bytes of the piece were taken: the next call continues after them. It
     /// allocates nothing.
     ///
-    /// `Came::Packet` takes no bytes. So call it until it returns `Came::More` or `Came::Over`,
-    /// also if no byte of the piece is left.
-    pub fn read_on<'b>(&mut self, piece: &'b [u8]) -> (Came<'b>, usize)
+    /// `ChannelEvent::Packet` takes no bytes. So call it until it returns `ChannelEvent::More` or
+    /// `ChannelEvent::Over`, also if no byte of the piece is left.
+    pub fn read_on<'b>(&mut self, piece: &'b [u8]) -> (ChannelEvent<'b>, usize)
         requires room { self.old.fed + length piece.now < 2 ^ 64 }
         ensures taken { result.1 ≤ length piece.now }
         ensures gives { GivesOn (take result.1 piece.now) result.0 self.old self.new }
@@ -324,12 +308,12 @@ impl<A: Allocator> PageReader<A> {
     }
 
     // Reads on, up to the result that it returns.
-    fn step<'b>(&mut self, piece: &'b [u8]) -> (Came<'b>, usize)
+    fn step<'b>(&mut self, piece: &'b [u8]) -> (ChannelEvent<'b>, usize)
         requires room { self.old.fed + length piece.now < 2 ^ 64 }
         ensures { Steps result.0 result.1 piece.now self.old self.new }
     {
         if self.ended || !self.is_reading() {
-            return (Came::Over, 0);
+            return (ChannelEvent::Over, 0);
         }
         match self.pages {
             Some(given) => self.read_packet(given, piece),
@@ -338,7 +322,7 @@ impl<A: Allocator> PageReader<A> {
     }
 
     // Reads a hello or a head.
-    fn read_item<'b>(&mut self, piece: &'b [u8]) -> (Came<'b>, usize)
+    fn read_item<'b>(&mut self, piece: &'b [u8]) -> (ChannelEvent<'b>, usize)
         requires room { self.old.fed + length piece.now < 2 ^ 64 }
         requires reading { (self.old.found ≡ state.Reading) × IsFalse self.old.ended }
         requires none_begun { self.old.packet ≡ None }
@@ -350,7 +334,7 @@ impl<A: Allocator> PageReader<A> {
         }
     }
 
-    fn read_hello<'b>(&mut self, piece: &'b [u8]) -> (Came<'b>, usize)
+    fn read_hello<'b>(&mut self, piece: &'b [u8]) -> (ChannelEvent<'b>, usize)
         requires room { self.old.fed + length piece.now < 2 ^ 64 }
         requires reading { (self.old.found ≡ state.Reading) × IsFalse self.old.ended }
         requires none_begun { self.old.packet ≡ None }
@@ -360,19 +344,19 @@ impl<A: Allocator> PageReader<A> {
         let taken = fill(&mut self.head, HELLO_LEN, piece);
         self.fed += taken as u64;
         if self.head.len() < HELLO_LEN {
-            return (Came::More, taken);
+            return (ChannelEvent::More, taken);
         }
         if let Some(fault) = hello_fault(&self.head, &self.uuid, self.channels) {
             self.found = ChannelState::Bad(fault);
-            return (Came::Over, taken);
+            return (ChannelEvent::Over, taken);
         }
         let id = self.head[24];
         self.hello = Some(id);
         self.head.clear();
-        (Came::Hello(id), taken)
+        (ChannelEvent::Hello(id), taken)
     }
 
-    fn read_head<'b>(&mut self, piece: &'b [u8]) -> (Came<'b>, usize)
+    fn read_head<'b>(&mut self, piece: &'b [u8]) -> (ChannelEvent<'b>, usize)
         requires room { self.old.fed + length piece.now < 2 ^ 64 }
         requires reading { (self.old.found ≡ state.Reading) × IsFalse self.old.ended }
         requires none_begun { self.old.packet ≡ None }
@@ -383,20 +367,20 @@ impl<A: Allocator> PageReader<A> {
         let taken = fill(&mut self.head, len, piece);
         self.fed += taken as u64;
         if self.head.len() < len {
-            return (Came::More, taken);
+            return (ChannelEvent::More, taken);
         }
         if let Some(fault) = head_fault_within(self.page_size, self.room, &self.head) {
             self.found = ChannelState::Bad(fault);
-            return (Came::Over, taken);
+            return (ChannelEvent::Over, taken);
         }
         self.pages = Some(0);
         self.page.clear();
         self.has_page = false;
-        (Came::Head, taken)
+        (ChannelEvent::Head, taken)
     }
 
     // Reads a page of the packet that was begun, of which `given` were given, or ends the packet.
-    fn read_packet<'b>(&mut self, given: usize, piece: &'b [u8]) -> (Came<'b>, usize)
+    fn read_packet<'b>(&mut self, given: usize, piece: &'b [u8]) -> (ChannelEvent<'b>, usize)
         requires room { self.old.fed + length piece.now < 2 ^ 64 }
         requires reading { (self.old.found ≡ state.Reading) × IsFalse self.old.ended }
         requires begun { IsSomeAnd self.old.packet (λ packet. packet.1 ≡ given) }
@@ -408,7 +392,7 @@ impl<A: Allocator> PageReader<A> {
         self.read_page(given, piece)
     }
 
-    fn read_page<'b>(&mut self, given: usize, piece: &'b [u8]) -> (Came<'b>, usize)
+    fn read_page<'b>(&mut self, given: usize, piece: &'b [u8]) -> (ChannelEvent<'b>, usize)
         requires room { self.old.fed + length piece.now < 2 ^ 64 }
         requires reading { (self.old.found ≡ state.Reading) × IsFalse self.old.ended }
         requires begun { IsSomeAnd self.old.packet (λ packet. (packet.1 ≡ given) × (given < normal_count packet.0)) }
@@ -421,26 +405,26 @@ impl<A: Allocator> PageReader<A> {
         match content {
             None => {
                 self.has_page = false;
-                (Came::More, taken)
+                (ChannelEvent::More, taken)
             }
             Some(PageContent::Kept) => {
                 self.has_page = true;
                 self.pages = Some(given + 1);
-                (Came::Page(offset, PageContent::Kept), taken)
+                (ChannelEvent::Page(offset, PageContent::Kept), taken)
             }
             Some(PageContent::Lent(page)) => {
                 self.has_page = false;
                 self.pages = Some(given + 1);
-                (Came::Page(offset, PageContent::Lent(page)), taken)
+                (ChannelEvent::Page(offset, PageContent::Lent(page)), taken)
             }
         }
     }
 
     // Ends the packet that was begun, all of whose pages were given.
-    fn end_packet<'b>(&mut self) -> Came<'b>
+    fn end_packet<'b>(&mut self) -> ChannelEvent<'b>
         requires begun { IsSomeAnd self.old.packet (λ packet. packet.1 ≡ normal_count packet.0) }
         ensures moves { Moves result [] self.old self.new }
-        ensures packet { (sync : Bool) × (result ≡ came.Packet sync) }
+        ensures packet { (sync : Bool) × (result ≡ event.Packet sync) }
         ensures fed { self.new.fed ≡ self.old.fed }
     {
         let sync = sync_of(&self.head);
@@ -448,14 +432,15 @@ impl<A: Allocator> PageReader<A> {
         self.has_packets = !sync;
         self.pages = None;
         self.head.clear();
-        Came::Packet(sync)
+        ChannelEvent::Packet(sync)
     }
 
     /// Returns how many of the bytes taken are complete items without a fault, from the first byte
     /// on. If the channel is bad, the item at fault begins after them. Otherwise an item that isn't
     /// complete begins there, if bytes follow: the pages that were given of it don't count.
     ///
-    /// A packet is complete with the last byte of its last page, before `Came::Packet` returns it.
+    /// A packet is complete with the last byte of its last page, before `ChannelEvent::Packet`
+    /// returns it.
     pub fn valid_up_to(&self) -> u64
         ensures { HolderTells self.now (λ given text so_far. IsValidUpTo given text result) }
     {

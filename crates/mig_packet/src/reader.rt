@@ -14,7 +14,7 @@ ghost use Rattle.mig_packet.specs.Reading.{IsItem, state_at_end, settings, with_
 ghost use Rattle.mig_packet.specs.Taking.{HasTaken};
 ghost use Rattle.mig_packet.specs.Filling.{Fills};
 ghost use Rattle.mig_packet.specs.Reader.{IsUnfinished, ReadsOn, Stands, StepsOn, Tells, nothing_yet, with_piece, over, one_taken, waiting};
-ghost use Rattle.mig_packet.specs.Reader.{HasState, IsSettled, IsValidUpTo, HasHello, HasRound};
+ghost use Rattle.mig_packet.specs.Reader.{HasState, IsFinal, IsValidUpTo, HasHello, HasRound};
 
 use crate::progress::Progress;
 use crate::round::{PacketRound, PacketText};
@@ -154,7 +154,7 @@ fn read_in_place<A: Allocator + Copy>(
 
 // Takes the pending packet, whose bytes stay where they are, and reads what follows it. An `Err`
 // changes nothing.
-fn read_behind_packet<A: Allocator + Copy>(
+fn read_after_packet<A: Allocator + Copy>(
     progress: &mut Progress<A>,
     pending: &mut Vec<u8, A>,
     rest: &[u8],
@@ -184,7 +184,7 @@ fn read_behind_packet<A: Allocator + Copy>(
 }
 
 // Takes the pending item, and reads what follows it. After an `Err` some items were taken.
-fn read_behind<A: Allocator + Copy>(
+fn read_after<A: Allocator + Copy>(
     progress: &mut Progress<A>,
     pending: &mut Vec<u8, A>,
     rest: &[u8],
@@ -196,7 +196,7 @@ fn read_behind<A: Allocator + Copy>(
     ensures kept { OnErr result (pending.new.items ≡ pending.old.items) }
 {
     if progress.hello().is_some() {
-        return read_behind_packet(progress, pending, rest);
+        return read_after_packet(progress, pending, rest);
     }
     progress.take(pending)?;
     read_in_place(progress, pending, rest)
@@ -219,7 +219,7 @@ fn read<A: Allocator + Copy>(
     }
     let left = pending.len() + piece.len();
     match fill_up(progress, pending, piece)? {
-        Filled::Whole(rest) => read_behind(progress, pending, rest),
+        Filled::Whole(rest) => read_after(progress, pending, rest),
         Filled::Unfinished => Ok((ChannelState::Reading, left)),
         Filled::Faulty(fault) => Ok((ChannelState::Bad(fault), left)),
     }
@@ -235,14 +235,14 @@ impl<A: Allocator + Copy> ChannelReader<A> {
         ensures open { IsFalse result.ended }
         ensures fed { result.fed ≡ 0 }
     {
-        ChannelReader::new_within(alloc, page_size, uuid, channels, None)
+        ChannelReader::new_with(alloc, page_size, uuid, channels, None)
     }
 
     /// Creates a reader as `new` does, with a limit on what may wait: the packets of a round may
     /// count `waiting` together, one for each packet and one for each of its pages. The packet that
     /// would pass it is the fault `Waiting`. Complete rounds that wait to be taken aren't counted.
     /// `None` is no limit.
-    pub fn new_within(
+    pub fn new_with(
         alloc: A,
         page_size: u64,
         uuid: Uuid,
@@ -275,7 +275,7 @@ impl<A: Allocator + Copy> ChannelReader<A> {
         requires open { IsFalse self.old.ended }
         requires room { self.old.fed + length piece.now < 2 ^ 64 }
         ensures stands { OnOk result (StepsOn (with_piece piece.now) self.old self.new) }
-        ensures settled { Tells self.old (λ given so_far. IsSettled given so_far.text → IsOk result) }
+        ensures settled { Tells self.old (λ given so_far. IsFinal given so_far.text → IsOk result) }
         ensures fed { OnOk result (self.new.fed ≡ self.old.fed + length piece.now) }
         ensures open { IsFalse self.new.ended }
         ensures err { OnErr result (self.new ≡ self.old) }

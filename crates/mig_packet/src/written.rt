@@ -40,7 +40,7 @@ impl PacketFields<'_> {
     /// # Errors
     ///
     /// `NoMemory`: `out` has too little room, and its growth was refused. It keeps its bytes.
-    pub fn put<A: Allocator>(&self, page_size: u64, out: &mut Vec<u8, A>) -> Result<(), NoMemory>
+    pub fn append<A: Allocator>(&self, page_size: u64, out: &mut Vec<u8, A>) -> Result<(), NoMemory>
         requires page_size { IsPageSize page_size }
         requires few { length self.now.normal.now + length self.now.zero.now ≤ page_limit page_size }
         requires contents { length self.now.contents.now ≡ length self.now.normal.now * page_size }

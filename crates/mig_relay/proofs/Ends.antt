@@ -42,27 +42,33 @@ found_there page_size text at len r lies told =
     let same : at + len - at ≡ len = omega arith in
     told front [] (fields_of page_size front) (ap (λ (n : ℕ). take n (drop at text)) same ∙ sym (append-nil front)) (lies.1, refl)
 
-not_there : (front : List ℕ) (said : Fields) (r : PacketRead) → FindsPacket front said r → (r ≡ packet.Cut) ⊎ ((fault : ChannelFault) × (r ≡ packet.Bad fault)) → ⊥
+not_there : (front : List ℕ) (said : Fields) (r : PacketRead) → FindsPacket front said r
+    → (r ≡ packet.Cut) ⊎ ((fault : ChannelFault) × (r ≡ packet.Bad fault)) → ⊥
 not_there front said r found (inl e) = subst (FindsPacket front said) e found
 not_there front said r found (inr e) = subst (FindsPacket front said) e.1 found
 
+-- a packet that a message places in the channel is read neither as cut nor as bad
 pub never_cut : (page_size : ℕ) (text : List ℕ) (m : Message) (at len : ℕ) (r : PacketRead) → m ≡ message.Page at len → IsMessageIn page_size text m
     → ((front more : List ℕ) (said : Fields) → take (at + len - at) (drop at text) ≡ front ++ more → IsPacket page_size front said → FindsPacket front said r)
     → (r ≡ packet.Cut) ⊎ ((fault : ChannelFault) × (r ≡ packet.Bad fault)) → ⊥
 never_cut page_size text m at len r is lies told e =
     not_there _ _ r (found_there page_size text at len r (subst (IsMessageIn page_size text) is lies) told) e
 
-pub made_item : (page_size : ℕ) (text : List ℕ) (m : Message) (at len : ℕ) (r : PacketRead) (found : Packet) (n : ℕ) → m ≡ message.Page at len → IsMessageIn page_size text m
+-- the packet read where a message places it is the item that the message represents
+pub made_item : (page_size : ℕ) (text : List ℕ) (m : Message) (at len : ℕ) (r : PacketRead) (found : Packet) (n : ℕ)
+    → m ≡ message.Page at len → IsMessageIn page_size text m
     → ((front more : List ℕ) (said : Fields) → take (at + len - at) (drop at text) ≡ front ++ more → IsPacket page_size front said → FindsPacket front said r)
     → r ≡ packet.Whole found n → Page (fields found) ≡ item_in page_size text m
 made_item page_size text m at len r found n is lies told e =
     let front = take len (drop at text) in
-    let said = subst (FindsPacket front (fields_of page_size front)) e (found_there page_size text at len r (subst (IsMessageIn page_size text) is lies) told) in
+    let said = subst (FindsPacket front (fields_of page_size front)) e
+    (found_there page_size text at len r (subst (IsMessageIn page_size text) is lies) told) in
     ap Page said.2 ∙ ap (item_in page_size text) (sym is)
 
 -- ---- what an end shows after a step
 
-passed_on : (v w : Log) (m : Message) (p : QueueEnd) (q r : TableId) → queue_end q v.source (items_in v) ≡ p → r ≡ q → w.source ≡ v.source → w.done ≡ v.done ++ m ∷ []
+passed_on : (v w : Log) (m : Message) (p : QueueEnd) (q r : TableId) → queue_end q v.source (items_in v) ≡ p → r ≡ q
+    → w.source ≡ v.source → w.done ≡ v.done ++ m ∷ []
     → queue_end r w.source (items_in w) ≡ one_more p (item_of_message v.source m)
 passed_on v w m p q r is same source done =
     let read : ChannelText → Message → ChannelItem = item_of_message in
@@ -80,7 +86,8 @@ through : (v w : Log) (m : Message) → w.source ≡ v.source → w.done ≡ v.d
     → HasItems w.source (items_in w)
 through v w m source done last b = shown v w m HasItems source done (items_law v.source (v.done ++ m ∷ []) (all_there v.source v.done m last b))
 
-begun_now : (v w : Log) (m : Message) → w.source ≡ v.source → w.done ≡ v.done ++ m ∷ [] → BeginsMessages v.source (v.done ++ m ∷ []) → BeginsItems w.source (items_in w)
+begun_now : (v w : Log) (m : Message) → w.source ≡ v.source → w.done ≡ v.done ++ m ∷ []
+    → BeginsMessages v.source (v.done ++ m ∷ []) → BeginsItems w.source (items_in w)
 begun_now v w m source done b = shown v w m BeginsItems source done (items_begin v.source (v.done ++ m ∷ []) b)
 
 on_the_way : (v w : Log) (m : Message) → w.source ≡ v.source → w.done ≡ v.done ++ m ∷ [] → is_last m ≡ false → BeginsMessages v.source (v.done ++ m ∷ [])
@@ -101,7 +108,9 @@ pub feeds_next : (k behind : Cursor) (text : List ℕ) (count : ℕ) (v : Log) (
 feeds_next k behind text count v m f n =
     subst (λ (s : ChannelText). BeginsMessages s (v.done ++ m ∷ [])) (sym (ap (λ (u : Log). u.source) f.role)) (n.next v.done f.behind)
 
-pub pushes_stop : (v w : Log) (m : Message) (p : QueueEnd) (q r : TableId) → queue_end q v.source (items_in v) ≡ p → r ≡ q → w ≡ feeding v.source (v.done ++ m ∷ [])
+-- pushing a channel's last message passes one item more, and then all were passed
+pub pushes_stop : (v w : Log) (m : Message) (p : QueueEnd) (q r : TableId) → queue_end q v.source (items_in v) ≡ p → r ≡ q
+    → w ≡ feeding v.source (v.done ++ m ∷ [])
     → BeginsMessages v.source (v.done ++ m ∷ []) → is_last m ≡ true
     → (piece : ChannelItem) × (queue_end r w.source (items_in w) ≡ one_more p piece) × IsThrough (queue_end r w.source (items_in w))
 pushes_stop v w m p q r is same e b last =
@@ -109,7 +118,9 @@ pushes_stop v w m p q r is same e b last =
     let done = ap (λ (u : Log). u.done) e in
     (item_of_message v.source m, passed_on v w m p q r is same source done, through v w m source done last b)
 
-pub pushes_more : (v w : Log) (m : Message) (p : QueueEnd) (q r : TableId) → queue_end q v.source (items_in v) ≡ p → r ≡ q → w ≡ feeding v.source (v.done ++ m ∷ [])
+-- pushing a channel's message that isn't its last passes one item more, and a further is left
+pub pushes_more : (v w : Log) (m : Message) (p : QueueEnd) (q r : TableId) → queue_end q v.source (items_in v) ≡ p → r ≡ q
+    → w ≡ feeding v.source (v.done ++ m ∷ [])
     → BeginsMessages v.source (v.done ++ m ∷ []) → is_last m ≡ false
     → (piece : ChannelItem) × (queue_end r w.source (items_in w) ≡ one_more p piece) × IsOnTheWay (queue_end r w.source (items_in w))
 pushes_more v w m p q r is same e b last =
@@ -117,7 +128,9 @@ pushes_more v w m p q r is same e b last =
     let done = ap (λ (u : Log). u.done) e in
     (item_of_message v.source m, passed_on v w m p q r is same source done, on_the_way v w m source done last b)
 
-pub feeds_first : (k : Cursor) (text : List ℕ) (v : Log) → IsPageSize k.page_size → (k.at ≡ 0) × (k.greeted ≡ false) × (k.unsynced ≡ false) × (k.room ≡ k.waiting)
+-- a cursor at the start of a channel, with a pass that pushed nothing, feeds after 0 items
+pub feeds_first : (k : Cursor) (text : List ℕ) (v : Log) → IsPageSize k.page_size
+    → (k.at ≡ 0) × (k.greeted ≡ false) × (k.unsynced ≡ false) × (k.room ≡ k.waiting)
     → v ≡ feeding (text_of k text) [] → IsFeeding k text 0 v
 feeds_first k text v size_is at_start e =
     let are = (one_list_law (given (text_of k text)) text size_is).1 in
@@ -151,11 +164,13 @@ feeds_first k text v size_is at_start e =
 -- ---- the end that collects
 
 -- what was popped lies in the channel's bytes
-pub lies : (page_size : ℕ) (waiting : Option ℕ) (text : List ℕ) (items : List Item) (over : Bool) (v : Log) (m : Message) → IsCollecting page_size waiting text items over v
+pub lies : (page_size : ℕ) (waiting : Option ℕ) (text : List ℕ) (items : List Item) (over : Bool) (v : Log) (m : Message)
+    → IsCollecting page_size waiting text items over v
     → BeginsMessages v.source (v.done ++ m ∷ []) → IsMessageIn page_size text m
 lies page_size waiting text items over v m k b =
     subst (λ (x : ℕ × List ℕ). IsMessageIn x.0 x.1 m) (λ i. (k.of_page_size i, k.of_text i)) (lies_in v.source v.done m b)
 
+-- a pass that has popped nothing of a channel collects, with no items, and isn't over
 pub collects_none : (page_size : ℕ) (waiting : Option ℕ) (text : List ℕ) (source : ChannelText) (items : List Item) (v : Log) → IsPageSize page_size
     → source.page_size ≡ page_size → source.waiting ≡ waiting → source.text ≡ text → v ≡ collecting source [] → items ≡ []
     → IsCollecting page_size waiting text items false v
@@ -174,6 +189,8 @@ collects_none page_size waiting text source items v size_is of_page_size of_wait
       whole = λ no. absurd (true≢false (sym no));
     }
 
+-- a pass that pops the channel's next message, and adds its item, collects on, and is over if
+-- that is the last message
 pub collects : (page_size : ℕ) (waiting : Option ℕ) (text : List ℕ) (items : List Item) (over : Bool) (v w : Log) (m : Message) (item : Item)
     → IsCollecting page_size waiting text items over v
     → BeginsMessages v.source (v.done ++ m ∷ []) → w ≡ collecting v.source (v.done ++ m ∷ []) → as_channel_item item ≡ item_in page_size text m
@@ -194,7 +211,9 @@ collects page_size waiting text items over v w m item k b e is size =
       whole = λ last. subst (λ (x : ChannelText × List Message). AreMessages x.0 x.1) (λ i. (sym own i, sym done i)) (all_there v.source v.done m last b);
     }
 
-pub takes : (v w : Log) (m : Message) (p : QueueEnd) (q r : TableId) → queue_end q v.source (items_in v) ≡ p → r ≡ q → BeginsMessages v.source (v.done ++ m ∷ [])
+-- popping the channel's next message takes the next item at the queue's end
+pub takes : (v w : Log) (m : Message) (p : QueueEnd) (q r : TableId) → queue_end q v.source (items_in v) ≡ p → r ≡ q
+    → BeginsMessages v.source (v.done ++ m ∷ [])
     → w ≡ collecting v.source (v.done ++ m ∷ []) → Takes p (queue_end r w.source (items_in w)) true
 takes v w m p q r is same b e =
     let source = ap (λ (u : Log). u.source) e in
@@ -206,10 +225,12 @@ pub is_through : (page_size : ℕ) (waiting : Option ℕ) (text : List ℕ) (ite
     → queue_end q v.source (items_in v) ≡ p → IsCollecting page_size waiting text items over v → over ≡ true → IsThrough p
 is_through page_size waiting text items over v p q is k yes_ = subst IsThrough is (items_law v.source v.done (k.whole yes_))
 
+-- the items that an end that collects has passed are the first of its channel
 pub shows : (page_size : ℕ) (waiting : Option ℕ) (text : List ℕ) (items : List Item) (over : Bool) (v : Log) (p : QueueEnd) (q : TableId)
     → queue_end q v.source (items_in v) ≡ p → IsCollecting page_size waiting text items over v → BeginsItems p.source p.passed
 shows page_size waiting text items over v p q is k = subst (λ (s : QueueEnd). BeginsItems s.source s.passed) is (items_begin v.source v.done k.begun)
 
+-- all packets among the items that an end collected have its channel's page size
 pub sized : (page_size : ℕ) (waiting : Option ℕ) (text : List ℕ) (items : List Item) (over : Bool) (v : Log) (p : QueueEnd) (q : TableId)
     → queue_end q v.source (items_in v) ≡ p → IsCollecting page_size waiting text items over v → All (IsOfPageSize p.source.page_size) items
 sized page_size waiting text items over v p q is k =

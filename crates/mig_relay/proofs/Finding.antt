@@ -1,8 +1,8 @@
 -- What is read at a place in a channel comes next among its messages.
-use Rattle.std.proofs.Common.{◌≡◌, ◌≢◌, ℕ, ◌+◌, ◌-◌, ◌≤◌, ◌<◌, Bool, true, false, not, cond, true≢false, List, [], ◌∷◌, ◌++◌, length, take, drop, get_or, Option, Some, None, refl, sym, ap, subst, ◌∙◌, append_assoc, arith, leb}
+use Rattle.std.proofs.Common.{◌≡◌, ◌≢◌, ℕ, ◌+◌, ◌≤◌, ◌<◌, Bool, true, false, not, cond, true≢false, List, [], ◌∷◌, ◌++◌, length, take, drop, get_or, Option, Some, None, refl, sym, ap, subst, ◌∙◌, append_assoc, arith, leb}
 use Rattle.std.specs.List.{concat}
-use Rattle.std.proofs.lemmas.Bool.{lt-leb}
-use Rattle.std.proofs.lemmas.List.{append-nil, length-append, length-drop, length-take-le, take_at, drop_at, take-append-drop, drop-drop, take_all}
+use Rattle.std.proofs.lemmas.Bool.{lt-leb, not-false, not-true}
+use Rattle.std.proofs.lemmas.List.{append-nil, length-append, length-drop, length-take-le, take-append-drop, drop-drop}
 use Rattle.std.proofs.lemmas.List.Folds.{concat-append}
 use Rattle.mig_packet.specs.declared.fault.ChannelFault.{ChannelFault}
 use Rattle.mig_packet.specs.declared.fault.ChannelFault.TheVariants.{Truncated, Unsynced}
@@ -13,14 +13,14 @@ use Rattle.mig_packet.specs.Hello.{IsHello, hello_len, hello_faults, due_hello_f
 use Rattle.mig_packet.specs.Packet.{IsPacketText, is_sync}
 use Rattle.mig_packet.specs.Waiting.{weight, is_over, room_after, next_room}
 use Rattle.mig_packet.specs.FrontRead.{due_fault_within}
-use Rattle.mig_packet.specs.Progress.{ChannelProgress, start, judged_len, item_len, faults, first_fault, due_fault, after_packet, after_item, after}
+use Rattle.mig_packet.specs.Progress.{ChannelProgress, start, judged_len, faults, first_fault, due_fault, after_packet, after_item, after}
 use Rattle.mig_packet.specs.Reading.{IsItem, AreFaultless, after_all, Ends, Reads, state_at, state_at_end}
 use Rattle.mig_packet.specs.ChannelItems.{all_packets}
-use Rattle.mig_packet.proofs.Fronts.{len-append, faults_stay, judged_le, cond_none, due_is, faultless_front, item_text, no_head, Front-none}
-use Rattle.mig_packet.proofs.Judging.{hello_free, text_free}
+use Rattle.mig_packet.proofs.Fronts.{faults_stay, judged_le, due_is, faultless_front, item_text, no_head, Front-none}
+use Rattle.mig_packet.proofs.Judging.{hello_free, text_free, cond_none}
 use Rattle.mig_packet.proofs.Waiting.{free_within}
-use Rattle.mig_packet.proofs.PagingSteps.{room_is}
-use Rattle.mig_packet.proofs.Unique.{one_reading}
+use Rattle.mig_packet.proofs.PagingSteps.{room_is, known}
+use Rattle.mig_packet.proofs.Unique.{one_reading, one_item}
 use Rattle.mig_relay.specs.declared.cursor.Cursor.{Cursor}
 use Rattle.mig_relay.specs.declared.item.ChannelEnd.{ChannelEnd}
 use Rattle.mig_relay.specs.declared.item.ChannelEnd.TheVariants.{Clean, Bad}
@@ -32,15 +32,9 @@ use Rattle.mig_relay.proofs.Places.{more_packets, same_settings}
 
 -- ---- a reading goes on after an item
 
-one_item : (p : ℕ) (h : Option ℕ) (a b x y : List ℕ) → IsItem p h a → IsItem p h b → a ++ x ≡ b ++ y → (a ≡ b) × (x ≡ y)
-one_item p h a b x y i j e =
-    let len : length a ≡ length b = sym (len-append p h a x i) ∙ ap (item_len p h) e ∙ len-append p h b y j in (
-      sym (take_at a x (length a) refl) ∙ ap (take (length a)) e ∙ take_at b y (length a) (sym len),
-      sym (drop_at a x (length a) refl) ∙ ap (drop (length a)) e ∙ drop_at b y (length a) (sym len),
-    )
-
 -- a channel doesn't end where an item without a fault stands
-no_end : (c : ChannelProgress) (item more : List ℕ) (s : ChannelState) → IsItem c.page_size c.hello item → first_fault c item ≡ None → Ends c (item ++ more) s → ⊥
+no_end : (c : ChannelProgress) (item more : List ℕ) (s : ChannelState) → IsItem c.page_size c.hello item
+    → first_fault c item ≡ None → Ends c (item ++ more) s → ⊥
 no_end c item more state.Closed is free end = end
 no_end c item more state.Reading is free end = end.1 item more refl is
 no_end c item more (state.Bad f) is free end =
@@ -112,7 +106,8 @@ greeted : (c : ChannelProgress) (h : Option ℕ) (item : List ℕ) → c.hello �
 greeted c None item e = λ none. absurd cc
 greeted c (Some id) item e = λ none. absurd (let clash : None ≡ Some id = sym none ∙ (same_settings c item).3 ∙ e in cc)
 
-front_goes_on : (c : ChannelProgress) (items : List (List ℕ)) → HasNoneBefore c → (more : List Message) × (front_messages (after_all c items) ≡ front_messages c ++ more)
+front_goes_on : (c : ChannelProgress) (items : List (List ℕ)) → HasNoneBefore c
+    → (more : List Message) × (front_messages (after_all c items) ≡ front_messages c ++ more)
 unfolding HasNoneBefore
 front_goes_on c [] none = ([], sym (append-nil (front_messages c)))
 front_goes_on c (item ∷ items) none =
@@ -148,7 +143,8 @@ none_before k text done true b e = λ no. absurd ((b.behind_hello e).0 no)
 none_before k text done false b e = λ _. (b.before_hello e).2
 
 -- the reading after an item of this length
-behind_found : (k : Cursor) (text : List ℕ) (done : List Message) (len : ℕ) (b : IsBehind k text done) → IsItem b.c.page_size b.c.hello (take len (drop k.at text))
+behind_found : (k : Cursor) (text : List ℕ) (done : List Message) (len : ℕ) (b : IsBehind k text done)
+    → IsItem b.c.page_size b.c.hello (take len (drop k.at text))
     → first_fault b.c (take len (drop k.at text)) ≡ None
     → Reads (after b.c (take len (drop k.at text))) (drop (k.at + len) text) b.to b.rest b.found
 behind_found k text done len b is free =
@@ -187,10 +183,12 @@ hello_item k text done id b before few is =
     let item = take hello_len (drop k.at text) in
     let none = (b.before_hello before).0 in (
       subst (λ (h : Option ℕ). IsItem b.c.page_size h item) (sym none) is.has_length,
-      ap (λ (h : Option ℕ). first_of (faults b.c h item)) none ∙ (λ i. first_of (hello_faults (b.has_uuid i) (b.has_channels i) item)) ∙ hello_free k.uuid k.channels id item is few,
+      ap (λ (h : Option ℕ). first_of (faults b.c h item)) none
+          ∙ (λ i. first_of (hello_faults (b.has_uuid i) (b.has_channels i) item)) ∙ hello_free k.uuid k.channels id item is few,
     )
 
-goes_on_hello : (k : Cursor) (text : List ℕ) (id : ℕ) (done : List Message) → k.greeted ≡ false → id < k.channels → IsHello k.uuid id (take hello_len (drop k.at text))
+goes_on_hello : (k : Cursor) (text : List ℕ) (id : ℕ) (done : List Message) → k.greeted ≡ false → id < k.channels
+    → IsHello k.uuid id (take hello_len (drop k.at text))
     → IsBehind k text done → IsBehind (behind_hello k) text (done ++ message.Hello id ∷ [])
 unfolding behind_hello item_message HasNoneBefore
 goes_on_hello k text id done before few is b =
@@ -215,11 +213,14 @@ goes_on_hello k text id done before few is b =
       to = b.to;
       rest = b.rest;
       found = b.found;
-      goes_on = subst (λ (x : ChannelProgress). Reads x (drop (k.at + hello_len) text) b.to b.rest b.found) same (behind_found k text done hello_len b found.0 found.1);
+      goes_on = subst (λ (x : ChannelProgress). Reads x (drop (k.at + hello_len) text) b.to b.rest b.found) same
+          (behind_found k text done hello_len b found.0 found.1);
       whole = b.whole;
     }
 
-pub finds_hello : (k : Cursor) (text : List ℕ) (id : ℕ) → k.greeted ≡ false → k.at ≤ length text → id < k.channels → IsHello k.uuid id (take hello_len (drop k.at text))
+-- at a cursor before the hello a hello of one of the channels comes next, and the cursor moves past
+pub finds_hello : (k : Cursor) (text : List ℕ) (id : ℕ) → k.greeted ≡ false → k.at ≤ length text → id < k.channels
+    → IsHello k.uuid id (take hello_len (drop k.at text))
     → Finds k text (message.Hello id) (record k { at = k.at + 64; greeted = true })
 unfolding behind_hello item_message
 finds_hello k text id before in_text few is =
@@ -234,11 +235,8 @@ finds_hello k text id before in_text few is =
 
 -- ---- a packet
 
-some_id : (h : Option ℕ) → h ≢ None → (id : ℕ) × (h ≡ Some id)
-some_id None some = absurd (some refl)
-some_id (Some id) some = (id, refl)
-
-packets_left : (c : ChannelProgress) (packet : List ℕ) → (is_sync packet ≡ true → (after_packet c packet).packets ≡ []) × (is_sync packet ≡ false → (after_packet c packet).packets ≢ [])
+packets_left : (c : ChannelProgress) (packet : List ℕ)
+    → (is_sync packet ≡ true → (after_packet c packet).packets ≡ []) × (is_sync packet ≡ false → (after_packet c packet).packets ≢ [])
 packets_left c packet =
     let packets = c.packets ++ packet ∷ [] in
     let d : Bool → ChannelProgress = λ b. cond b (record c { packets = []; rounds = c.rounds ++ packets ∷ [] }) (record c { packets = packets }) in
@@ -246,14 +244,6 @@ packets_left c packet =
       | true ↦ ((λ _. refl), λ no. absurd (true≢false no))
       | false ↦ ((λ no. absurd (true≢false (sym no))), λ _ e. omega (arith, length-append c.packets (packet ∷ []), ap length e))
     ]
-
-not_false : (b : Bool) → not b ≡ false → b ≡ true
-not_false true e = refl
-not_false false e = absurd (true≢false e)
-
-not_true : (b : Bool) → not b ≡ true → b ≡ false
-not_true true e = absurd (true≢false (sym e))
-not_true false e = refl
 
 -- after the hello, this is the next item, where it has room
 packet_item : (k : Cursor) (text : List ℕ) (done : List Message) (len id : ℕ) (b : IsBehind k text done) → b.c.hello ≡ Some id
@@ -276,7 +266,8 @@ packet_message k text done len id b behind le =
     λ i. message.Page (sym at i) (long i)
 
 -- the room after it
-room_behind : (k : Cursor) (text : List ℕ) (done : List Message) (item : List ℕ) (room : Option ℕ) (b : IsBehind k text done) → room ≡ next_room k.waiting k.room item
+room_behind : (k : Cursor) (text : List ℕ) (done : List Message) (item : List ℕ) (room : Option ℕ) (b : IsBehind k text done)
+    → room ≡ next_room k.waiting k.room item
     → room ≡ room_after (after_packet b.c item).waiting (after_packet b.c item).packets
 room_behind k text done item room b is =
     let d : ChannelProgress = after_packet b.c item in
@@ -291,7 +282,7 @@ unfolding item_message HasNoneBefore
 goes_on_packet k text len sync room done behind le is fits sync_is room_next b =
     let item = take len (drop k.at text) in
     let some = (b.behind_hello behind).0 in
-    let id = some_id b.c.hello some in
+    let id = known b.c.hello some in
     let found = packet_item k text done len id.0 b id.1 is fits in
     let d : ChannelProgress = after_packet b.c item in
     let same : after b.c item ≡ d = ap (λ (h : Option ℕ). after_item b.c h item) id.1 in
@@ -313,8 +304,8 @@ goes_on_packet k text len sync room done behind le is fits sync_is room_next b =
       has_few = omega (arith, b.has_few, long, is.has_length, length-append done (message.Page k.at len ∷ []));
       before_hello = λ no. absurd (true≢false (sym behind ∙ no));
       behind_hello = λ _. ((λ no. absurd (some (sym kept.3 ∙ no))), omega (arith, bytes, long, (b.behind_hello behind).1));
-      synced = λ e. left.0 (sym sync_is ∙ not_false sync e);
-      unsynced = λ e. left.1 (sym sync_is ∙ not_true sync e);
+      synced = λ e. left.0 (sym sync_is ∙ not-false sync e);
+      unsynced = λ e. left.1 (sym sync_is ∙ not-true sync e);
       to = b.to;
       rest = b.rest;
       found = b.found;
@@ -322,7 +313,10 @@ goes_on_packet k text len sync room done behind le is fits sync_is room_next b =
       whole = b.whole;
     }
 
-pub finds_packet : (k : Cursor) (text : List ℕ) (len : ℕ) (sync : Bool) (room : Option ℕ) → k.greeted ≡ true → k.at ≤ length text → len ≤ length (drop k.at text)
+-- a packet at a cursor that is past the hello comes next, if it's within the limit, and the
+-- cursor moves past it
+pub finds_packet : (k : Cursor) (text : List ℕ) (len : ℕ) (sync : Bool) (room : Option ℕ) → k.greeted ≡ true → k.at ≤ length text
+    → len ≤ length (drop k.at text)
     → IsPacketText k.page_size (take len (drop k.at text)) → is_over k.room (weight (take len (drop k.at text))) ≡ false
     → sync ≡ is_sync (take len (drop k.at text)) → room ≡ next_room k.waiting k.room (take len (drop k.at text))
     → Finds k text (message.Page k.at len) (record k { at = k.at + len; unsynced = not sync; room = room })
@@ -330,7 +324,7 @@ unfolding item_message
 finds_packet k text len sync room behind in_text le is fits sync_is room_next =
     let item = take len (drop k.at text) in record {
       next = λ done b.
-          let id = some_id b.c.hello (b.behind_hello behind).0 in
+          let id = known b.c.hello (b.behind_hello behind).0 in
           let found = packet_item k text done len id.0 b id.1 is fits in
           next_found k text done len (message.Page k.at len) b found.0 found.1
           (ap (λ (h : Option ℕ). item_message b.c h item) id.1 ∙ packet_message k text done len id.0 b behind le);
@@ -368,6 +362,7 @@ due_at : (c : ChannelProgress) (h : Option ℕ) (rest : List ℕ) → c.hello �
     → due_fault c rest ≡ cond (leb (judged_len c.page_size h) (length rest)) (first_of (faults c h rest)) None
 due_at c h rest e = ap (λ (x : Option ℕ). cond (leb (judged_len c.page_size x) (length rest)) (first_of (faults c x rest)) None) e
 
+-- where too few bytes are left for the hello, the stop comes next, with Truncated
 pub finds_cut_hello : (k : Cursor) (text : List ℕ) → k.greeted ≡ false → k.at ≤ length text → length (drop k.at text) < hello_len
     → Finds k text (message.Stop (Bad Truncated)) k
 unfolding StopsAt
@@ -383,6 +378,7 @@ finds_cut_hello k text before in_text short = finds_stop k text (Bad Truncated) 
       ap (λ (h : Option ℕ). stop_message (state_at_end h rest b.c.packets)) none,
     ))
 
+-- where the hello has a fault that is due, the stop comes next, with this fault
 pub finds_bad_hello : (k : Cursor) (text : List ℕ) (fault : ChannelFault) → k.greeted ≡ false → k.at ≤ length text
     → due_hello_fault k.uuid k.channels (drop k.at text) ≡ Some fault → Finds k text (message.Stop (Bad fault)) k
 unfolding StopsAt
@@ -393,26 +389,29 @@ finds_bad_hello k text fault before in_text due = finds_stop k text (Bad fault) 
       refl,
     ))
 
+-- where a packet has a fault that is due, the stop comes next, with this fault
 pub finds_bad_packet : (k : Cursor) (text : List ℕ) (fault : ChannelFault) → k.greeted ≡ true → k.at ≤ length text
     → due_fault_within k.page_size k.room (drop k.at text) ≡ Some fault → Finds k text (message.Stop (Bad fault)) k
 unfolding StopsAt
 finds_bad_packet k text fault behind in_text due = finds_stop k text (Bad fault) in_text (λ done b.
     let rest = drop k.at text in
-    let id = some_id b.c.hello (b.behind_hello behind).0 in (
+    let id = known b.c.hello (b.behind_hello behind).0 in (
       state.Bad fault,
       due_at b.c (Some id.0) rest id.1 ∙ (λ i. due_fault_within (b.has_page_size i) (sym b.has_room i) rest) ∙ due,
       refl,
     ))
 
--- what `read_packet_within` answers where no packet is there yet
+-- what `read_packet_with` answers where no packet is there yet
 abbrev HasNoPacket : Cursor → List ℕ → Type 0
-HasNoPacket k text = (due_fault_within k.page_size k.room (drop k.at text) ≡ None) × ((front more : List ℕ) → drop k.at text ≡ front ++ more → IsPacketText k.page_size front → ⊥)
+HasNoPacket k text = (due_fault_within k.page_size k.room (drop k.at text) ≡ None)
+    × ((front more : List ℕ) → drop k.at text ≡ front ++ more → IsPacketText k.page_size front → ⊥)
 
-cut_there : (k : Cursor) (text : List ℕ) (done : List Message) (b : IsBehind k text done) → k.greeted ≡ true → HasNoPacket k text → Ends b.c (drop k.at text) state.Reading
+cut_there : (k : Cursor) (text : List ℕ) (done : List Message) (b : IsBehind k text done) → k.greeted ≡ true → HasNoPacket k text
+    → Ends b.c (drop k.at text) state.Reading
 cut_there k text done b behind cut =
     let rest = drop k.at text in
     let some = (b.behind_hello behind).0 in
-    let id = some_id b.c.hello some in
+    let id = known b.c.hello some in
     let none : due_fault b.c rest ≡ None = due_at b.c (Some id.0) rest id.1 ∙ (λ i. due_fault_within (b.has_page_size i) (sym b.has_room i) rest) ∙ cut.0 in (
       none,
       λ item more e is.
@@ -422,23 +421,27 @@ cut_there k text done b behind cut =
           cut.1 item more e (subst (λ (p : ℕ). IsPacketText p item) b.has_page_size (item_text b.c b.c.hello item some is free)),
     )
 
-truncated_at_end : (h : Option ℕ) (rest : List ℕ) (packets : List (List ℕ)) → h ≢ None → 0 < length rest → stop_message (state_at_end h rest packets) ≡ message.Stop (Bad Truncated) ∷ []
+truncated_at_end : (h : Option ℕ) (rest : List ℕ) (packets : List (List ℕ)) → h ≢ None → 0 < length rest
+    → stop_message (state_at_end h rest packets) ≡ message.Stop (Bad Truncated) ∷ []
 truncated_at_end None rest packets some long = absurd (some refl)
 truncated_at_end (Some id) [] packets some long = absurd (omega arith)
 truncated_at_end (Some id) (byte ∷ rest) packets some long = refl
 
-unsynced_at_end : (h : Option ℕ) (rest : List ℕ) (packets : List (List ℕ)) → h ≢ None → length rest ≡ 0 → packets ≢ [] → stop_message (state_at_end h rest packets) ≡ message.Stop (Bad Unsynced) ∷ []
+unsynced_at_end : (h : Option ℕ) (rest : List ℕ) (packets : List (List ℕ)) → h ≢ None → length rest ≡ 0 → packets ≢ []
+    → stop_message (state_at_end h rest packets) ≡ message.Stop (Bad Unsynced) ∷ []
 unsynced_at_end None rest packets some none left = absurd (some refl)
 unsynced_at_end (Some id) (byte ∷ rest) packets some none left = absurd (omega (arith, none))
 unsynced_at_end (Some id) [] [] some none left = absurd (left refl)
 unsynced_at_end (Some id) [] (packet ∷ packets) some none left = refl
 
-clean_at_end : (h : Option ℕ) (rest : List ℕ) (packets : List (List ℕ)) → h ≢ None → length rest ≡ 0 → packets ≡ [] → stop_message (state_at_end h rest packets) ≡ message.Stop Clean ∷ []
+clean_at_end : (h : Option ℕ) (rest : List ℕ) (packets : List (List ℕ)) → h ≢ None → length rest ≡ 0 → packets ≡ []
+    → stop_message (state_at_end h rest packets) ≡ message.Stop Clean ∷ []
 clean_at_end None rest packets some none left = absurd (some refl)
 clean_at_end (Some id) (byte ∷ rest) packets some none left = absurd (omega (arith, none))
 clean_at_end (Some id) [] [] some none left = refl
 clean_at_end (Some id) [] (packet ∷ packets) some none left = absurd (omega (arith, ap length left))
 
+-- where bytes are left after the hello, but no packet, the stop comes next, with Truncated
 pub finds_cut_packet : (k : Cursor) (text : List ℕ) → k.greeted ≡ true → HasNoPacket k text → k.at < length text → Finds k text (message.Stop (Bad Truncated)) k
 unfolding StopsAt
 finds_cut_packet k text behind cut lt = finds_stop k text (Bad Truncated) (omega arith) (λ done b.
@@ -448,6 +451,7 @@ finds_cut_packet k text behind cut lt = finds_stop k text (Bad Truncated) (omega
       truncated_at_end b.c.hello rest b.c.packets (b.behind_hello behind).0 (omega (arith, lt, length-drop k.at text)),
     ))
 
+-- where all bytes were read, but not the round's SYNC, the stop comes next, with Unsynced
 pub finds_unsynced : (k : Cursor) (text : List ℕ) → k.greeted ≡ true → HasNoPacket k text → k.at ≡ length text → k.unsynced ≡ true
     → Finds k text (message.Stop (Bad Unsynced)) k
 unfolding StopsAt
@@ -458,6 +462,7 @@ finds_unsynced k text behind cut over open_ = finds_stop k text (Bad Unsynced) (
       unsynced_at_end b.c.hello rest b.c.packets (b.behind_hello behind).0 (omega (arith, over, length-drop k.at text)) (b.unsynced open_),
     ))
 
+-- where all bytes were read, and no round is open, the stop comes next, and is clean
 pub finds_clean : (k : Cursor) (text : List ℕ) → k.greeted ≡ true → HasNoPacket k text → k.at ≡ length text → k.unsynced ≡ false
     → Finds k text (message.Stop Clean) k
 unfolding StopsAt
@@ -467,7 +472,3 @@ finds_clean k text behind cut over closed = finds_stop k text Clean (omega (arit
       cut_there k text done b behind cut,
       clean_at_end b.c.hello rest b.c.packets (b.behind_hello behind).0 (omega (arith, over, length-drop k.at text)) (b.synced closed),
     ))
-
--- the bytes from a place on
-pub from_place : (text : List ℕ) (at : ℕ) → take (length text - at) (drop at text) ≡ drop at text
-from_place text at = take_all (length text - at) (drop at text) (omega (arith, length-drop at text))

@@ -9,6 +9,7 @@ use Rattle.mig_packet.specs.declared.packet.Packet.{Packet}
 use Rattle.mig_packet.specs.Lent.{fields}
 use Rattle.mig_packet.specs.Packet.{Fields}
 use Rattle.mig_packet.specs.ChannelItems.{ChannelItem, Hello, Page, Stop, AreItems}
+use Rattle.mig_single_load.proofs.Sections.{of_some}
 use Rattle.mig_relay.specs.declared.item.ChannelEnd.{ChannelEnd}
 use Rattle.mig_relay.specs.declared.item.ChannelEnd.TheVariants as channel_end
 use Rattle.mig_relay.specs.declared.item.Item.{Item}
@@ -21,7 +22,7 @@ use Rattle.mig_relay.specs.Relayed.{stop_status, Continues, IsOpenAt, IsAt, IsAt
 use Rattle.mig_answer.proofs.Statuses.{status_whole, status_end}
 use Rattle.mig_answer.proofs.Received.{stop_law, counted_law}
 use Rattle.mig_answer.proofs.ReceivedSteps.{HoldsRounds, holds_hello, holds_packet, holds_sync, holds_stop, holds_count, end_comes}
-use Rattle.mig_relay.proofs.GoingThrough.{set_there, set_same, set_twice, is_some_of, is_there, goes_on, goes_further, one_goes_on}
+use Rattle.mig_relay.proofs.GoingThrough.{set_there, set_same, set_twice, is_there, goes_on, goes_further, one_goes_on}
 
 -- ---- on the way
 
@@ -37,11 +38,12 @@ pub record Going (j at : ℕ) (old new : List QueueEnd) (to : ℕ) (packets : Li
   pub of_size : All (λ packet. packet.page_size ≡ before.source.page_size) packets
   pub holds : (rounds : List (List Fields)) → IsAt at before.passed rounds → HoldsRounds (take to behind.passed) rounds (map fields packets)
 
+-- a channel that is at round k at an index was processed from there to there, without packets
 pub going_starts : (j at k : ℕ) (old : List QueueEnd) → j < length old → IfSome (slice_get old j) (λ p. IsAtRound k at p.passed) → Going j at old old at []
 going_starts j at k old within h =
     let found = is_there old j within in
     let p : QueueEnd = found.0 in
-    let here : IsAtRound k at p.passed = is_some_of (λ (p : QueueEnd). IsAtRound k at p.passed) (slice_get old j) p found.1 h in
+    let here : IsAtRound k at p.passed = of_some (λ (p : QueueEnd). IsAtRound k at p.passed) (slice_get old j) p found.1 h in
     record {
       before = p;
       behind = p;
@@ -53,13 +55,18 @@ going_starts j at k old within h =
       holds = λ rounds is. is.has_rounds;
     }
 
+-- the items of a channel up to which it was processed, without the end of a round, were taken,
+-- and the stop isn't among them
 pub going_opens : (j at to : ℕ) (old new : List QueueEnd) (packets : List Packet) → Going j at old new to packets → IfSome (slice_get new j) (IsOpenAt to)
 going_opens j at to old new packets going =
-    let now : slice_get new j ≡ Some going.behind = ap (λ (l : List QueueEnd). slice_get l j) going.has_new ∙ set_there old j going.before going.behind going.has_before in
+    let now : slice_get new j ≡ Some going.behind = ap (λ (l : List QueueEnd). slice_get l j) going.has_new
+    ∙ set_there old j going.before going.behind going.has_before in
     subst (λ (o : Option QueueEnd). IfSome o (IsOpenAt to)) (sym now) going.is_open
 
+-- where a channel is processed, all ends continue those before
 pub going_within : (j at to : ℕ) (old new : List QueueEnd) (packets : List Packet) → Going j at old new to packets → AllZip Continues old new
-going_within j at to old new packets going = subst (AllZip Continues old) (sym going.has_new) (one_goes_on old j going.before going.behind going.has_before going.continues)
+going_within j at to old new packets going =
+    subst (AllZip Continues old) (sym going.has_new) (one_goes_on old j going.before going.behind going.has_before going.continues)
 
 -- the channel with its next item
 record Stepped (j to : ℕ) (old new : List QueueEnd) (before behind now : QueueEnd) (x : Item) : Type 0 where
@@ -71,10 +78,12 @@ record Stepped (j to : ℕ) (old new : List QueueEnd) (before behind now : Queue
   is_page_size : IsPageSize now.source.page_size
   of_size : IsOfPageSize before.source.page_size x
 
-steps : (j at to : ℕ) (old mid new : List QueueEnd) (packets : List Packet) (x : Item) (going : Going j at old mid to packets) (gives : GivesItem j to mid new x)
+steps : (j at to : ℕ) (old mid new : List QueueEnd) (packets : List Packet) (x : Item) (going : Going j at old mid to
+    packets) (gives : GivesItem j to mid new x)
     → Stepped j to old new going.before going.behind gives.behind x
 steps j at to old mid new packets x going gives =
-    let now : slice_get mid j ≡ Some going.behind = ap (λ (l : List QueueEnd). slice_get l j) going.has_new ∙ set_there old j going.before going.behind going.has_before in
+    let now : slice_get mid j ≡ Some going.behind = ap (λ (l : List QueueEnd). slice_get l j) going.has_new
+    ∙ set_there old j going.before going.behind going.has_before in
     let same : gives.before ≡ going.behind = let e : Some gives.before ≡ Some going.behind = sym gives.has_before ∙ now in cc in
     let continues : Continues going.behind gives.behind = subst (λ (p : QueueEnd). Continues p gives.behind) same gives.continues in
     let there = gives.is_there in
@@ -85,10 +94,13 @@ steps j at to old mid new packets x going gives =
       within = omega (arith, there);
       has_front = gives.has_passed ∙ ap (λ (p : QueueEnd). take to p.passed ++ as_channel_item x ∷ []) same;
       is_page_size = subst (λ (t : ChannelText). IsPageSize t.page_size) (sym gives.continues.same_source) gives.is_page_size;
-      of_size = subst (λ (t : ChannelText). IsOfPageSize t.page_size x) (ap (λ (p : QueueEnd). p.source) same ∙ going.continues.same_source) gives.has_page_size;
+      of_size = subst (λ (t : ChannelText). IsOfPageSize t.page_size x)
+          (ap (λ (p : QueueEnd). p.source) same ∙ going.continues.same_source) gives.has_page_size;
     }
 
-pub going_hello : (j at to id : ℕ) (old mid new : List QueueEnd) (packets : List Packet) → Going j at old mid to packets → GivesItem j to mid new (item.Hello id) → Going j at old new (to + 1) packets
+-- a hello that comes next is processed, and adds no packet
+pub going_hello : (j at to id : ℕ) (old mid new : List QueueEnd) (packets : List Packet) → Going j at old mid to packets
+    → GivesItem j to mid new (item.Hello id) → Going j at old new (to + 1) packets
 going_hello j at to id old mid new packets going gives =
     let s = steps j at to old mid new packets (item.Hello id) going gives in
     record {
@@ -106,7 +118,9 @@ going_hello j at to id old mid new packets going gives =
 one_more_packet : (packets : List Packet) (packet : Packet) → map fields (packets ++ packet ∷ []) ≡ map fields packets ++ fields packet ∷ []
 one_more_packet packets packet = map-append fields packets (packet ∷ [])
 
-pub going_packet : (j at to : ℕ) (packet : Packet) (old mid new : List QueueEnd) (packets : List Packet) → Going j at old mid to packets → GivesItem j to mid new (item.Page packet)
+-- a packet without SYNC that comes next is processed, and is added to the packets
+pub going_packet : (j at to : ℕ) (packet : Packet) (old mid new : List QueueEnd) (packets : List Packet)
+    → Going j at old mid to packets → GivesItem j to mid new (item.Page packet)
     → (fields packet).sync ≡ false → Going j at old new (to + 1) (packets ++ packet ∷ [])
 going_packet j at to packet old mid new packets going gives f =
     let s = steps j at to old mid new packets (item.Page packet) going gives in
@@ -127,20 +141,30 @@ going_packet j at to packet old mid new packets going gives f =
 -- ---- the end of a round
 
 -- the rounds of all that was taken are those that were processed, and others
-rounds_are : (to : ℕ) (passed : List ChannelItem) (rounds : List (List Fields)) → HoldsRounds (take to passed) rounds [] → rounds_in passed ≡ rounds ++ rounds_in (drop to passed)
+rounds_are : (to : ℕ) (passed : List ChannelItem) (rounds : List (List Fields)) → HoldsRounds (take to passed) rounds []
+    → rounds_in passed ≡ rounds ++ rounds_in (drop to passed)
 rounds_are to passed rounds holds = ap rounds_in (sym (take-append-drop to passed)) ∙ holds (drop to passed)
 
-gone_whole_at : (k to : ℕ) (q : QueueEnd) (rounds : List (List Fields)) (packets : List Fields) → length rounds ≡ k → BeginsItems q.source q.passed → to ≤ length q.passed
+gone_whole_at : (k to : ℕ) (q : QueueEnd) (rounds : List (List Fields)) (packets : List Fields) → length rounds ≡ k
+    → BeginsItems q.source q.passed → to ≤ length q.passed
     → end_in (take to q.passed) ≡ Pending → HoldsRounds (take to q.passed) (rounds ++ packets ∷ []) [] → HasGone k to q Whole packets
 gone_whole_at k to q rounds packets count begun within is_open holds =
     let all : rounds_in q.passed ≡ (rounds ++ packets ∷ []) ++ rounds_in (drop to q.passed) = rounds_are to q.passed (rounds ++ packets ∷ []) holds in
-    let split : rounds_in q.passed ≡ rounds ++ packets ∷ rounds_in (drop to q.passed) = all ∙ append_assoc rounds (packets ∷ []) (rounds_in (drop to q.passed)) in
+    let split : rounds_in q.passed ≡ rounds ++ packets ∷ rounds_in (drop to q.passed) = all
+    ∙ append_assoc rounds (packets ∷ []) (rounds_in (drop to q.passed)) in
     let more : k < round_count q.passed =
-    omega (arith, count, counted_law q.passed, ap (λ (l : List (List Fields)). length l) split, length-append rounds (packets ∷ rounds_in (drop to q.passed))) in
+    omega (
+      arith,
+      count,
+      counted_law q.passed,
+      ap (λ (l : List (List Fields)). length l) split,
+      length-append rounds (packets ∷ rounds_in (drop to q.passed)),
+    ) in
     record {
       is_told = (begun, inl more);
       has_status = sym (status_whole k (round_count q.passed) (end_in q.passed) more);
-      has_packets = λ _. sym (ap (λ (l : List (List Fields)). get_or l k []) split ∙ ap (λ (n : ℕ). get_or (rounds ++ packets ∷ rounds_in (drop to q.passed)) n []) (sym count)
+      has_packets = λ _. sym (ap (λ (l : List (List Fields)). get_or l k []) split
+          ∙ ap (λ (n : ℕ). get_or (rounds ++ packets ∷ rounds_in (drop to q.passed)) n []) (sym count)
           ∙ get_or_there rounds packets (rounds_in (drop to q.passed)));
       goes_on = λ _. record {
         rounds = rounds ++ packets ∷ [];
@@ -153,13 +177,16 @@ gone_whole_at k to q rounds packets count begun within is_open holds =
     get_or_there [] x ys = refl
     get_or_there (y ∷ xs) x ys = get_or_there xs x ys
 
-pub gone_whole : (j at to : ℕ) (packet : Packet) (old mid new : List QueueEnd) (packets : List Packet) → Going j at old mid to packets → GivesItem j to mid new (item.Page packet)
+-- with a packet with SYNC the channel is processed through its round, which is whole
+pub gone_whole : (j at to : ℕ) (packet : Packet) (old mid new : List QueueEnd) (packets : List Packet)
+    → Going j at old mid to packets → GivesItem j to mid new (item.Page packet)
     → (fields packet).sync ≡ true → GoesThrough j at old new (to + 1) Whole (packets ++ packet ∷ [])
 gone_whole j at to packet old mid new packets going gives t =
     let s = steps j at to old mid new packets (item.Page packet) going gives in
     let q : QueueEnd = gives.behind in
     let OfSize : Packet → Type 0 = λ packet. packet.page_size ≡ going.before.source.page_size in
-    let is_open : end_in (take (to + 1) q.passed) ≡ Pending = ap end_in s.has_front ∙ end_comes (take to going.behind.passed) (Page (fields packet) ∷ []) going.is_open.1 in
+    let is_open : end_in (take (to + 1) q.passed) ≡ Pending = ap end_in s.has_front
+    ∙ end_comes (take to going.behind.passed) (Page (fields packet) ∷ []) going.is_open.1 in
     record {
       before = going.before;
       behind = q;
@@ -181,7 +208,13 @@ gone_whole j at to packet old mid new packets going gives t =
 front_is_all : (to : ℕ) (xs more : List ChannelItem) → take to xs ≡ xs ++ more → (take to xs ≡ xs) × (more ≡ [])
 front_is_all to xs [] e = (e ∙ append-nil xs, refl)
 front_is_all to xs (x ∷ more) e =
-    absurd (omega (arith, ap (λ (l : List ChannelItem). length l) e, length-append xs (x ∷ more), ap (λ (l : List ChannelItem). length l) (take-append-drop to xs), length-append (take to xs) (drop to xs)))
+    absurd (omega (
+      arith,
+      ap (λ (l : List ChannelItem). length l) e,
+      length-append xs (x ∷ more),
+      ap (λ (l : List ChannelItem). length l) (take-append-drop to xs),
+      length-append (take to xs) (drop to xs),
+    ))
 
 stop_tells : (end : ChannelEnd) → end_in (Stop (end_fault end) ∷ []) ≡ stop_status end
 stop_tells channel_end.Clean = refl
@@ -195,7 +228,9 @@ stop_not_whole : (end : ChannelEnd) → stop_status end ≡ Whole → ⊥
 stop_not_whole channel_end.Clean e = absurd cc
 stop_not_whole (channel_end.Bad f) e = absurd cc
 
-pub gone_stop : (j at to : ℕ) (end : ChannelEnd) (old mid new : List QueueEnd) (packets : List Packet) → Going j at old mid to packets → GivesItem j to mid new (item.Stop end)
+-- with the stop the channel is processed through, with the status of this stop
+pub gone_stop : (j at to : ℕ) (end : ChannelEnd) (old mid new : List QueueEnd) (packets : List Packet)
+    → Going j at old mid to packets → GivesItem j to mid new (item.Stop end)
     → GoesThrough j at old new (to + 1) (stop_status end) packets
 gone_stop j at to end old mid new packets going gives =
     let s = steps j at to old mid new packets (item.Stop end) going gives in
@@ -205,12 +240,15 @@ gone_stop j at to end old mid new packets going gives =
     let more : List ChannelItem = s.begun.0 in
     let front : IsFront (take (to + 1) q.passed) (q.passed ++ more) = record {
       rest = drop (to + 1) q.passed ++ more;
-      has_rest = ap (λ (l : List ChannelItem). l ++ more) (sym (take-append-drop (to + 1) q.passed)) ∙ append_assoc (take (to + 1) q.passed) (drop (to + 1) q.passed) more;
+      has_rest = ap (λ (l : List ChannelItem). l ++ more) (sym (take-append-drop (to + 1) q.passed))
+          ∙ append_assoc (take (to + 1) q.passed) (drop (to + 1) q.passed) more;
     } in
     let whole : take (to + 1) q.passed ≡ q.passed ++ more =
-    (stop_law (given q.source) q.source.text (q.passed ++ more) (take (to + 1) q.passed) s.is_page_size s.begun.1 front).0 (λ e. stop_ends end (sym ends ∙ e)) in
+    (stop_law (given q.source) q.source.text (q.passed ++ more) (take (to + 1) q.passed) s.is_page_size s.begun.1 front).0
+    (λ e. stop_ends end (sym ends ∙ e)) in
     let all = front_is_all (to + 1) q.passed more whole in
-    let through : IsThrough q = subst (λ (l : List ChannelItem). AreItems (given q.source) q.source.text l) (ap (λ (l : List ChannelItem). q.passed ++ l) all.1 ∙ append-nil q.passed) s.begun.1 in
+    let through : IsThrough q = subst (λ (l : List ChannelItem). AreItems (given q.source) q.source.text l)
+    (ap (λ (l : List ChannelItem). q.passed ++ l) all.1 ∙ append-nil q.passed) s.begun.1 in
     record {
       before = going.before;
       behind = q;

@@ -71,7 +71,8 @@ pops pass v may x items views h at =
     let popped = h.4 ++ x ∷ [] in
     let split : h.3 ≡ popped ++ items = h.5 ∙ sym (append_assoc h.4 (x ∷ []) items) in
     let all : h.3 ++ h.6.0 ≡ (v.done ++ x ∷ []) ++ (items ++ h.6.0) =
-    ap (λ (l : List Message). l ++ h.6.0) (split ∙ ap (λ (l : List Message). (l ++ x ∷ []) ++ items) (sym mine.2)) ∙ append_assoc (v.done ++ x ∷ []) items h.6.0 in (
+    ap (λ (l : List Message). l ++ h.6.0) (split ∙ ap (λ (l : List Message). (l ++ x ∷ []) ++ items) (sym mine.2))
+    ∙ append_assoc (v.done ++ x ∷ []) items h.6.0 in (
       w,
       (
         h.0,
@@ -89,7 +90,8 @@ pops pass v may x items views h at =
     )
 
 -- the one pass of a new queue is cut in two, which learn the channel
-pub forks : (pass : ℕ) (v : Log) (source : ChannelText) → IsPageSize source.page_size → v ≡ fresh → Forks IsInOrder pass v (feeding source []) (collecting source [])
+pub forks : (pass : ℕ) (v : Log) (source : ChannelText) → IsPageSize source.page_size → v ≡ fresh
+    → Forks IsInOrder pass v (feeding source []) (collecting source [])
 forks pass v source size_is is items views h at =
     let l : Log = feeding source [] in
     let r : Log = collecting source [] in

@@ -28,7 +28,9 @@ main_so_far text n = record { text = text; ended = true; taken = n }
 
 -- ---- one reading
 
-pub same_main : (l : Load) (k : ℕ) (places : List ℕ) (ends : List QueueEnd) (reading : StreamReading) → Loading l k places ends → IsReading (main_of l.given) l.main reading
+-- a load's reading of the main stream is any reading of its bytes, in the state once they end
+pub same_main : (l : Load) (k : ℕ) (places : List ℕ) (ends : List QueueEnd) (reading : StreamReading) → Loading l k places ends
+    → IsReading (main_of l.given) l.main reading
     → l.readings.main ≡ record reading { state = state_at true reading.state }
 same_main l k places ends reading loading is =
     let main = loading.are_readings.has_main in
@@ -37,18 +39,28 @@ same_main l k places ends reading loading is =
     main.has_end ∙ ap (λ (r : StreamReading). record r { state = state_at true r.state }) same
 
 -- those that were given are the stream's
-given_are_there : (l : Load) (k n : ℕ) (places : List ℕ) (ends : List QueueEnd) (r : Reader) → Loading l k places ends → Stands (main_of l.given) (main_so_far l.main n) r
+given_are_there : (l : Load) (k n : ℕ) (places : List ℕ) (ends : List QueueEnd) (r : Reader) → Loading l k places ends
+    → Stands (main_of l.given) (main_so_far l.main n) r
     → n ≤ length l.readings.main.rounds
 given_are_there l k n places ends r loading stands =
     let to : StreamProgress = with_taken stands.rounds r.progress in
     let other : StreamReading = record { table = whole_table to; rounds = to.rounds; state = r.found } in
-    let is_other : IsReading (main_of l.given) l.main other = record { to = to; rest = stands.rest; reads = stands.reads; has_table = refl; has_rounds = refl } in
+    let is_other : IsReading (main_of l.given) l.main other = record {
+      to = to;
+      rest = stands.rest;
+      reads = stands.reads;
+      has_table = refl;
+      has_rounds = refl;
+    } in
     let same = same_main l k places ends other loading is_other in
     omega (arith, ap (λ (x : StreamReading). length x.rounds) same, length-append stands.rounds r.progress.rounds, stands.has_taken)
 
 -- ---- a round comes
 
-pub comes_in : (l : Load) (reader : Reader) (target : LoadTarget) (places : List ℕ) (ends : List QueueEnd) (round : RoundOfRecords) → Goes l reader target places ends
+-- if the main stream has a next round of these records, at places of its table, the load comes
+-- to this round
+pub comes_in : (l : Load) (reader : Reader) (target : LoadTarget) (places : List ℕ) (ends : List
+    QueueEnd) (round : RoundOfRecords) → Goes l reader target places ends
     → round.page_size ≡ l.given.page_size → HasRound (main_of l.given) l.main target.rounds round.records
     → ((table : RamTable) → HasTable (main_of l.given) l.main (Some table) → All (λ x. IsPlace table x.place) round.records)
     → ComesToRound l target places ends round
@@ -76,6 +88,7 @@ comes_in l reader target places ends round goes size has places_in =
 
 -- ---- no round is left
 
+-- if the main stream has no round from k on, the load ends at k with the main stream's state
 pub ends_in : (l : Load) (k : ℕ) (reader : Reader) (state : StreamState) (places : List ℕ) (ends : List QueueEnd) → Loading l k places ends
     → Stands (main_of l.given) (main_so_far l.main k) reader
     → ((i : ℕ) (round : List PageRecord) → HasRound (main_of l.given) l.main i round → i < k)
@@ -97,7 +110,8 @@ ends_in l k reader state places ends loading stands last has =
 -- ---- the end
 
 -- a load that goes ends with its memory unchanged
-pub ends_here : (l : Load) (reader : Reader) (target new : LoadTarget) (verdict : Result ⊤ LoadFault) (places : List ℕ) (ends now : List QueueEnd) → Goes l reader target places ends
+pub ends_here : (l : Load) (reader : Reader) (target new : LoadTarget) (verdict : Result ⊤ LoadFault) (places : List ℕ)
+    (ends now : List QueueEnd) → Goes l reader target places ends
     → new ≡ target → HasEnded l target.rounds verdict now → Ends l new verdict now
 ends_here l reader target new verdict places ends now goes same ended =
     subst (λ (t : LoadTarget). Ends l t verdict now) (sym same) (record {
@@ -108,9 +122,11 @@ ends_here l reader target new verdict places ends now goes same ended =
     })
 
 -- after all rounds
-pub goes_to_end : (l : Load) (k : ℕ) (reader next : Reader) (target : LoadTarget) (state : StreamState) (places : List ℕ) (ends : List QueueEnd) → k ≡ target.rounds → Goes l reader target places ends
+pub goes_to_end : (l : Load) (k : ℕ) (reader next : Reader) (target : LoadTarget) (state : StreamState) (places : List
+    ℕ) (ends : List QueueEnd) → k ≡ target.rounds → Goes l reader target places ends
     → next ≡ reader → ((i : ℕ) (round : List PageRecord) → HasRound (main_of l.given) l.main i round → i < target.rounds)
     → HasState (main_of l.given) l.main true state → EndsAt l k state places ends
 goes_to_end l k reader next target state places ends e goes same last has =
     subst (λ n. EndsAt l n state places ends) (sym e)
-    (ends_in l target.rounds next state places ends goes.loading (subst (λ (r : Reader). Stands (main_of l.given) (main_so_far l.main target.rounds) r) (sym same) goes.stands) last has)
+    (ends_in l target.rounds next state places ends goes.loading
+    (subst (λ (r : Reader). Stands (main_of l.given) (main_so_far l.main target.rounds) r) (sym same) goes.stands) last has)

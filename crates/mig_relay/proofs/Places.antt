@@ -19,8 +19,8 @@ use Rattle.mig_packet.specs.Progress.{ChannelProgress, start, faults, after_pack
 use Rattle.mig_packet.specs.Reading.{IsItem, AreFaultless, after_all, Front, state_at, state_at_end}
 use Rattle.mig_packet.specs.ChannelItems.{ChannelItem, Page, all_packets, item_of_hello, item_of_stop}
 use Rattle.mig_packet.proofs.Exists.{one_list_law}
-use Rattle.mig_packet.proofs.Judged.{faultless_text}
 use Rattle.mig_packet.proofs.Waiting.{faultless_within}
+use Rattle.mig_packet.proofs.Judging.{free_text}
 use Rattle.mig_relay.specs.declared.item.ChannelEnd.{ChannelEnd}
 use Rattle.mig_relay.specs.declared.log.ChannelText.{ChannelText}
 use Rattle.mig_relay.specs.declared.message.Message.{Message}
@@ -56,7 +56,8 @@ pub same_settings : (c : ChannelProgress) (packet : List ℕ) → ((after_packet
     × ((after_packet c packet).channels ≡ c.channels) × ((after_packet c packet).hello ≡ c.hello) × ((after_packet c packet).waiting ≡ c.waiting)
 same_settings c packet =
     let packets = c.packets ++ packet ∷ [] in
-    let Same : ChannelProgress → Type 0 = λ d. (d.page_size ≡ c.page_size) × (d.uuid ≡ c.uuid) × (d.channels ≡ c.channels) × (d.hello ≡ c.hello) × (d.waiting ≡ c.waiting) in
+    let Same : ChannelProgress → Type 0 = λ d. (d.page_size ≡ c.page_size) × (d.uuid ≡ c.uuid) × (d.channels ≡ c.channels)
+    × (d.hello ≡ c.hello) × (d.waiting ≡ c.waiting) in
     elim (is_sync packet) as (λ b. Same (cond b (record c { packets = []; rounds = c.rounds ++ packets ∷ [] }) (record c { packets = packets }))) [
       | true ↦ (refl, refl, refl, refl, refl)
       | false ↦ (refl, refl, refl, refl, refl)
@@ -100,11 +101,12 @@ laid_item page_size c front item (Some id) e is free l =
     let more = more_packets c item in
     let some : c.hello ≢ None = λ no. absurd (let clash : None ≡ Some id = sym no ∙ e in cc) in
     let judged = faultless_within c.page_size (room_after c.waiting c.packets) item free in
-    let packet : IsPacketText page_size item = subst (λ (n : ℕ). IsPacketText n item) l.has_page_size (faultless_text c.page_size item judged.0 is) in record {
+    let packet : IsPacketText page_size item = subst (λ (n : ℕ). IsPacketText n item) l.has_page_size (free_text c.page_size item judged.0 is) in record {
       has_page_size = same.0 ∙ l.has_page_size;
       hello = l.hello;
       has_front = ap (λ (x : List ℕ). x ++ item) l.has_front ∙ append_assoc l.hello (concat (all_packets c)) item
-          ∙ ap (λ (x : List ℕ). l.hello ++ x) (ap (λ (x : List ℕ). concat (all_packets c) ++ x) (sym (append-nil item)) ∙ sym (concat-append (all_packets c) (item ∷ [])))
+          ∙ ap (λ (x : List ℕ). l.hello ++ x) (ap (λ (x : List ℕ). concat (all_packets c) ++ x) (sym (append-nil item))
+          ∙ sym (concat-append (all_packets c) (item ∷ [])))
           ∙ ap (λ (ps : List (List ℕ)). l.hello ++ concat ps) (sym more);
       are_packets = subst (All (IsPacketText page_size)) (sym more) (All-push (IsPacketText page_size) (all_packets c) item l.are_packets packet);
       before_hello = λ no. absurd (some (sym same.3 ∙ no));
@@ -124,7 +126,8 @@ laid source c front f =
     let p = source.page_size in
     let from = start p source.uuid source.channels source.waiting in
     subst (λ (d : ChannelProgress). IsLaid p d front) (sym f.leads_to)
-    (subst (IsLaid p (after_all from f.items)) (sym f.has_bytes) (laid_all p from [] f.items f.are_faultless (laid_at_start p source.uuid source.channels source.waiting)))
+    (subst (IsLaid p (after_all from f.items)) (sym f.has_bytes)
+    (laid_all p from [] f.items f.are_faultless (laid_at_start p source.uuid source.channels source.waiting)))
 
 -- ---- the packets, read at their places
 
@@ -147,7 +150,8 @@ read_places : (p at : ℕ) (text front rest : List ℕ) (packets : List (List �
 read_places p at text front rest [] e is = refl
 read_places p at text front rest (packet ∷ packets) e is =
     let here = one_place at text front packet (concat packets ++ rest) e (is ∙ ap (λ (x : List ℕ). front ++ x) (append_assoc packet (concat packets) rest)) in
-    let others = read_places p (at + length packet) text (front ++ packet) rest packets (next_place at front packet e) (next_text text front packet (concat packets) rest is) in
+    let others = read_places p (at + length packet) text (front ++ packet) rest packets (next_place at front packet e)
+    (next_text text front packet (concat packets) rest is) in
     λ i. Page (fields_of p (here.0 i)) ∷ others i
 
 -- all messages lie in the channel's bytes, and the one stop is last
@@ -158,7 +162,8 @@ WellMade p text (message.Page at len ∷ l) = IsMessageIn p text (message.Page a
 WellMade p text (message.Stop end ∷ []) = Unit {0}
 WellMade p text (message.Stop end ∷ (x ∷ l)) = ⊥
 
-well_placed : (p at : ℕ) (text front rest : List ℕ) (packets : List (List ℕ)) (stop : List Message) → at ≡ length front → text ≡ front ++ (concat packets ++ rest)
+well_placed : (p at : ℕ) (text front rest : List ℕ) (packets : List (List ℕ)) (stop : List Message) → at ≡ length front
+    → text ≡ front ++ (concat packets ++ rest)
     → All (IsPacketText p) packets → WellMade p text stop → WellMade p text (places at packets ++ stop)
 well_placed p at text front rest [] stop e is are made = made
 well_placed p at text front rest (packet ∷ packets) stop e is are made =
@@ -170,13 +175,15 @@ well_placed p at text front rest (packet ∷ packets) stop e is are made =
 
 -- ---- the stop
 
-one_stop_at_end : (h : Option ℕ) (rest : List ℕ) (packets : List (List ℕ)) → (end : ChannelEnd) × (stop_message (state_at_end h rest packets) ≡ message.Stop end ∷ [])
+one_stop_at_end : (h : Option ℕ) (rest : List ℕ) (packets : List (List ℕ))
+    → (end : ChannelEnd) × (stop_message (state_at_end h rest packets) ≡ message.Stop end ∷ [])
 one_stop_at_end None rest packets = (_, refl)
 one_stop_at_end (Some id) (byte ∷ rest) packets = (_, refl)
 one_stop_at_end (Some id) [] (packet ∷ packets) = (_, refl)
 one_stop_at_end (Some id) [] [] = (_, refl)
 
-one_stop : (c : ChannelProgress) (rest : List ℕ) (found : ChannelState) → (end : ChannelEnd) × (stop_message (state_at true c rest found) ≡ message.Stop end ∷ [])
+one_stop : (c : ChannelProgress) (rest : List ℕ) (found : ChannelState)
+    → (end : ChannelEnd) × (stop_message (state_at true c rest found) ≡ message.Stop end ∷ [])
 one_stop c rest state.Reading = one_stop_at_end c.hello rest c.packets
 one_stop c rest state.Closed = (_, refl)
 one_stop c rest (state.Bad fault) = (_, refl)
@@ -193,7 +200,8 @@ hello_items p text (Some id) = refl
 -- ---- the messages of a front
 
 -- the beginning of a prefix's packets, if there are any
-begins_packets : (p : ℕ) (c : ChannelProgress) (text front rest : List ℕ) (l : IsLaid p c front) → text ≡ front ++ rest → text ≡ l.hello ++ (concat (all_packets c) ++ rest)
+begins_packets : (p : ℕ) (c : ChannelProgress) (text front rest : List ℕ) (l : IsLaid p c front) → text ≡ front ++ rest
+    → text ≡ l.hello ++ (concat (all_packets c) ++ rest)
 begins_packets p c text front rest l e = e ∙ ap (λ (x : List ℕ). x ++ rest) l.has_front ∙ append_assoc l.hello (concat (all_packets c)) rest
 
 read_front : (p : ℕ) (c : ChannelProgress) (text front rest : List ℕ) (h : Option ℕ) → c.hello ≡ h → IsLaid p c front → text ≡ front ++ rest
@@ -205,7 +213,8 @@ read_front p c text front rest (Some id) e l is =
     let some : c.hello ≢ None = λ no. absurd (let clash : None ≡ Some id = sym no ∙ e in cc) in
     read_places p hello_len text l.hello rest (all_packets c) (sym (l.behind_hello some)) (begins_packets p c text front rest l is)
 
-well_fronted : (p : ℕ) (c : ChannelProgress) (text front rest : List ℕ) (h : Option ℕ) (stop : List Message) → c.hello ≡ h → IsLaid p c front → text ≡ front ++ rest
+well_fronted : (p : ℕ) (c : ChannelProgress) (text front rest : List ℕ) (h : Option ℕ) (stop : List Message) → c.hello ≡ h
+    → IsLaid p c front → text ≡ front ++ rest
     → WellMade p text stop → WellMade p text ((hello_message h ++ places hello_len (all_packets c)) ++ stop)
 well_fronted p c text front rest None stop e l is made =
     subst (λ (ps : List (List ℕ)). WellMade p text (places hello_len ps ++ stop)) (sym (l.before_hello e).1) made
@@ -234,7 +243,8 @@ items_law source l are =
     let is = laid source c are.reads.front are.reads.leads in
     let page : ℕ → List ℕ → ChannelItem = λ n packet. Page (fields_of n packet) in
     let packets : map read (places hello_len (all_packets c)) ≡ map (page c.page_size) (all_packets c) =
-    read_front p c source.text are.reads.front are.rest c.hello refl is are.reads.has_text ∙ ap (λ (n : ℕ). map (page n) (all_packets c)) (sym is.has_page_size) in
+    read_front p c source.text are.reads.front are.rest c.hello refl is are.reads.has_text
+    ∙ ap (λ (n : ℕ). map (page n) (all_packets c)) (sym is.has_page_size) in
     record {
       to = c;
       rest = are.rest;
@@ -252,7 +262,8 @@ items_begin source front b =
 
 -- ---- what is known of a message by its place among the channel's
 
-lies_there : (p : ℕ) (text : List ℕ) (done : List Message) (m : Message) (more : List Message) → WellMade p text ((done ++ m ∷ []) ++ more) → IsMessageIn p text m
+lies_there : (p : ℕ) (text : List ℕ) (done : List Message) (m : Message) (more : List Message)
+    → WellMade p text ((done ++ m ∷ []) ++ more) → IsMessageIn p text m
 lies_there p text [] (message.Hello id) more made = tt
 lies_there p text [] (message.Page at len) more made = made.0
 lies_there p text [] (message.Stop end) more made = tt
@@ -261,10 +272,12 @@ lies_there p text (message.Page at len ∷ done) m more made = lies_there p text
 lies_there p text (message.Stop end ∷ []) m more made = absurd made
 lies_there p text (message.Stop end ∷ (x ∷ done)) m more made = absurd made
 
+-- a message that comes after others in a channel lies in the channel's bytes
 pub lies_in : (source : ChannelText) (done : List Message) (m : Message) → BeginsMessages source (done ++ m ∷ []) → IsMessageIn source.page_size source.text m
 lies_in source done m b = lies_there source.page_size source.text done m b.0 (well_made source ((done ++ m ∷ []) ++ b.0) b.1)
 
-none_behind : (p : ℕ) (text : List ℕ) (done : List Message) (m : Message) (more : List Message) → is_last m ≡ true → WellMade p text ((done ++ m ∷ []) ++ more) → more ≡ []
+none_behind : (p : ℕ) (text : List ℕ) (done : List Message) (m : Message) (more : List Message) → is_last m ≡ true
+    → WellMade p text ((done ++ m ∷ []) ++ more) → more ≡ []
 none_behind p text [] (message.Hello id) more last made = absurd (true≢false (sym last))
 none_behind p text [] (message.Page at len) more last made = absurd (true≢false (sym last))
 none_behind p text [] (message.Stop end) [] last made = refl

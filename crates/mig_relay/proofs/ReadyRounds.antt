@@ -20,7 +20,8 @@ pub ready_put : (l : Load) (reader : Reader) (target new : LoadTarget) (places :
     → Ready l reader target places ends round packets → refusal target.memory.table target.base (pages_of_round round) (map fields packets) ≡ None
     → new ≡ after_round target round (map fields packets) → new.base ≤ 2 ^ 63 → Goes l reader new places ends
 ready_put l reader target new places ends round packets ready lawful is few =
-    let judged = goes_in l target new ready.places_before places ready.ends_before ends round (map fields packets) ready.comes ready.continues ready.told lawful is few in
+    let judged = goes_in l target new ready.places_before places ready.ends_before ends round
+    (map fields packets) ready.comes ready.continues ready.told lawful is few in
     let count : new.rounds ≡ target.rounds + 1 = judged.1.has_rounds in
     record {
       stands = subst (λ n. Stands (main_of l.given) (main_so_far l.main n) reader) (sym count) ready.stands;
@@ -31,7 +32,8 @@ ready_put l reader target new places ends round packets ready lawful is few =
     }
 
 -- its fault is the load's, or an allocation was refused
-pub ready_refused : (l : Load) (reader : Reader) (target new : LoadTarget) (f : LoadFault) (places : List ℕ) (ends : List QueueEnd) (round : RoundOfRecords) (packets : List Packet)
+pub ready_refused : (l : Load) (reader : Reader)
+    (target new : LoadTarget) (f : LoadFault) (places : List ℕ) (ends : List QueueEnd) (round : RoundOfRecords) (packets : List Packet)
     → Ready l reader target places ends round packets → new ≡ target
     → IsRoundError target.rounds (refusal target.memory.table target.base (pages_of_round round) (map fields packets)) (Err f) → Ends l new (Err f) ends
 ready_refused l reader target new f places ends round packets ready same refused =
@@ -39,5 +41,6 @@ ready_refused l reader target new f places ends round packets ready same refused
       are_readings = ready.comes.loading.are_readings;
       have_passed = ready.comes.loading.have_passed;
       has_loaded = ready.comes.has_loaded;
-      has_ended = ends_refused l target f ready.places_before places ready.ends_before ends round (map fields packets) ready.comes ready.continues ready.told refused;
+      has_ended = ends_refused l target f ready.places_before places ready.ends_before ends round
+          (map fields packets) ready.comes ready.continues ready.told refused;
     })

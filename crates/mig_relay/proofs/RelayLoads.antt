@@ -23,7 +23,7 @@ use Rattle.mig_answer.specs.declared.status.Status.{Status}
 use Rattle.mig_answer.specs.declared.status.Status.TheVariants.{Whole}
 use Rattle.mig_answer.specs.Status.{main_status, is_whole, is_clean, is_pending, fault_of}
 use Rattle.mig_answer.specs.Rounds.{refusal_at}
-use Rattle.mig_answer.specs.MultiLoad.{Standing, main_standing, sources_at, hello_ids, repeated_hello, passes, verdicts_told, failed, failed_at_first, failed_with_own}
+use Rattle.mig_answer.specs.MultiLoad.{Standing, main_standing, sources_at, hello_ids, repeated_hello, passes, sources_verdicts, failed, failed_at_first, failed_with_own}
 use Rattle.mig_answer.specs.Received.{round_count, hello_in, end_in, status_in, IsEnough, TellsAllChannels}
 use Rattle.mig_relay.specs.RelayItems.{given, with_settings, QueueEnd, IsThrough}
 use Rattle.mig_relay.specs.Relayed.{received_of, Continues, HasEnough, HaveGone, repeated_at, Load, Loading, ToldAt}
@@ -52,7 +52,8 @@ enough k p read text is told = elim told.1 [
   }
 ]
 
-all_enough : (k : ℕ) (read : Settings) (texts : List (List ℕ)) (ends : List QueueEnd) → map source_of ends ≡ map (with_settings read) texts → All (HasEnough k) ends
+all_enough : (k : ℕ) (read : Settings) (texts : List (List ℕ)) (ends : List QueueEnd)
+    → map source_of ends ≡ map (with_settings read) texts → All (HasEnough k) ends
     → AllZip (IsEnough read k) texts (received_of ends)
 all_enough k read [] [] e told = tt
 all_enough k read [] (p ∷ ends) e told = absurd cc
@@ -64,7 +65,8 @@ all_enough k read (text ∷ texts) (p ∷ ends) e told =
       all_enough k read texts ends there (All-tail (HasEnough k) p ends told),
     )
 
-tells_channels : (l : Load) (k : ℕ) (places places_now : List ℕ) (ends ends_now : List QueueEnd) (statuses : List Status) (packets : List Fields) → Loading l k places ends
+tells_channels : (l : Load) (k : ℕ) (places places_now : List ℕ)
+    (ends ends_now : List QueueEnd) (statuses : List Status) (packets : List Fields) → Loading l k places ends
     → AllZip Continues ends ends_now → HaveGone k places_now ends_now statuses packets → TellsAllChannels l.given.page_size k (received_of ends_now) l.readings
 tells_channels l k places places_now ends ends_now statuses packets loading zip gone =
     together_law l.given l.uuid k l.main l.texts (received_of ends_now) l.readings loading.is_page_size loading.are_readings
@@ -95,14 +97,18 @@ no_repeat l k places ends loading =
     is_none_of None e = refl
     is_none_of (Some x) e = absurd cc
 
-repeated_is : (l : Load) (k : ℕ) (places : List ℕ) (ends ends_now : List QueueEnd) → Loading l k places ends → map hello_in (received_of ends_now) ≡ hello_ids l.readings
+repeated_is : (l : Load) (k : ℕ) (places : List ℕ) (ends ends_now : List QueueEnd) → Loading l k places ends
+    → map hello_in (received_of ends_now) ≡ hello_ids l.readings
     → repeated_at k ends_now ≡ repeated_hello (hello_ids l.readings)
 repeated_is l zero places ends ends_now loading same = ap repeated_hello same
 repeated_is l (suc k) places ends ends_now loading same =
     cond-false (suc k == 0) (repeated_hello (map hello_in (received_of ends_now))) None (ne_eqb (suc k) 0 (λ e. omega (arith, e)))
     ∙ sym (no_repeat l k places ends loading)
 
-pub tells_sources : (l : Load) (k : ℕ) (places places_now : List ℕ) (ends ends_now : List QueueEnd) (main : Status) (statuses : List Status) (packets : List Fields) → Loading l k places ends
+-- once round k of all channels was processed, the statuses, and the hello that repeats an id,
+-- are those of the readings
+pub tells_sources : (l : Load) (k : ℕ) (places places_now : List ℕ)
+    (ends ends_now : List QueueEnd) (main : Status) (statuses : List Status) (packets : List Fields) → Loading l k places ends
     → AllZip Continues ends ends_now → HaveGone k places_now ends_now statuses packets → main ≡ main_status k l.readings.main
     → TellsSources k l.readings main statuses (repeated_at k ends_now)
 tells_sources l k places places_now ends ends_now main statuses packets loading zip gone is =
@@ -138,13 +144,15 @@ other_if false o other = λ v e d. absurd cc
 other_own : (k : ℕ) (sources : List Standing) → All IsOther (map (failed_with_own k) sources)
 other_own k [] = All-nil IsOther
 other_own k (s ∷ sources) =
-    All-cons IsOther (failed_with_own k s) (map (failed_with_own k) sources) (other_failed (λ f. record { round = k; source = s.source; fault = f }) (fault_of s.status)) (other_own k sources)
+    All-cons IsOther (failed_with_own k s) (map (failed_with_own k) sources)
+    (other_failed (λ f. record { round = k; source = s.source; fault = f }) (fault_of s.status)) (other_own k sources)
 
 other_first : (k : ℕ) (test : Status → Bool) (f : Fault) (sources : List Standing) → IsOther (failed_at_first k test f sources)
-other_first k test f sources = other_failed (λ (s : Standing). record { round = k; source = s.source; fault = f }) (find (λ (s : Standing). test s.status) sources)
+other_first k test f sources = other_failed (λ (s : Standing). record { round = k; source = s.source; fault = f })
+    (find (λ (s : Standing). test s.status) sources)
 
 -- it is done only where all sources are clean
-done_is_clean : (k : ℕ) (m : Standing) (cs : List Standing) (repeated : Option ℕ) → first_some (verdicts_told k m cs repeated) ≡ Some Done
+done_is_clean : (k : ℕ) (m : Standing) (cs : List Standing) (repeated : Option ℕ) → first_some (sources_verdicts k m cs repeated) ≡ Some Done
     → list_all (λ (s : Standing). is_clean s.status) (m ∷ cs) ≡ true
 done_is_clean k m cs repeated done = elim (cases_Bool (list_all (λ (s : Standing). is_clean s.status) (m ∷ cs))) [
   | inl t ↦ t
@@ -155,14 +163,15 @@ done_is_clean k m cs repeated done = elim (cases_Bool (list_all (λ (s : Standin
       let a4 : Option Verdict = then_some (list_all (λ (s : Standing). is_clean s.status) (m ∷ cs)) Done in
       let a5 : Option Verdict = cond (is_clean m.status) (failed_at_first k is_whole fault.Extra cs) None in
       let a6 : Option Verdict = cond (is_whole m.status) (failed_at_first k is_clean fault.Short cs) None in
-      let all : All IsOther (verdicts_told k m cs repeated) =
+      let all : All IsOther (sources_verdicts k m cs repeated) =
       All-cons IsOther a1 (a2 ∷ a3 ∷ a4 ∷ a5 ∷ a6 ∷ []) (other_running (list_any (λ (s : Standing). is_pending s.status) (m ∷ cs))) (
       All-cons IsOther a2 (a3 ∷ a4 ∷ a5 ∷ a6 ∷ []) (λ v e. first_is (λ (x : Verdict). x ≢ Done) (map (failed_with_own k) (m ∷ cs)) v (other_own k (m ∷ cs)) e) (
       All-cons IsOther a3 (a4 ∷ a5 ∷ a6 ∷ []) (other_failed (λ j. record { round = k; source = origin.Channel j; fault = fault.HelloTwice }) repeated) (
       All-cons IsOther a4 (a5 ∷ a6 ∷ []) (other_done (list_all (λ (s : Standing). is_clean s.status) (m ∷ cs)) f) (
       All-cons IsOther a5 (a6 ∷ []) (other_if (is_clean m.status) (failed_at_first k is_whole fault.Extra cs) (other_first k is_whole fault.Extra cs)) (
-      All-cons IsOther a6 [] (other_if (is_whole m.status) (failed_at_first k is_clean fault.Short cs) (other_first k is_clean fault.Short cs)) (All-nil IsOther)))))) in
-      absurd (first_is (λ (x : Verdict). x ≢ Done) (verdicts_told k m cs repeated) Done all done refl)
+      All-cons IsOther a6 [] (other_if (is_whole m.status) (failed_at_first k is_clean fault.Short cs)
+      (other_first k is_clean fault.Short cs)) (All-nil IsOther)))))) in
+      absurd (first_is (λ (x : Verdict). x ≢ Done) (sources_verdicts k m cs repeated) Done all done refl)
 ]
 
 -- if a channel is clean its stop was taken
@@ -174,16 +183,22 @@ clean_is_through k p told clean = elim told.1 [
 
 -- if all are, all were
 all_through : (k from : ℕ) (ends : List QueueEnd) → All (HasEnough k) ends
-    → list_all (λ (s : Standing). is_clean s.status) (map told_standing (enumerate_from from (map (status_in k) (received_of ends)))) ≡ true → All IsThrough ends
+    → list_all (λ (s : Standing). is_clean s.status)
+    (map told_standing (enumerate_from from (map (status_in k) (received_of ends)))) ≡ true → All IsThrough ends
 all_through k from [] told clean = All-nil IsThrough
 all_through k from (p ∷ ends) told clean =
     let rest : List Standing = map told_standing (enumerate_from (from + 1) (map (status_in k) (received_of ends))) in
     let parts = and_parts (is_clean (status_in k p.passed)) (list_all (λ (s : Standing). is_clean s.status) rest) clean in
-    All-cons IsThrough p ends (clean_is_through k p (All-head (HasEnough k) p ends told) parts.0) (all_through k (from + 1) ends (All-tail (HasEnough k) p ends told) parts.1)
+    All-cons IsThrough p ends (clean_is_through k p (All-head (HasEnough k) p ends told) parts.0)
+    (all_through k (from + 1) ends (All-tail (HasEnough k) p ends told) parts.1)
 
-pub is_told_at : (l : Load) (k : ℕ) (places places_now : List ℕ) (ends ends_now : List QueueEnd) (main : Status) (statuses : List Status) (packets : List Fields) (told : Option Verdict)
+-- once round k of all channels was processed, the first verdict of the statuses is the load's, or
+-- all sources have the round
+pub is_told_at : (l : Load) (k : ℕ) (places places_now : List ℕ)
+    (ends ends_now : List QueueEnd) (main : Status) (statuses : List Status) (packets : List Fields) (told : Option Verdict)
     → Loading l k places ends → AllZip Continues ends ends_now → HaveGone k places_now ends_now statuses packets → main ≡ main_status k l.readings.main
-    → told ≡ first_some (verdicts_told k (main_standing main) (standings statuses) (repeated_at k ends_now)) → ToldAt l k main told places_now ends_now packets
+    → told ≡ first_some (sources_verdicts k (main_standing main) (standings statuses) (repeated_at k ends_now))
+    → ToldAt l k main told places_now ends_now packets
 is_told_at l k places places_now ends ends_now main statuses packets told loading zip gone is e =
     let tells = tells_sources l k places places_now ends ends_now main statuses packets loading zip gone is in
     let size = loading.is_page_size in
@@ -197,10 +212,13 @@ is_told_at l k places places_now ends ends_now main statuses packets told loadin
       through = λ done.
           let clean = done_is_clean k (main_standing main) (standings statuses) repeated (sym e ∙ done) in
           let channels = (and_parts (is_clean main) (list_all (λ (s : Standing). is_clean s.status) (standings statuses)) clean).1 in
-          all_through k 0 ends_now gone.are_told (subst (λ (ss : List Status). list_all (λ (s : Standing). is_clean s.status) (standings ss) ≡ true) gone.has_statuses channels);
+          all_through k 0 ends_now gone.are_told (subst
+          (λ (ss : List Status). list_all (λ (s : Standing). is_clean s.status) (standings ss) ≡ true) gone.has_statuses channels);
       has_main = λ none. (whole none).0;
-      has_packets = λ none. gone.has_packets (whole none).1 ∙ (tells_channels l k places places_now ends ends_now statuses packets loading zip gone).has_packets k (omega arith);
+      has_packets = λ none. gone.has_packets (whole none).1
+          ∙ (tells_channels l k places places_now ends ends_now statuses packets loading zip gone).has_packets k (omega arith);
       goes_on = λ none. gone.goes_on (whole none).1;
       passes = λ none lawful. told_passes l.given l.uuid l.main l.texts l.readings k main statuses repeated size are before tells (sym e ∙ none) lawful;
-      refused = λ none why refused. told_refused l.given l.uuid l.main l.texts l.readings k main statuses repeated why size are before tells (sym e ∙ none) refused;
+      refused = λ none why refused. told_refused l.given l.uuid l.main l.texts l.readings k main statuses repeated why size are
+          before tells (sym e ∙ none) refused;
     }

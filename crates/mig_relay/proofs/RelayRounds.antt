@@ -1,5 +1,5 @@
 -- The rounds of what a relay brings: how each is applied, and how a load ends.
-use Rattle.std.proofs.Common.{ℕ, ◌≡◌, ◌≢◌, ◌+◌, ◌<◌, ◌≤◌, true, false, List, [], ◌∷◌, ◌++◌, length, take, drop, refl, sym, ap, ◌∙◌, inl, inr, Option, Some, None, arith, subst, cond}
+use Rattle.std.proofs.Common.{ℕ, ◌≡◌, ◌+◌, ◌<◌, ◌≤◌, true, List, [], ◌∷◌, ◌++◌, length, take, drop, refl, sym, ap, ◌∙◌, inl, inr, Option, Some, None, arith, subst, cond}
 use Rattle.std.specs.Prelude.{⊤, ◌^◌, IsTrue, Result, Ok, Err, is_ok}
 use Rattle.std.specs.List.{All, AllZip}
 use Rattle.std.proofs.lemmas.Bool.{cases_order}
@@ -23,7 +23,7 @@ use Rattle.mig_answer.specs.declared.status.Status.TheVariants.{Whole, Bad}
 use Rattle.mig_answer.specs.declared.verdict.Verdict.{Verdict}
 use Rattle.mig_answer.specs.declared.verdict.Verdict.TheVariants.{Done, Failed}
 use Rattle.mig_single_load.specs.SingleLoad.{no_memory_at}
-use Rattle.mig_answer.specs.Status.{main_status, stream_end, is_whole}
+use Rattle.mig_answer.specs.Status.{main_status, stream_end}
 use Rattle.mig_answer.specs.Texts.{ended_text}
 use Rattle.mig_answer.specs.Rounds.{packets_at, refusal_at}
 use Rattle.mig_answer.specs.MultiLoad.{passes, as_verdict}
@@ -31,7 +31,7 @@ use Rattle.mig_answer.specs.Received.{round_count, rounds_in, ends_round}
 use Rattle.mig_relay.specs.RelayItems.{QueueEnd}
 use Rattle.mig_relay.specs.Relayed.{Continues, IsAtRound, AreAtRound, Load, Loading, ToldAt, IsAnswered, HaveRounds, HasEnded, EndsAt, ComesToRound}
 use Rattle.mig_answer.specs.Putting.{HasLoaded, IsRoundError}
-use Rattle.mig_answer.proofs.Statuses.{status_whole, status_end, stream_ends}
+use Rattle.mig_answer.proofs.Statuses.{status_whole, status_end}
 use Rattle.mig_answer.proofs.Putting.{size_of_table, refusal_of_round, round_is_put}
 use Rattle.mig_answer.proofs.Received.{counted_law}
 use Rattle.mig_relay.proofs.Relays.{of_relay, sizes_are}
@@ -47,7 +47,13 @@ front_rounds k at p q is continues =
     let split : rounds_in p.passed ≡ is.rounds ++ rounds_in (drop at p.passed) =
     ap rounds_in (sym (take-append-drop at p.passed)) ∙ is.is_at.has_rounds (drop at p.passed) in
     let here : k ≤ round_count p.passed =
-    omega (arith, is.has_count, counted_law p.passed, ap (λ (l : List (List Fields)). length l) split, length-append is.rounds (rounds_in (drop at p.passed))) in
+    omega (
+      arith,
+      is.has_count,
+      counted_law p.passed,
+      ap (λ (l : List (List Fields)). length l) split,
+      length-append is.rounds (rounds_in (drop at p.passed)),
+    ) in
     omega (arith, here, ap round_count continues.begins.has_rest, sum_by-append (λ piece. cond (ends_round piece) 1 0) p.passed continues.begins.rest)
 
 have_rounds : (k : ℕ) (places : List ℕ) (ends now : List QueueEnd) → AreAtRound k places ends → AllZip Continues ends now → HaveRounds k now
@@ -61,8 +67,11 @@ have_rounds k (at ∷ places) (p ∷ ps) (q ∷ qs) are zip =
 
 -- ---- how a load ends
 
-pub ends_told : (l : Load) (k : ℕ) (main : Status) (verdict : Verdict) (result : Result ⊤ LoadFault) (places places_now : List ℕ) (ends now : List QueueEnd) (packets : List Fields)
-    → Loading l k places ends → AllZip Continues ends now → ToldAt l k main (Some verdict) places_now now packets → as_verdict result ≡ verdict → HasEnded l k result now
+-- if the sources give a verdict at round k, the load ends there with the result that says so
+pub ends_told : (l : Load) (k : ℕ) (main : Status) (verdict : Verdict) (result : Result ⊤ LoadFault) (places places_now : List ℕ)
+    (ends now : List QueueEnd) (packets : List Fields)
+    → Loading l k places ends → AllZip Continues ends now → ToldAt l k main (Some verdict) places_now now packets
+    → as_verdict result ≡ verdict → HasEnded l k result now
 ends_told l k main verdict result places places_now ends now packets loading zip told is =
     let stops = told.stops verdict refl in
     record {
@@ -75,26 +84,34 @@ ends_told l k main verdict result places places_now ends now packets loading zip
     done_of (Ok x) e = refl
     done_of (Err f) e = absurd cc
 
-pub ends_bad : (l : Load) (k : ℕ) (f : LoadFault) (places : List ℕ) (ends now : List QueueEnd) → Loading l k places ends → AllZip Continues ends now → IsAnswered l k (Err f) → HasEnded l k (Err f) now
+-- a load that has reached round k, and is answered by a fault there, ends with this fault
+pub ends_bad : (l : Load) (k : ℕ) (f : LoadFault) (places : List ℕ) (ends now : List QueueEnd) → Loading l k places ends
+    → AllZip Continues ends now → IsAnswered l k (Err f) → HasEnded l k (Err f) now
 ends_bad l k f places ends now loading zip answered = record {
   is_answered = answered;
   have_rounds = have_rounds k places ends now loading.are_at zip;
   through = λ ok. absurd cc;
 }
 
-pub ends_without : (l : Load) (k : ℕ) (result : Result ⊤ LoadFault) (places : List ℕ) (ends now : List QueueEnd) → Loading l k places ends → AllZip Continues ends now → result ≡ no_memory_at k
+-- a load that has reached round k may end there with NoMemory
+pub ends_without : (l : Load) (k : ℕ) (result : Result ⊤ LoadFault) (places : List ℕ) (ends now : List QueueEnd)
+    → Loading l k places ends → AllZip Continues ends now → result ≡ no_memory_at k
     → HasEnded l k result now
 ends_without l k result places ends now loading zip is =
-    subst (λ (r : Result ⊤ LoadFault). HasEnded l k r now) (sym is) (ends_bad l k (record { round = k; source = origin.Round; fault = fault.NoMemory }) places ends now loading zip (inr refl))
+    subst (λ (r : Result ⊤ LoadFault). HasEnded l k r now) (sym is)
+    (ends_bad l k (record { round = k; source = origin.Round; fault = fault.NoMemory }) places ends now loading zip (inr refl))
 
 -- ---- a round is applied
 
 -- the page size of the table
-pub size_is : (l : Load) (k : ℕ) (target : LoadTarget) (places : List ℕ) (ends : List QueueEnd) → Loading l k places ends → HasLoaded k l.readings target → target.memory.table.page_size ≡ l.given.page_size
+pub size_is : (l : Load) (k : ℕ) (target : LoadTarget) (places : List ℕ) (ends : List QueueEnd) → Loading l k places ends
+    → HasLoaded k l.readings target → target.memory.table.page_size ≡ l.given.page_size
 size_is l k target places ends loading has =
     size_of_table l.given k (ended_text l.main) l.readings target loading.is_page_size loading.are_readings.has_main has
 
-pub sizes_of_packets : (l : Load) (k : ℕ) (target : LoadTarget) (places : List ℕ) (ends : List QueueEnd) (packets : List Packet) → Loading l k places ends → HasLoaded k l.readings target
+-- packets of the page size that the channels have are of the memory's page size
+pub sizes_of_packets : (l : Load) (k : ℕ) (target : LoadTarget) (places : List ℕ) (ends : List QueueEnd) (packets : List Packet)
+    → Loading l k places ends → HasLoaded k l.readings target
     → ((page_size : ℕ) → All (λ p. p.source.page_size ≡ page_size) ends → All (λ packet. packet.page_size ≡ page_size) packets)
     → All (λ packet. packet.page_size ≡ target.memory.table.page_size) packets
 sizes_of_packets l k target places ends packets loading has sizes =
@@ -102,23 +119,29 @@ sizes_of_packets l k target places ends packets loading has sizes =
     (sizes l.given.page_size (sizes_are (channel_of l.given l.uuid (length l.texts)) l.texts ends loading.is_relay.has_sources))
 
 -- why it is refused
-pub refusal_is : (l : Load) (target : LoadTarget) (places : List ℕ) (ends : List QueueEnd) (round : RoundOfRecords) (packets : List Fields) → ComesToRound l target places ends round
+pub refusal_is : (l : Load) (target : LoadTarget) (places : List ℕ) (ends : List
+    QueueEnd) (round : RoundOfRecords) (packets : List Fields) → ComesToRound l target places ends round
     → packets ≡ packets_at l.given.page_size target.rounds l.readings
     → refusal_at target.rounds l.readings ≡ refusal target.memory.table target.base (pages_of_round round) packets
 refusal_is l target places ends round packets comes are =
-    refusal_of_round l.given.page_size l.readings target round packets (size_is l target.rounds target places ends comes.loading comes.has_loaded) comes.has_loaded comes.fits comes.is_round are
+    refusal_of_round l.given.page_size l.readings target round packets
+    (size_is l target.rounds target places ends comes.loading comes.has_loaded) comes.has_loaded comes.fits comes.is_round are
 
-pub round_goes_in : (l : Load) (target new : LoadTarget) (places : List ℕ) (ends : List QueueEnd) (round : RoundOfRecords) (packets : List Fields) → ComesToRound l target places ends round
+-- the target after the round to which a load has come has loaded one round more
+pub round_goes_in : (l : Load) (target new : LoadTarget) (places : List ℕ) (ends : List
+    QueueEnd) (round : RoundOfRecords) (packets : List Fields) → ComesToRound l target places ends round
     → packets ≡ packets_at l.given.page_size target.rounds l.readings → new ≡ after_round target round packets → HasLoaded (target.rounds + 1) l.readings new
 round_goes_in l target new places ends round packets comes are is =
-    round_is_put l.given.page_size l.readings target new round packets (size_is l target.rounds target places ends comes.loading comes.has_loaded) comes.has_loaded comes.fits comes.is_round are is
+    round_is_put l.given.page_size l.readings target new round packets
+    (size_is l target.rounds target places ends comes.loading comes.has_loaded) comes.has_loaded comes.fits comes.is_round are is
 
 -- the main stream has the round
 pub main_whole : (l : Load) (k : ℕ) → k < length l.readings.main.rounds → Whole ≡ main_status k l.readings.main
 main_whole l k below = sym (status_whole k (length l.readings.main.rounds) (stream_end l.readings.main.state) below)
 
 -- a round that isn't lawful ends the load
-pub ends_refused : (l : Load) (target : LoadTarget) (f : LoadFault) (places places_now : List ℕ) (ends now : List QueueEnd) (round : RoundOfRecords) (packets : List Fields)
+pub ends_refused : (l : Load) (target : LoadTarget) (f : LoadFault) (places places_now : List ℕ)
+    (ends now : List QueueEnd) (round : RoundOfRecords) (packets : List Fields)
     → ComesToRound l target places ends round → AllZip Continues ends now → ToldAt l target.rounds Whole None places_now now packets
     → IsRoundError target.rounds (refusal target.memory.table target.base (pages_of_round round) packets) (Err f) → HasEnded l target.rounds (Err f) now
 ends_refused l target f places places_now ends now round packets comes zip told refused = elim refused [
@@ -152,9 +175,11 @@ goes_in l target new places places_now ends now round packets comes zip told law
     )
 
 -- what is found at the round that has come
-pub told_now : (l : Load) (n : ℕ) (target : LoadTarget) (told found : Option Verdict) (places places_now : List ℕ) (ends now : List QueueEnd) (round : RoundOfRecords) (packets : List Fields)
+pub told_now : (l : Load) (n : ℕ) (target : LoadTarget) (told found : Option Verdict) (places places_now : List ℕ)
+    (ends now : List QueueEnd) (round : RoundOfRecords) (packets : List Fields)
     → n ≡ target.rounds → told ≡ found → ComesToRound l target places ends round
-    → (Loading l n places ends → Whole ≡ main_status n l.readings.main → ToldAt l n Whole told places_now now packets) → ToldAt l target.rounds Whole found places_now now packets
+    → (Loading l n places ends → Whole ≡ main_status n l.readings.main → ToldAt l n Whole told places_now now packets)
+    → ToldAt l target.rounds Whole found places_now now packets
 told_now l n target told found places places_now ends now round packets e is comes tells =
     subst (λ (o : Option Verdict). ToldAt l target.rounds Whole o places_now now packets) is
     (subst (λ (m : ℕ). Loading l m places ends → Whole ≡ main_status m l.readings.main → ToldAt l m Whole told places_now now packets) e tells comes.loading
@@ -163,22 +188,18 @@ told_now l n target told found places places_now ends now round packets e is com
 -- ---- after all rounds of the main stream
 
 -- how it stands there
-pub main_ends : (l : Load) (k : ℕ) (state : StreamState) (main : Status) (places : List ℕ) (ends : List QueueEnd) → EndsAt l k state places ends → main ≡ stream_end state
+pub main_ends : (l : Load) (k : ℕ) (state : StreamState) (main : Status) (places : List ℕ) (ends : List QueueEnd)
+    → EndsAt l k state places ends → main ≡ stream_end state
     → main ≡ main_status k l.readings.main
 main_ends l k state main places ends at is =
     is ∙ ap stream_end (sym at.has_state) ∙ sym (status_end k (length l.readings.main.rounds) (stream_end l.readings.main.state) (sym at.is_last))
 
-pub ends_at_fault : (l : Load) (k : ℕ) (state : StreamState) (main : Status) (f : Fault) (places : List ℕ) (ends : List QueueEnd) → EndsAt l k state places ends → main ≡ stream_end state
+-- if the main stream ends at round k with a fault, the load ends with this fault, of Main
+pub ends_at_fault : (l : Load) (k : ℕ) (state : StreamState) (main : Status) (f : Fault) (places : List ℕ) (ends : List QueueEnd)
+    → EndsAt l k state places ends → main ≡ stream_end state
     → main ≡ Bad f → HasEnded l k (Err (record { round = k; source = origin.Main; fault = f })) ends
 ends_at_fault l k state main f places ends at is bad =
     let loading = at.loading in
     let stops = told_bad_main l.given l.uuid l.main l.texts l.readings k f loading.is_page_size loading.are_readings loading.have_passed
     (sym (main_ends l k state main places ends at is) ∙ bad) in
     ends_bad l k (record { round = k; source = origin.Main; fault = f }) places ends ends loading (all_go_on ends) (inl (stops.0, stops.1))
-
--- some verdict is found there: no source has a further round
-pub told_at_end : (l : Load) (k : ℕ) (state : StreamState) (main : Status) (places places_now : List ℕ) (ends now : List QueueEnd) (packets : List Fields) → EndsAt l k state places ends
-    → main ≡ stream_end state → (told : Option Verdict) → ToldAt l k main told places_now now packets → told ≢ None
-told_at_end l k state main places places_now ends now packets at is told tells none =
-    let f : is_whole (stream_end state) ≡ false = stream_ends state in
-    let t : is_whole (stream_end state) ≡ true = ap is_whole (sym is ∙ tells.has_main none) in absurd cc

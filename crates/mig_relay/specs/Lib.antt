@@ -4,8 +4,6 @@ pub mod RelayItems
 pub mod Relay
 pub mod Relayed
 pub mod Multi
--- The byte of a fault
-pub mod Valid
 -- Private: messages in a queue under a rule, and the invariants of the two ends
 pub mod Messages
 pub mod Queue

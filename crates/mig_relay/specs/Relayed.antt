@@ -9,7 +9,7 @@ use Rattle.mig_packet.specs.ChannelItems.{ChannelItem}
 use Rattle.mig_packet.specs.Reading.{settings, with_waiting}
 use Rattle.mig_assemble.specs.declared.fault.RoundFault.{RoundFault}
 use Rattle.mig_assemble.specs.Target.{LoadTarget, FitsTable}
-use Rattle.mig_stream.specs.Reader.{Reader, Stands}
+use Rattle.mig_stream.specs.Reader.{Reader, Stands, HasClosedAt, IsValidUpTo}
 use Rattle.mig_stream.specs.Round.{RoundOfRecords}
 use Rattle.mig_stream.specs.declared.item.StreamState.{StreamState}
 use Rattle.mig_single_load.specs.Settings.{main_of}
@@ -24,11 +24,12 @@ use Rattle.mig_answer.specs.declared.verdict.Verdict.TheVariants.{Running, Done}
 use Rattle.mig_single_load.specs.SingleLoad.{no_memory_at}
 use Rattle.mig_answer.specs.Texts.{Readings, AreReadings, ended_texts}
 use Rattle.mig_answer.specs.Rounds.{packets_at, refusal_at}
-use Rattle.mig_answer.specs.MultiLoad.{repeated_hello, passes, IsFirstStop, failed, verdict_at, as_verdict, answer_of, IsAnswerOrWithoutMemory}
+use Rattle.mig_answer.specs.MultiLoad.{repeated_hello, passes, IsFirstStop, failed, verdict_at, as_verdict, answer_of, IsAnswerOrWithoutMemory, SaysOfStreamsOrNothing}
 use Rattle.mig_answer.specs.Received.{round_count, rounds_in, end_in, hello_in, status_in, channel_packets_in, packets_in, IsFront}
 use Rattle.mig_relay.specs.declared.item.ChannelEnd.{ChannelEnd}
 use Rattle.mig_relay.specs.declared.item.ChannelEnd.TheVariants as channel_end
 use Rattle.mig_relay.specs.declared.item.Item.{Item}
+use Rattle.mig_relay.specs.declared.relayed.MainPlaces.{MainPlaces}
 use Rattle.mig_single_load.specs.declared.fault.Fault.TheVariants as fault
 use Rattle.mig_relay.specs.RelayItems.{as_channel_item, IsOfPageSize, with_settings, QueueEnd, BeginsItems, IsThrough}
 use Rattle.mig_answer.specs.Putting.{HasLoaded}
@@ -251,7 +252,13 @@ pub record Begins (l : Load) (reader : Reader) (places : List ℕ) (ends : List 
   pub loading : Loading l 0 places ends
   pub is_short : length l.main < 2 ^ 63
 
--- the answer of a load: that on its sources, or the one without memory
+-- these are where the main stream of a load is closed, and how long its valid prefix is
+pub record AreMainPlaces (l : Load) (places : MainPlaces) : Type 0 where
+  pub is_closed_at : HasClosedAt (main_of l.given) l.main places.closed_at
+  pub is_valid_up_to : IsValidUpTo (main_of l.given) l.main places.valid_up_to
+
+-- the answer of a load: that on its sources, or the one without memory; and what it says of them
 abbrev pub IsAnswerOf : {A : Type 0} → Load → Loaded A → Type 0
 IsAnswerOf l loaded =
     IsAnswerOrWithoutMemory l.given l.uuid (ended_texts l.main l.texts) (answer_of loaded)
+    × SaysOfStreamsOrNothing l.given l.uuid (ended_texts l.main l.texts) loaded

@@ -9,7 +9,7 @@ ghost use Rattle.mig_relay.specs.Cursor.{Finds};
 
 use crate::item::ChannelEnd;
 use crate::message::Message;
-use mig_packet::{ChannelFault, HelloRead, PacketRead, read_hello, read_packet_within};
+use mig_packet::{ChannelFault, HelloRead, PacketRead, read_hello, read_packet_with};
 use uuid::Uuid;
 
 // how many bytes a hello has
@@ -72,7 +72,7 @@ impl Cursor {
         requires within { self.at ≤ length text.now }
         ensures { Finds self text.now result.0 result.1 }
     {
-        match read_packet_within(self.page_size, self.room, &text[self.at..]) {
+        match read_packet_with(self.page_size, self.room, &text[self.at..]) {
             PacketRead::Whole(packet, len) => {
                 let behind = Cursor {
                     at: self.at + len,

@@ -6,8 +6,8 @@
 //! relay. `load_multi` also starts the relay and its workers. `mig_answer` defines what they
 //! return.
 //!
-//! Definitions, in reading order: `RelayItems`, `Relay`, `Relayed`, `Multi`, `Valid` (`specs/`).
-//! Only contracts of private functions name `Messages`, `Queue`, `Cursor` and `Ends`.
+//! Definitions, in reading order: `RelayItems`, `Relay`, `Relayed`, `Multi` (`specs/`). Only
+//! contracts of private functions name `Messages`, `Queue`, `Cursor` and `Ends`.
 #![tactic(auto)]
 
 mod channel;
@@ -26,7 +26,7 @@ mod valid;
 
 pub use feeder::{Fed, Feeder, FeederStep};
 pub use item::{ChannelEnd, Item};
-pub use multi::{load_multi, load_multi_in};
+pub use multi::{load_multi, load_multi_with};
 pub use relay::{Collector, Relay};
-pub use relayed::{load_relayed, load_relayed_in};
-pub use valid::multi_valid_up_to;
+pub use relayed::{load_relayed, load_relayed_with};
+pub use valid::channel_valid_up_to;

@@ -10,7 +10,7 @@ ghost use Rattle.mig_stream.specs.Text.{total_bytes};
 ghost use Rattle.mig_send.specs.DealtRounds.{DealtRound};
 ghost use Rattle.mig_single_load.specs.Settings.{ram_settings};
 ghost use Rattle.mig_answer.specs.Texts.{ended_texts};
-ghost use Rattle.mig_answer.specs.MultiLoad.{IsWithoutMemory, IsAnswerOrWithoutMemory, answer_of, bytes_of};
+ghost use Rattle.mig_answer.specs.MultiLoad.{IsWithoutMemory, IsAnswerOrWithoutMemory, SaysOfStreamsOrNothing, answer_of, bytes_of};
 ghost use Rattle.mig_answer.specs.Sent.{LetsChannelsThrough, IsSentBefore, IsSentInAnyOrder, IsMachineSentInAnyOrder, sent_answer};
 ghost use Rattle.mig_relay.specs.RelayItems.{IsThrough};
 ghost use Rattle.mig_relay.specs.Relayed.{HasReceived, Continues, Load, Goes, Ends};
@@ -19,7 +19,7 @@ ghost use Rattle.mig_relay.specs.Multi.{AnswersRelay};
 use crate::feeder::{Fed, Feeder, FeederStep};
 use crate::relay::{Collector, Relay};
 use crate::relayed::{Going, answered, begin, next_round};
-use mig_answer::put_by;
+use mig_answer::apply_by;
 use mig_mem::NoMemory;
 use mig_packet::Gate;
 use mig_single_load::{LoadFault, LoadSettings, Loaded, without_memory};
@@ -69,13 +69,14 @@ pub fn load_multi<
     requires limit { limit ≤ 2 ^ 40 }
     ensures answer { IsAnswerOrWithoutMemory (ram_settings page_size limit) uuid.now (ended_texts main.now (bytes_of channels.now))
         (answer_of result) }
+    ensures streams { SaysOfStreamsOrNothing (ram_settings page_size limit) uuid.now (ended_texts main.now (bytes_of channels.now)) result }
     ensures sent { (table : RamTable) (rounds : List DealtRound) → IsSentInAnyOrder table uuid.now rounds main.now (bytes_of channels.now)
         → table.page_size ≡ page_size → total_bytes table ≤ limit
         → (answer_of result ≡ sent_answer table rounds)
         ⊎ IsWithoutMemory (ram_settings page_size limit) uuid.now (ended_texts main.now (bytes_of channels.now)) (answer_of result) }
 {
     let settings = LoadSettings::new(page_size, limit);
-    load_multi_in(rt, alloc, settings, uuid, main, channels, gate)
+    load_multi_with(rt, alloc, settings, uuid, main, channels, gate)
 }
 
 /// Loads a guest from a complete main stream and complete channels, as `load_multi` does, with the
@@ -90,7 +91,7 @@ pub fn load_multi<
 /// - `Fault::Channel`, `HelloTwice`, `Extra` or `Short`: a fault of a channel.
 /// - `Fault::Round`: a refusal of a round (54 to 59).
 /// - `NoMemory`: an allocation was refused, or a worker couldn't be started.
-pub fn load_multi_in<
+pub fn load_multi_with<
     R: Threads + Wait + Sync,
     A: Allocator + Copy + Send + Sync,
     B: Allocator + Sync,
@@ -108,6 +109,7 @@ pub fn load_multi_in<
     requires channels { (1 ≤ length channels.now) × (length channels.now ≤ 255) }
     requires limit { settings.limit ≤ 2 ^ 40 }
     ensures answer { IsAnswerOrWithoutMemory settings uuid.now (ended_texts main.now (bytes_of channels.now)) (answer_of result) }
+    ensures streams { SaysOfStreamsOrNothing settings uuid.now (ended_texts main.now (bytes_of channels.now)) result }
     ensures sent { (table : RamTable) (rounds : List DealtRound) → IsSentBefore table uuid.now rounds main.now (bytes_of channels.now)
         → settings.frame ≡ Ram → LetsChannelsThrough settings.waiting (length (bytes_of channels.now)) rounds → settings.round_end ≡ by_flush → table.page_size ≡ settings.page_size → total_bytes table ≤ settings.limit
         → (answer_of result ≡ sent_answer table rounds)
@@ -119,7 +121,7 @@ pub fn load_multi_in<
 {
     let page_size = settings.page_size;
     let waiting = settings.waiting;
-    let Ok((feeders, collector)) = Relay::start_within(
+    let Ok((feeders, collector)) = Relay::start_with(
         alloc,
         page_size,
         uuid,
@@ -191,8 +193,9 @@ fn load_together<'a, R: Threads + Wait + Sync, A: Allocator + Copy + Send>(
         Ok(going) => going,
         Err(loaded) => return loaded,
     };
+    let at = going.main_places();
     let verdict = load_rounds_by(rt, threads, alloc, collector, &mut going);
-    answered(going, verdict)
+    answered(going, at, verdict)
 }
 
 // Applies rounds as `load_rounds` of `relayed` does, each by at most `threads` threads.
@@ -213,7 +216,7 @@ fn load_rounds_by<'a, R: Threads + Wait + Sync, A: Allocator + Copy + Send>(
             Ok(next) => next,
             Err(verdict) => return verdict,
         };
-        if let Err(fault) = put_by(rt, threads, &mut going.target, &round, &gathered) {
+        if let Err(fault) = apply_by(rt, threads, &mut going.target, &round, &gathered) {
             return Err(fault);
         }
     }

@@ -73,17 +73,17 @@ impl Relay {
         ensures start { IfOk result (λ r. map so_far r.1 ≡ map (at_start (settings page_size uuid.now (length texts.now))) texts.now) }
         ensures same { IfOk result (λ r. r.0.items ≡ r.1) }
     {
-        Relay::start_within(alloc, page_size, uuid, texts, capacity, None)
+        Relay::start_with(alloc, page_size, uuid, texts, capacity, None)
     }
 
-    /// Makes a relay as `start` does, with the limit that `ChannelReader::new_within` takes: the
-    /// packets of a round of each channel may count `waiting` together. The stop of a channel that
-    /// passes it is the fault `Waiting`. `None` is no limit.
+    /// Creates the feeders and their collector as `start` does, with the limit that
+    /// `ChannelReader::new_with` takes: the packets of a round of each channel may count `waiting`
+    /// together. The stop of a channel that passes it is the fault `Waiting`. `None` is no limit.
     ///
     /// # Errors
     ///
     /// `NoMemory`: an allocation was refused.
-    pub fn start_within<'a, A: Allocator + Copy, B: Allocator>(
+    pub fn start_with<'a, A: Allocator + Copy, B: Allocator>(
         alloc: A,
         page_size: u64,
         uuid: &Uuid,

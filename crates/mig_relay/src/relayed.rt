@@ -6,18 +6,19 @@ ghost use Rattle.std.specs.List.{AllZip};
 ghost use Rattle.mig_packet.specs.Lent.{fields};
 ghost use Rattle.mig_answer.specs.declared.verdict.Verdict.TheVariants.{Running as running};
 ghost use Rattle.mig_answer.specs.Status.{main_status};
-ghost use Rattle.mig_stream.specs.Reader.{waiting};
+ghost use Rattle.mig_stream.specs.Reader.{waiting, Tells, HasClosedAt, IsValidUpTo};
 ghost use Rattle.mig_single_load.specs.Settings.{ram_settings};
 ghost use Rattle.mig_answer.specs.Texts.{ended_texts};
-ghost use Rattle.mig_answer.specs.MultiLoad.{IsAnswerOrWithoutMemory, as_verdict, answer_of};
+ghost use Rattle.mig_answer.specs.MultiLoad.{IsAnswerOrWithoutMemory, SaysOfStreamsOrNothing, as_verdict, answer_of};
 ghost use Rattle.mig_relay.specs.RelayItems.{QueueEnd};
-ghost use Rattle.mig_relay.specs.Relayed.{IsRelayOf, HasReceived, Continues, AreAtRound, Load, IsLoadOf, Loading, ToldAt, repeated_at, HasEnded, EndsAt, Goes, Ready, Ends, Begins, IsAnswerOf};
+ghost use Rattle.mig_relay.specs.Relayed.{IsRelayOf, HasReceived, Continues, AreAtRound, Load, IsLoadOf, Loading, ToldAt, repeated_at, HasEnded, EndsAt, Goes, Ready, Ends, Begins, AreMainPlaces, IsAnswerOf};
 
 use crate::hellos::repeated_hello;
 use crate::relay::Collector;
 use crate::taking::take_of_all;
-use mig_answer::{Status, Verdict, put, stream_end, verdict_told};
+use mig_answer::{Status, Verdict, apply, sources_verdict, stream_end};
 use mig_assemble::{Gathered, Target};
+use mig_marking::lacking;
 use mig_mem::NoMemory;
 use mig_single_load::{LoadFault, LoadSettings, Loaded, Origin, no_memory, without_memory};
 use mig_stream::{StreamReader, StreamRound, StreamState};
@@ -36,7 +37,7 @@ fn repeated_at<A: Allocator>(round: u64, collector: &Collector<'_, A>) -> Option
 
 // Takes a round of all channels, and gathers its packets. Returns the verdict of the sources there.
 // If all have the round, and no hello is repeated, returns None.
-fn told_at<'a, R: Wait, A: Allocator + Copy>(
+fn verdict_at_round<'a, R: Wait, A: Allocator + Copy>(
     wait: &R,
     alloc: A,
     round: u64,
@@ -47,8 +48,8 @@ fn told_at<'a, R: Wait, A: Allocator + Copy>(
 ) -> Result<Option<Verdict>, NoMemory>
     requires empty { gathered.old ≡ [] }
     requires places { AreAtRound round places.old.items collector.old }
-    ensures told { IfOk result (λ told. (l : Load) → Loading l round places.old.items collector.old → main ≡ main_status round l.readings.main
-        → ToldAt l round main told places.new.items collector.new (map fields gathered.new)) }
+    ensures told { IfOk result (λ found. (l : Load) → Loading l round places.old.items collector.old → main ≡ main_status round l.readings.main
+        → ToldAt l round main found places.new.items collector.new (map fields gathered.new)) }
     ensures page_size { OnOk result ((page_size : ℕ) → All (λ p. p.source.page_size ≡ page_size) collector.old
         → All (λ packet. packet.page_size ≡ page_size) gathered.new) }
     ensures continues { AllZip Continues collector.old collector.new }
@@ -56,7 +57,7 @@ fn told_at<'a, R: Wait, A: Allocator + Copy>(
     let mut statuses = Vec::with_capacity(alloc, collector.len())?;
     take_of_all(wait, collector, places, gathered, &mut statuses)?;
     let repeated = repeated_at(round, collector);
-    Ok(verdict_told(round, main, &statuses, repeated))
+    Ok(sources_verdict(round, main, &statuses, repeated))
 }
 
 // Returns the verdict of a load as its answer.
@@ -93,10 +94,11 @@ fn end<'a, R: Wait, A: Allocator + Copy>(
         });
     }
     let mut gathered = Gathered::new(alloc);
-    let Ok(told) = told_at(wait, alloc, rounds, main, collector, places, &mut gathered) else {
+    let Ok(found) = verdict_at_round(wait, alloc, rounds, main, collector, places, &mut gathered)
+    else {
         return no_memory(rounds);
     };
-    match told {
+    match found {
         Some(verdict) => answer_of(verdict),
         None => unreachable!(),
     }
@@ -109,6 +111,33 @@ pub(crate) struct Going<'t, A: Allocator> {
     // the index of the next item of each channel
     places: Vec<usize, A>,
     pub(crate) target: Target<A>,
+}
+
+// Where the main stream of a load is closed, and how many of its bytes are complete items without a
+// fault.
+#[derive(Clone, Copy)]
+pub(crate) struct MainPlaces {
+    closed_at: Option<u64>,
+    valid_up_to: u64,
+}
+
+// Returns the places of a main stream, from its reader.
+fn main_places<A: Allocator>(reader: &StreamReader<'_, A>) -> MainPlaces
+    ensures { Tells reader.now (λ given so_far. HasClosedAt given so_far.text result.closed_at × IsValidUpTo given so_far.text result.valid_up_to) }
+{
+    MainPlaces {
+        closed_at: reader.closed_at(),
+        valid_up_to: reader.valid_up_to(),
+    }
+}
+
+impl<'t, A: Allocator> Going<'t, A> {
+    /// Returns the places of the main stream.
+    pub(crate) fn main_places(&self) -> MainPlaces
+        ensures { (l : Load) (ends : List QueueEnd) → Goes l self.now.reader self.now.target self.now.places.items ends → AreMainPlaces l result }
+    {
+        main_places(&self.reader)
+    }
 }
 
 /// Returns the next round if all sources have it: the records of the main stream, and the packets
@@ -134,7 +163,7 @@ pub(crate) fn next_round<'t, 'a, R: Wait, A: Allocator + Copy>(
         return Err(end(wait, alloc, rounds, state, collector, &mut going.places));
     };
     let mut gathered = Gathered::new(alloc);
-    let Ok(told) = told_at(
+    let Ok(found) = verdict_at_round(
         wait,
         alloc,
         rounds,
@@ -145,7 +174,7 @@ pub(crate) fn next_round<'t, 'a, R: Wait, A: Allocator + Copy>(
     ) else {
         return Err(no_memory(rounds));
     };
-    match told {
+    match found {
         Some(verdict) => Err(answer_of(verdict)),
         None => Ok((round, gathered)),
     }
@@ -167,7 +196,7 @@ fn load_rounds<'a, R: Wait, A: Allocator + Copy>(
             Ok(next) => next,
             Err(verdict) => return verdict,
         };
-        if let Err(fault) = put(&mut going.target, &round, &gathered) {
+        if let Err(fault) = apply(&mut going.target, &round, &gathered) {
             return Err(fault);
         }
     }
@@ -200,10 +229,14 @@ fn with_table<'t, 'a, R: Wait, A: Allocator + Copy>(
     ensures received { IfErr result (λ loaded. AllZip (HasReceived loaded.rounds (is_ok loaded.verdict)) collector.old collector.new) }
 {
     let Some(table) = reader.table() else {
+        let at = main_places(&reader);
         return Err(Loaded {
             memory: None,
             rounds: 0,
             verdict: end(wait, alloc, 0, reader.state(), collector, &mut places),
+            missing: None,
+            closed_at: at.closed_at,
+            valid_up_to: Some(at.valid_up_to),
         });
     };
     match Target::new(alloc, table) {
@@ -234,7 +267,7 @@ pub(crate) fn begin<'t, 'a, R: Wait, A: Allocator + Copy>(
 {
     let page_size = collector.page_size();
     let waiting = collector.waiting();
-    let Ok(mut reader) = StreamReader::of_text_within(
+    let Ok(mut reader) = StreamReader::of_text_with(
         alloc,
         settings.frame,
         settings.main_mode(),
@@ -252,20 +285,25 @@ pub(crate) fn begin<'t, 'a, R: Wait, A: Allocator + Copy>(
     with_table(wait, alloc, collector, places, reader)
 }
 
-/// Returns the answer of a load that has ended with a verdict.
+/// Returns the answer of a load that has ended with a verdict. Its main stream has these places.
 pub(crate) fn answered<A: Allocator>(
     going: Going<'_, A>,
+    main: MainPlaces,
     verdict: Result<(), LoadFault>,
 ) -> Loaded<A>
-    ensures answer { (l : Load) (ends : List QueueEnd) → Ends l going.entry.target verdict ends → IsAnswerOf l result }
+    ensures answer { (l : Load) (ends : List QueueEnd) → Ends l going.entry.target verdict ends → AreMainPlaces l main → IsAnswerOf l result }
     ensures rounds { result.rounds ≡ going.entry.target.rounds }
     ensures verdict { result.verdict ≡ verdict }
 {
     let rounds = going.target.rounds();
+    let missing = lacking(going.target.named());
     Loaded {
         memory: Some(going.target.into_memory()),
         rounds,
         verdict,
+        missing: Some(missing),
+        closed_at: main.closed_at,
+        valid_up_to: Some(main.valid_up_to),
     }
 }
 
@@ -292,16 +330,13 @@ pub fn load_relayed<'a, R: Wait, A: Allocator + Copy>(
     requires limit { limit ≤ 2 ^ 40 }
     ensures answer { (page_size : ℕ) (waiting : Option ℕ) (uuid : List ℕ) (texts : List (List ℕ)) → IsRelayOf page_size waiting uuid texts collector.old
         → IsAnswerOrWithoutMemory (record (ram_settings page_size limit) { waiting = waiting }) uuid (ended_texts main.now texts) (answer_of result) }
+    ensures streams { (page_size : ℕ) (waiting : Option ℕ) (uuid : List ℕ) (texts : List (List ℕ)) → IsRelayOf page_size waiting uuid texts collector.old
+        → SaysOfStreamsOrNothing (record (ram_settings page_size limit) { waiting = waiting }) uuid (ended_texts main.now texts) result }
     ensures received { AllZip (HasReceived result.rounds (is_ok result.verdict)) collector.old collector.new }
 {
     let page_size = collector.page_size();
-    load_relayed_in(
-        wait,
-        alloc,
-        collector,
-        main,
-        LoadSettings::new(page_size, limit),
-    )
+    let settings = LoadSettings::new(page_size, limit);
+    load_relayed_with(wait, alloc, settings, collector, main)
 }
 
 /// Loads a guest from a complete main stream, read with `settings`, and from the channels of a
@@ -316,22 +351,25 @@ pub fn load_relayed<'a, R: Wait, A: Allocator + Copy>(
 /// - `Fault::Channel`, `HelloTwice`, `Extra` or `Short`: a fault of a channel.
 /// - `Fault::Round`: a refusal of a round (54 to 59).
 /// - `NoMemory`: an allocation was refused.
-pub fn load_relayed_in<'a, R: Wait, A: Allocator + Copy>(
+pub fn load_relayed_with<'a, R: Wait, A: Allocator + Copy>(
     wait: &R,
     alloc: A,
+    settings: LoadSettings,
     collector: &mut Collector<'a, A>,
     main: &[u8],
-    settings: LoadSettings,
 ) -> Loaded<A>
     requires limit { settings.limit ≤ 2 ^ 40 }
     ensures answer { (page_size : ℕ) (waiting : Option ℕ) (uuid : List ℕ) (texts : List (List ℕ)) → IsRelayOf page_size waiting uuid texts collector.old
         → IsAnswerOrWithoutMemory (record settings { page_size = page_size; waiting = waiting }) uuid (ended_texts main.now texts) (answer_of result) }
+    ensures streams { (page_size : ℕ) (waiting : Option ℕ) (uuid : List ℕ) (texts : List (List ℕ)) → IsRelayOf page_size waiting uuid texts collector.old
+        → SaysOfStreamsOrNothing (record settings { page_size = page_size; waiting = waiting }) uuid (ended_texts main.now texts) result }
     ensures received { AllZip (HasReceived result.rounds (is_ok result.verdict)) collector.old collector.new }
 {
     let mut going = match begin(wait, alloc, collector, main, settings) {
         Ok(going) => going,
         Err(loaded) => return loaded,
     };
+    let at = going.main_places();
     let verdict = load_rounds(wait, alloc, collector, &mut going);
-    answered(going, verdict)
+    answered(going, at, verdict)
 }

@@ -61,7 +61,7 @@ fn main(rt: HostRuntime) -> io::Result<ExitCode> {
     let mut count = Count::none();
     let mut out = BufWriter::new(rt.alloc(), io::writer(&rt))?;
     play_all(&rt, &mut out, &texts, &mut count)?;
-    count.put(&mut out)?;
+    count.write_to(&mut out)?;
     out.flush()?;
     Ok(ExitCode::from(u8::from(count.wrong > 0)))
 }

@@ -4,7 +4,7 @@ use crate::show::put_loaded;
 use mig_cases::{Case, Done, Trouble};
 use mig_mem::{MAX_TOTAL, is_page_size};
 use mig_packet::OpenGate;
-use mig_relay::{load_multi, load_multi_in};
+use mig_relay::{load_multi, load_multi_with};
 use mig_single_load::LoadSettings;
 use mig_stream::Frame;
 use std::sync::Wait;
@@ -25,7 +25,7 @@ pub fn load_several<R: Threads + Wait + Sync>(out: &mut String, rt: &R, case: &C
     if case.is_machine {
         let settings = LoadSettings::new(case.page_size, case.limit).with_frame(Frame::Machine);
         let gate = OpenGate;
-        let loaded = load_multi_in(rt, case.alloc, settings, &case.uuid, main, channels, &gate);
+        let loaded = load_multi_with(rt, case.alloc, settings, &case.uuid, main, channels, &gate);
         return put_loaded(out, &loaded);
     }
     let loaded = load_multi(

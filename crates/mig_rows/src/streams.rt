@@ -4,7 +4,7 @@ use crate::show::{put_loaded, put_records, put_stream_state};
 use mig_cases::{Case, Done, Trouble, again, agree, put_fed, put_table};
 use mig_mem::{MAX_TOTAL, is_page_size};
 use mig_single_load::{
-    FeedFault, LoadSettings, SingleLoader, load_single, load_single_in, single_closed_at,
+    Fault, FeedFault, LoadSettings, SingleLoader, load_single, load_single_with,
 };
 use mig_stream::{Frame, Mode, StreamReader, StreamRound, StreamState};
 use std::alloc::Global;
@@ -29,7 +29,7 @@ fn load(out: &mut String, case: &Case, text: &[u8]) -> Done {
     }
     let loaded = if case.is_machine {
         let settings = LoadSettings::new(case.page_size, case.limit).with_frame(Frame::Machine);
-        load_single_in(case.alloc, settings, text)
+        load_single_with(case.alloc, settings, text)
     } else {
         load_single(case.alloc, case.page_size, text, case.limit)
     };
@@ -50,7 +50,11 @@ fn closed(out: &mut String, case: &Case, text: &[u8]) -> Done {
     }
     let settings = LoadSettings::new(case.page_size, case.limit).with_frame(frame_of(case));
     let mut answer = String::new(case.alloc);
-    put_place_closed(&mut answer, single_closed_at(case.alloc, settings, text)?)?;
+    let loaded = load_single_with(case.alloc, settings, text);
+    match loaded.verdict {
+        Err(found) if found.fault == Fault::NoMemory => return Err(Trouble::NoMemory),
+        _ => put_place_closed(&mut answer, loaded.closed_at)?,
+    }
     agree_of_text(out, &answer)
 }
 
@@ -60,7 +64,7 @@ fn closed_in_pieces(out: &mut String, case: &Case, text: &[u8], len: usize) -> D
         return Err(Trouble::Line);
     }
     let settings = LoadSettings::new(case.page_size, case.limit).with_frame(frame_of(case));
-    let mut loader = SingleLoader::new_in(case.alloc, settings);
+    let mut loader = SingleLoader::new(case.alloc, settings);
     for piece in text.chunks(len.max(1)) {
         feed_loader(&mut loader, piece)?;
     }
@@ -106,7 +110,7 @@ pub fn reader_of(case: &Case, mode: Mode) -> Result<StreamReader<'static>, Troub
         return Err(Trouble::Line);
     }
     let frame = frame_of(case);
-    Ok(StreamReader::new_in(case.alloc, frame, mode, case.page_size, case.limit))
+    Ok(StreamReader::new_with(case.alloc, frame, mode, case.page_size, case.limit, None))
 }
 
 /// Feeds a piece, unless the stream has ended or is too long.
@@ -160,12 +164,13 @@ fn read_of_text(out: &mut String, case: &Case, mode: Mode, text: &[u8]) -> Done 
         return Err(Trouble::Line);
     }
     let frame = frame_of(case);
-    let mut reader = StreamReader::of_text_in(
+    let mut reader = StreamReader::of_text_with(
         case.alloc,
         frame,
         mode,
         case.page_size,
         case.limit,
+        None,
         text,
     )?;
     put_reader(out, case, &mut reader, text)

@@ -19,7 +19,8 @@ blocks_push (StepLine step ∷ ls) l = blocks_push ls l
 blocks_more : (lines : List Line) (i : ℕ) (x : Line) → i < length lines → get_or lines i kept.Empty ≡ x
     → blocks_of (map seen (take (i + 1) lines)) ≡ blocks_of (map seen (take i lines)) ++ blocks_of (seen x ∷ [])
 blocks_more lines i x h e =
-    ap (λ (ls : List ScenarioLine). blocks_of ls) (map_more seen lines i kept.Empty h) ∙ blocks_push (map seen (take i lines)) (seen (get_or lines i kept.Empty))
+    ap (λ (ls : List ScenarioLine). blocks_of ls) (map_more seen lines i kept.Empty h)
+    ∙ blocks_push (map seen (take i lines)) (seen (get_or lines i kept.Empty))
     ∙ ap (λ (y : Line). blocks_of (map seen (take i lines)) ++ blocks_of (seen y ∷ [])) e
 
 -- a block's line adds an entry
@@ -39,8 +40,10 @@ no_block (kept.Step step) h = refl
 
 -- another line adds none
 pub entry_same : {A : Type 0} (list : List (Vec ℕ A × ℕ)) (lines : List Line) (i : ℕ)
-    → map entry_block list ≡ blocks_of (map seen (take i lines)) → i < length lines → ((pages : ℕ) (id : Bor (List ℕ)) → get_or lines i kept.Empty ≡ kept.Block pages id → ⊥)
+    → map entry_block list ≡ blocks_of (map seen (take i lines)) → i < length lines
+    → ((pages : ℕ) (id : Bor (List ℕ)) → get_or lines i kept.Empty ≡ kept.Block pages id → ⊥)
     → map entry_block list ≡ blocks_of (map seen (take (i + 1) lines))
 entry_same list lines i h lt other =
     let x = get_or lines i kept.Empty in
-    h ∙ sym (blocks_more lines i x lt refl ∙ ap (λ (bs : List Block). blocks_of (map seen (take i lines)) ++ bs) (no_block x other) ∙ append-nil (blocks_of (map seen (take i lines))))
+    h ∙ sym (blocks_more lines i x lt refl ∙ ap (λ (bs : List Block). blocks_of (map seen (take i lines)) ++ bs)
+    (no_block x other) ∙ append-nil (blocks_of (map seen (take i lines))))

@@ -1,12 +1,11 @@
 -- The marks of a scenario's guest are faithful: what its rounds leave is its memory, if no step
 -- follows the last of them.
-use Rattle.std.proofs.Common.{ℕ, ◌≡◌, ◌*◌, ◌/◌, ◌%◌, List, [], ◌∷◌, ◌++◌, length, set, replicate, refl, sym, ap, subst, ◌∙◌, inl, inr, append_assoc, append-nil, None, true, false, ◌||◌, ◌&&◌, cond}
-use Rattle.std.specs.Prelude.{All, Contains, IsTrue, position, nat_lt}
+use Rattle.std.proofs.Common.{ℕ, ◌≡◌, ◌*◌, ◌/◌, ◌%◌, List, [], ◌∷◌, ◌++◌, length, set, replicate, refl, sym, ap, subst, ◌∙◌, inl, inr, append_assoc, append-nil, None, false, ◌||◌, ◌&&◌, cond}
+use Rattle.std.specs.Prelude.{All, IsTrue, position, nat_lt}
 use Rattle.std.specs.List.{fold, after_last}
 use Rattle.std.proofs.lemmas.Bool.{cases_Bool, cond-true, cond-false, and_parts, or_parts, ltb-true}
 use Rattle.std.proofs.lemmas.List.{length-set, length-replicate}
 use Rattle.std.proofs.lemmas.List.Elements.{All-nil, All-head, All-tail, All-push, All-weaker, All-map}
-use Rattle.std.proofs.lemmas.Map.Views.{Contains-from_any}
 use Rattle.mig_mem.specs.declared.place.Place.{Place}
 use Rattle.mig_mem.specs.RamTable.{RamTable, block, IsTable}
 use Rattle.mig_mem.specs.Place.{place_at, place_eq, has_place, IsPlace}
@@ -16,29 +15,29 @@ use Rattle.mig_mem.specs.Round.{IsRound, round_of, after}
 use Rattle.mig_mem.specs.Tracking.{Snapshot, AreImagesOf, rounds_of, HasChanges, IsFaithful, last_image}
 use Rattle.mig_mem.proofs.Images.{content_at-image_of, image_from, content_size}
 use Rattle.mig_mem.proofs.PageSizes.{page_size_some, page_of_offset}
-use Rattle.mig_mem.proofs.PlaceOrder.{place_eq-true}
 use Rattle.mig_mem.proofs.Sets.{has_place-where, where_set}
 use Rattle.mig_mem.proofs.Rounds.{image_round}
-use Rattle.mig_mem.proofs.Tracked.{tracked}
+use Rattle.mig_mem.proofs.Tracked.{tracked, contains_from_has}
+use Rattle.mig_mem.proofs.Lists.{map_none}
 use Rattle.mig_scenario.specs.declared.line.Step.{Step}
 use Rattle.mig_scenario.specs.declared.line.Step.TheVariants.{Set, Fill, Touch, Round}
 use Rattle.mig_scenario.specs.Line.{ScenarioLine, EmptyLine, BlockLine, StepLine}
 use Rattle.mig_scenario.specs.Scenario.{is_step, is_round, is_step_within, is_within, unsent}
 use Rattle.mig_scenario.specs.Guest.{ScenarioGuest, new_guest, after_step, after_line, played}
-use Rattle.mig_scenario.proofs.Endings.{after_last-more, position-push_none, map_none}
+use Rattle.mig_scenario.proofs.Endings.{after_last-more, position-push_none}
 
 -- ---- one snapshot more
 
-pub faithful-push : (before : Image) (ss : List Snapshot) (s : Snapshot) → IsFaithful before ss → HasChanges (last_image before ss) s → IsFaithful before (ss ++ s ∷ [])
+-- faithful snapshots stay so with one more, if its changes from the last image are marked
+pub faithful-push : (before : Image) (ss : List Snapshot) (s : Snapshot) → IsFaithful before ss
+    → HasChanges (last_image before ss) s → IsFaithful before (ss ++ s ∷ [])
 faithful-push before [] s faithful changes = (changes, tt)
 faithful-push before (t ∷ ts) s faithful changes = (faithful.0, faithful-push t.image ts s faithful.1 changes)
 
+-- the last image, once a snapshot is added, is that snapshot's
 pub last_image-push : (before : Image) (ss : List Snapshot) (s : Snapshot) → last_image before (ss ++ s ∷ []) ≡ s.image
 last_image-push before [] s = refl
 last_image-push before (t ∷ ts) s = last_image-push t.image ts s
-
-contains_from_has : (ps : List Place) (p : Place) → has_place ps p ≡ true → Contains ps p
-contains_from_has ps p h = Contains-from_any {eq = λ x y. place_eq y x} (λ x y e. sym (place_eq-true y x e)) p ps h
 
 -- ---- a guest whose marks are faithful
 
@@ -87,7 +86,8 @@ marked_within table s p is same =
     All-weaker (IsPlace s.table) (IsPlace table) (λ q at. rw same at at) (with_place s p).marked set.is_within
 
 -- a page is marked
-touch_tracked : (table : RamTable) (g : ScenarioGuest) (p : Place) → IsTable table → IsTracked table g → IsTracked table (record g { dirty = with_place g.dirty p })
+touch_tracked : (table : RamTable) (g : ScenarioGuest) (p : Place) → IsTable table → IsTracked table g
+    → IsTracked table (record g { dirty = with_place g.dirty p })
 touch_tracked table g p is tracked = record {
   is_image = tracked.is_image;
   has_table = tracked.has_table;
@@ -140,7 +140,8 @@ round_tracked table g tracked =
 -- ---- the steps
 
 -- the page that a `set` writes in
-pub set_within : (table : RamTable) (b offset byte : ℕ) → IsTable table → IsTrue (is_step_within table (Set b offset byte)) → IsPlace table (place_at b (offset / table.page_size))
+pub set_within : (table : RamTable) (b offset byte : ℕ) → IsTable table → IsTrue (is_step_within table (Set b offset byte))
+    → IsPlace table (place_at b (offset / table.page_size))
 set_within table b offset byte is within =
     let front = and_parts (nat_lt b (length table.blocks) && nat_lt offset ((block table.blocks b).pages * table.page_size)) (nat_lt byte 256) within in
     let two = and_parts (nat_lt b (length table.blocks)) (nat_lt offset ((block table.blocks b).pages * table.page_size)) front.0 in
@@ -150,7 +151,8 @@ set_within table b offset byte is within =
           (ltb-true offset ((block table.blocks b).pages * table.page_size) two.1);
     }
 
-step_tracked : (table : RamTable) (g : ScenarioGuest) (step : Step) → IsTable table → IsTrue (is_step_within table step) → IsTracked table g → IsTracked table (after_step g step)
+step_tracked : (table : RamTable) (g : ScenarioGuest) (step : Step) → IsTable table → IsTrue (is_step_within table step)
+    → IsTracked table g → IsTracked table (after_step g step)
 step_tracked table g (Set b offset byte) is within tracked =
     let size : ℕ = g.image.table.page_size in
     let p : Place = place_at b (offset / size) in
@@ -162,12 +164,14 @@ step_tracked table g (Fill b page byte) is within tracked =
 step_tracked table g (Touch b page) is within tracked = touch_tracked table g (place_at b page) is tracked
 step_tracked table g Round is within tracked = round_tracked table g tracked
 
-line_tracked : (table : RamTable) (g : ScenarioGuest) (line : ScenarioLine) → IsTable table → IsTrue (is_within table line) → IsTracked table g → IsTracked table (after_line g line)
+line_tracked : (table : RamTable) (g : ScenarioGuest) (line : ScenarioLine) → IsTable table → IsTrue (is_within table line)
+    → IsTracked table g → IsTracked table (after_line g line)
 line_tracked table g EmptyLine is within tracked = tracked
 line_tracked table g (BlockLine pages id) is within tracked = tracked
 line_tracked table g (StepLine step) is within tracked = step_tracked table g step is within tracked
 
-lines_tracked : (table : RamTable) (g : ScenarioGuest) (ls : List ScenarioLine) → IsTable table → All (λ l. IsTrue (is_within table l)) ls → IsTracked table g → IsTracked table (fold after_line g ls)
+lines_tracked : (table : RamTable) (g : ScenarioGuest) (ls : List ScenarioLine) → IsTable table
+    → All (λ l. IsTrue (is_within table l)) ls → IsTracked table g → IsTracked table (fold after_line g ls)
 lines_tracked table g [] is within tracked = tracked
 lines_tracked table g (l ∷ ls) is within tracked =
     lines_tracked table (after_line g l) ls is (All-tail (λ (x : ScenarioLine). IsTrue (is_within table x)) l ls within)
@@ -183,12 +187,15 @@ abbrev IsSent : RamTable → List ScenarioLine → ScenarioGuest → Type 0
 IsSent table ls g = position is_step (after_last is_round ls) ≡ None → g.image ≡ sent_image table g
 
 -- a line that is no round
-quiet_line : (table : RamTable) (before : List ScenarioLine) (g new : ScenarioGuest) (l : ScenarioLine) → is_round l ≡ false → (is_step l ≡ false → new ≡ g) → IsSent table before g → IsSent table (before ++ l ∷ []) new
+quiet_line : (table : RamTable) (before : List ScenarioLine) (g new : ScenarioGuest) (l : ScenarioLine) → is_round l ≡ false
+    → (is_step l ≡ false → new ≡ g) → IsSent table before g → IsSent table (before ++ l ∷ []) new
 quiet_line table before g new l other same sent none =
-    let two = position-push_none is_step (after_last is_round before) l (ap (λ (ls : List ScenarioLine). position is_step ls) (sym (after_last-more is_round before l other)) ∙ none) in
+    let two = position-push_none is_step (after_last is_round before) l
+    (ap (λ (ls : List ScenarioLine). position is_step ls) (sym (after_last-more is_round before l other)) ∙ none) in
     rw (same two.1) (sent two.0)
 
-line_sent : (table : RamTable) (before : List ScenarioLine) (g : ScenarioGuest) (l : ScenarioLine) → IsSent table before g → IsSent table (before ++ l ∷ []) (after_line g l)
+line_sent : (table : RamTable) (before : List ScenarioLine) (g : ScenarioGuest) (l : ScenarioLine) → IsSent table before g
+    → IsSent table (before ++ l ∷ []) (after_line g l)
 line_sent table before g EmptyLine sent none = quiet_line table before g g EmptyLine refl (λ _. refl) sent none
 line_sent table before g (BlockLine pages id) sent none = quiet_line table before g g (BlockLine pages id) refl (λ _. refl) sent none
 line_sent table before g (StepLine Round) sent none = sym (last_image-push (zero_image table) g.snapshots (record { image = g.image; dirty = g.dirty.marked }))
@@ -199,10 +206,12 @@ line_sent table before g (StepLine (Fill b page byte)) sent none =
 line_sent table before g (StepLine (Touch b page)) sent none =
     quiet_line table before g (after_step g (Touch b page)) (StepLine (Touch b page)) refl (λ no_step. absurd cc) sent none
 
-lines_sent : (table : RamTable) (before : List ScenarioLine) (g : ScenarioGuest) (ls : List ScenarioLine) → IsSent table before g → IsSent table (before ++ ls) (fold after_line g ls)
+lines_sent : (table : RamTable) (before : List ScenarioLine) (g : ScenarioGuest) (ls : List ScenarioLine) → IsSent table before g
+    → IsSent table (before ++ ls) (fold after_line g ls)
 lines_sent table before g [] sent = rw (append-nil before) sent
 lines_sent table before g (l ∷ ls) sent =
-    let more : IsSent table ((before ++ l ∷ []) ++ ls) (fold after_line (after_line g l) ls) = lines_sent table (before ++ l ∷ []) (after_line g l) ls (line_sent table before g l sent) in
+    let more : IsSent table ((before ++ l ∷ []) ++ ls) (fold after_line (after_line g l) ls) =
+    lines_sent table (before ++ l ∷ []) (after_line g l) ls (line_sent table before g l sent) in
     rw append_assoc at more
 
 -- ---- the laws
@@ -219,12 +228,16 @@ pub played_is_sent : (table : RamTable) (ls : List ScenarioLine) → IsTable tab
 played_is_sent table ls is within none =
     let g : ScenarioGuest = played table ls in
     let t : IsTracked table g = played_tracked table ls is within in
-    let images : AreImagesOf table g.snapshots = All-weaker (IsSnapshot table) (λ s. IsImage s.image × (s.image.table ≡ table)) (λ s h. (h.is_image, h.has_table)) g.snapshots t.has_snapshots in
-    tracked table g.snapshots images t.is_faithful ∙ sym (lines_sent table [] (new_guest table) ls (λ _. refl) (map_none _ (position is_step (after_last is_round ls)) none))
+    let images : AreImagesOf table g.snapshots =
+    All-weaker (IsSnapshot table) (λ s. IsImage s.image × (s.image.table ≡ table)) (λ s h. (h.is_image, h.has_table)) g.snapshots t.has_snapshots in
+    tracked table g.snapshots images t.is_faithful
+    ∙ sym (lines_sent table [] (new_guest table) ls (λ _. refl) (map_none _ (position is_step (after_last is_round ls)) none))
 
 -- Its rounds are rounds of its table.
-pub played_are_rounds : (table : RamTable) (ls : List ScenarioLine) → IsTable table → All (λ l. IsTrue (is_within table l)) ls → All (IsRound table) (rounds_of (played table ls).snapshots)
+pub played_are_rounds : (table : RamTable) (ls : List ScenarioLine) → IsTable table → All (λ l. IsTrue (is_within table l)) ls
+    → All (IsRound table) (rounds_of (played table ls).snapshots)
 played_are_rounds table ls is within =
     let g : ScenarioGuest = played table ls in
     All-map (IsRound table) (λ (s : Snapshot). round_of s.image s.dirty) g.snapshots
-    (All-weaker (IsSnapshot table) (λ s. IsRound table (round_of s.image s.dirty)) (snapshot_round table) g.snapshots (played_tracked table ls is within).has_snapshots)
+    (All-weaker (IsSnapshot table) (λ s. IsRound table (round_of s.image s.dirty)) (snapshot_round table) g.snapshots
+    (played_tracked table ls is within).has_snapshots)

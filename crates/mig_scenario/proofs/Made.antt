@@ -1,11 +1,12 @@
 -- A scenario that isn't refused makes its image.
-use Rattle.std.proofs.Common.{◌≡◌, List, [], ◌∷◌, refl, Option, Some, None}
+use Rattle.std.proofs.Common.{List, [], ◌∷◌, Option, None}
 use Rattle.std.specs.Prelude.{not, is_none, All, IsTrue}
-use Rattle.std.specs.Option.{option_map, option_or}
+use Rattle.std.specs.Option.{option_map}
 use Rattle.mig_mem.specs.First.{first_some}
 use Rattle.mig_mem.specs.RamTable.{IsTable}
 use Rattle.mig_mem.specs.Refusal.{refusal as table_refusal}
 use Rattle.mig_mem.proofs.Lawful.{table_law}
+use Rattle.mig_mem.proofs.Lists.{or_none, map_none}
 use Rattle.mig_scenario.specs.declared.fault.ScenarioFault.{ScenarioFault}
 use Rattle.mig_scenario.specs.declared.fault.ScenarioFault.TheVariants as fault
 use Rattle.mig_scenario.specs.Line.{ScenarioLine}
@@ -14,14 +15,7 @@ use Rattle.mig_scenario.specs.Law.{ScenariosMakeTheirImage}
 use Rattle.mig_scenario.proofs.Verdicts.{all_within}
 use Rattle.mig_scenario.proofs.Faithful.{played_is_sent, played_are_rounds}
 
-both_none : {X : Type 0} (a b : Option X) → option_or a b ≡ None → (a ≡ None) × (b ≡ None)
-both_none None b e = (refl, e)
-both_none (Some x) b e = absurd cc
-
-unmapped : {X Y : Type 0} (f : X → Y) (o : Option X) → option_map f o ≡ None → o ≡ None
-unmapped f None e = refl
-unmapped f (Some x) e = absurd cc
-
+-- the rounds of a valid scenario, applied to zeros, give the memory its guest has at the end
 pub made : ScenariosMakeTheirImage
 made size text is_size none =
     let ls : List ScenarioLine = lines_of text in
@@ -30,14 +24,15 @@ made size text is_size none =
     let table : Option ScenarioFault = option_map fault.Table (table_refusal (table_of size ls)) in
     let range : Option ScenarioFault = option_map fault.Range (first_line (λ l. not (is_within (table_of size ls) l)) ls) in
     let last : Option ScenarioFault = option_map fault.Unsent (unsent ls) in
-    let a = both_none syntax (first_some (order ∷ (table ∷ (range ∷ (last ∷ []))))) none in
-    let b = both_none order (first_some (table ∷ (range ∷ (last ∷ [])))) a.1 in
-    let c = both_none table (first_some (range ∷ (last ∷ []))) b.1 in
-    let d = both_none range (first_some (last ∷ [])) c.1 in
-    let e = both_none last None d.1 in
-    let is : IsTable (table_of size ls) = (table_law (table_of size ls) is_size).0 (unmapped fault.Table (table_refusal (table_of size ls)) c.0) in
-    let within : All (λ l. IsTrue (is_within (table_of size ls) l)) ls = all_within (is_within (table_of size ls)) ls (unmapped fault.Range (first_line (λ l. not (is_within (table_of size ls) l)) ls) d.0) in
+    let a = or_none syntax (first_some (order ∷ (table ∷ (range ∷ (last ∷ []))))) none in
+    let b = or_none order (first_some (table ∷ (range ∷ (last ∷ [])))) a.1 in
+    let c = or_none table (first_some (range ∷ (last ∷ []))) b.1 in
+    let d = or_none range (first_some (last ∷ [])) c.1 in
+    let e = or_none last None d.1 in
+    let is : IsTable (table_of size ls) = (table_law (table_of size ls) is_size).0 (map_none fault.Table (table_refusal (table_of size ls)) c.0) in
+    let within : All (λ l. IsTrue (is_within (table_of size ls) l)) ls =
+    all_within (is_within (table_of size ls)) ls (map_none fault.Range (first_line (λ l. not (is_within (table_of size ls) l)) ls) d.0) in
     record {
       are_rounds = played_are_rounds (table_of size ls) ls is within;
-      has_image = played_is_sent (table_of size ls) ls is within (unmapped fault.Unsent (unsent ls) e.0);
+      has_image = played_is_sent (table_of size ls) ls is within (map_none fault.Unsent (unsent ls) e.0);
     }

@@ -14,17 +14,20 @@ pub shifted : (f g : ℕ → ℕ) (o : Option ℕ) → ((j : ℕ) → f (suc j) 
 shifted f g None e = refl
 shifted f g (Some j) e = ap Some (e j)
 
+-- two functions with the same values map a number alike, if there is one
 pub mapped_same : (f g : ℕ → ℕ) (o : Option ℕ) → ((j : ℕ) → f j ≡ g j) → option_map f o ≡ option_map g o
 mapped_same f g None e = refl
 mapped_same f g (Some j) e = ap Some (e j)
 
+-- to map a number by g and then by f is to map it by a function with the values of both in turn
 pub mapped_twice : (f g h : ℕ → ℕ) (o : Option ℕ) → ((j : ℕ) → f (g j) ≡ h j) → option_map f (option_map g o) ≡ option_map h o
 mapped_twice f g h None e = refl
 mapped_twice f g h (Some j) e = ap Some (e j)
 
 -- ---- the number of the first element that passes
 
-first_place : (b : Bool) (k n : ℕ) → let m = cond (not b) (1 + k) 0 in cond (nat_lt m (suc n)) (Some m) None ≡ cond b (Some 0) (option_map suc (cond (nat_lt k n) (Some k) None))
+first_place : (b : Bool) (k n : ℕ) → let m = cond (not b) (1 + k) 0 in
+    cond (nat_lt m (suc n)) (Some m) None ≡ cond b (Some 0) (option_map suc (cond (nat_lt k n) (Some k) None))
 first_place true k n = cond-true (nat_lt 0 (suc n)) (Some 0) None (lt-ltb 0 (suc n) (omega arith))
 first_place false k n = elim (cases_lt k n) [
   | inl lt ↦
@@ -37,6 +40,7 @@ first_place false k n = elim (cases_lt k n) [
       rw (now, next) refl
 ]
 
+-- the first element that passes is the head, or else one further on than in the tail
 pub position-cons : {X : Type 0} (p : X → Bool) (x : X) (xs : List X) → position p (x ∷ xs) ≡ cond (p x) (Some 0) (option_map suc (position p xs))
 position-cons p x xs = first_place (p x) (position_or_len p xs) (length xs)
 
@@ -45,7 +49,8 @@ position-cons p x xs = first_place (p x) (position_or_len p xs) (length xs)
 -- how many elements stand there
 -- how many elements stand there, one by one
 last_run : {X : Type 0} (p : X → Bool) (xs : List X) (x : X)
-    → position_or_len p (reverse (x ∷ xs)) ≡ cond (eqb (position_or_len p (reverse xs)) (length xs)) (length xs + cond (p x) 0 1) (position_or_len p (reverse xs))
+    → position_or_len p (reverse (x ∷ xs)) ≡ cond (eqb (position_or_len p (reverse xs)) (length xs)) (length xs + cond (p x) 0 1)
+    (position_or_len p (reverse xs))
 last_run p xs x =
     ap (λ ys. position_or_len p ys) (reverse_onto xs x []) ∙ position_or_len_push p (reverse xs) x
     ∙ ap (λ (n : ℕ). cond (eqb (position_or_len p (reverse xs)) n) (n + cond (p x) 0 1) (position_or_len p (reverse xs))) (length-reverse xs)
@@ -57,14 +62,17 @@ pub record NonePasses {X : Type 0} (p : X → Bool) (xs : List X) : Type 0 where
 pub record OnePasses {X : Type 0} (p : X → Bool) (xs : List X) : Type 0 where
   pub run : position_or_len p (reverse xs) < length xs
 
+-- of no elements none passes
 pub none_of_none : {X : Type 0} (p : X → Bool) → NonePasses p []
 none_of_none p = record { run = refl }
 
+-- if none passes, none passes of one more in front that doesn't
 pub none_more : {X : Type 0} (p : X → Bool) (x : X) (xs : List X) → NonePasses p xs → p x ≡ false → NonePasses p (x ∷ xs)
 none_more p x xs h e =
     let all : eqb (position_or_len p (reverse xs)) (length xs) ≡ true = eq-eqb _ _ h.run in
     record { run = last_run p xs x ∙ rw (all, e) (omega arith) }
 
+-- if only the element in front passes, one passes
 pub one_here : {X : Type 0} (p : X → Bool) (x : X) (xs : List X) → NonePasses p xs → p x ≡ true → OnePasses p (x ∷ xs)
 one_here p x xs h e =
     let all : eqb (position_or_len p (reverse xs)) (length xs) ≡ true = eq-eqb _ _ h.run in
@@ -76,6 +84,7 @@ run_stays p x xs h =
     let some : eqb (position_or_len p (reverse xs)) (length xs) ≡ false = ne_eqb _ _ (λ e. omega (arith, h.run)) in
     last_run p xs x ∙ rw some refl
 
+-- if one passes, one passes with an element more in front
 pub one_more : {X : Type 0} (p : X → Bool) (x : X) (xs : List X) → OnePasses p xs → OnePasses p (x ∷ xs)
 one_more p x xs h = record { run = omega (arith, run_stays p x xs h, h.run) }
 
@@ -85,6 +94,7 @@ after_none p xs h =
     let all : length xs - position_or_len p (reverse xs) ≡ 0 = omega (arith, h.run) in
     ap (λ (n : ℕ). drop n xs) all
 
+-- if only the element in front passes, the rest stands after the last one that passes
 pub after_here : {X : Type 0} (p : X → Bool) (x : X) (xs : List X) → NonePasses p xs → p x ≡ true → after_last p (x ∷ xs) ≡ xs
 after_here p x xs h e =
     let all : eqb (position_or_len p (reverse xs)) (length xs) ≡ true = eq-eqb _ _ h.run in
@@ -92,10 +102,13 @@ after_here p x xs h e =
     let one : suc (length xs) - position_or_len p (reverse (x ∷ xs)) ≡ suc 0 = omega arith in
     ap (λ (n : ℕ). drop n (x ∷ xs)) one
 
+-- if a later element passes, one more in front changes nothing after the last one that passes
 pub after_more : {X : Type 0} (p : X → Bool) (x : X) (xs : List X) → OnePasses p xs → after_last p (x ∷ xs) ≡ after_last p xs
 after_more p x xs h =
-    let count : suc (length xs) - position_or_len p (reverse (x ∷ xs)) ≡ suc (length xs - position_or_len p (reverse xs)) = omega (arith, run_stays p x xs h, h.run) in
+    let count : suc (length xs) - position_or_len p (reverse (x ∷ xs)) ≡ suc (length xs - position_or_len p (reverse xs)) =
+    omega (arith, run_stays p x xs h, h.run) in
     ap (λ (n : ℕ). drop n (x ∷ xs)) count
 
+-- no more elements stand after the last one that passes than the list has
 pub after_short : {X : Type 0} (p : X → Bool) (xs : List X) → length (after_last p xs) ≤ length xs
 after_short p xs = rw (length-drop (length xs - position_or_len p (reverse xs)) xs) (omega arith)

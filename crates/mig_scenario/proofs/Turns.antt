@@ -60,6 +60,7 @@ late_without i (EmptyLine ∷ ls) = late_without (i + 1) ls ∙ late_shifted i E
 late_without i (BlockLine pages id ∷ ls) = late_without (i + 1) ls ∙ late_shifted i (BlockLine pages id) ls refl
 late_without i (StepLine step ∷ ls) = late_with (i + 1) ls ∙ late_step i (StepLine step) ls refl refl
 
+-- going line by line finds the first block after the first step
 pub late_is : (ls : List ScenarioLine) → late_from false 0 ls ≡ late_block ls
 late_is ls = late_without 0 ls ∙ all_of (late_block ls)
 
@@ -90,22 +91,26 @@ first_stays None n o = refl
 first_stays (Some m) n o = refl
 
 -- one line before lines that have no round
-none_next : (first : Option ℕ) (i : ℕ) (ls : List ScenarioLine) (o : Option ℕ) (b : Bool) → option_map (λ j. i + 1 + suc j) o ≡ option_map (λ j. i + suc j) (option_map suc o)
+none_next : (first : Option ℕ) (i : ℕ) (ls : List ScenarioLine) (o : Option ℕ) (b : Bool)
+    → option_map (λ j. i + 1 + suc j) o ≡ option_map (λ j. i + suc j) (option_map suc o)
     → option_or (cond b (option_or first (Some (i + 1))) first) (option_map (λ j. i + 1 + suc j) o)
     ≡ option_or first (option_map (λ j. i + suc j) (cond b (Some 0) (option_map suc o)))
 none_next first i ls o true e = first_stays first (i + 1) (option_map (λ j. i + 1 + suc j) o) ∙ ap (λ (n : ℕ). option_or first (Some n)) (omega arith)
 none_next first i ls o false e = ap (λ (q : Option ℕ). option_or first q) e
 
-unsent_none : (first : Option ℕ) (i : ℕ) (l : ScenarioLine) (ls : List ScenarioLine) → is_round l ≡ false → WithoutRound (next_unsent first i l) (i + 1) ls → WithoutRound first i (l ∷ ls)
+unsent_none : (first : Option ℕ) (i : ℕ) (l : ScenarioLine) (ls : List ScenarioLine) → is_round l ≡ false
+    → WithoutRound (next_unsent first i l) (i + 1) ls → WithoutRound first i (l ∷ ls)
 unsent_none first i l ls e h =
     let next : next_unsent first i l ≡ cond (is_step l) (option_or first (Some (i + 1))) first = rw e refl in (
       none_more is_round l ls h.0 e,
       h.1 ∙ ap (λ (q : Option ℕ). option_or q (option_map (λ j. i + 1 + suc j) (position is_step ls))) next
-          ∙ none_next first i ls (position is_step ls) (is_step l) (sym (shifted (λ j. i + suc j) (λ j. i + 1 + suc j) (position is_step ls) (λ j. omega arith)))
+          ∙ none_next first i ls (position is_step ls) (is_step l)
+          (sym (shifted (λ j. i + suc j) (λ j. i + 1 + suc j) (position is_step ls) (λ j. omega arith)))
           ∙ ap (λ (q : Option ℕ). option_or first (option_map (λ j. i + suc j) q)) (sym (position-cons is_step l ls)),
     )
 
-unsent_here : (first : Option ℕ) (i : ℕ) (l : ScenarioLine) (ls : List ScenarioLine) → is_round l ≡ true → WithoutRound (next_unsent first i l) (i + 1) ls → WithRound first i (l ∷ ls)
+unsent_here : (first : Option ℕ) (i : ℕ) (l : ScenarioLine) (ls : List ScenarioLine) → is_round l ≡ true
+    → WithoutRound (next_unsent first i l) (i + 1) ls → WithRound first i (l ∷ ls)
 unsent_here first i l ls e h =
     let next : next_unsent first i l ≡ None = rw e refl in (
       one_here is_round l ls h.0 e,
@@ -120,7 +125,8 @@ unsent_more first i l ls h =
     let short : length rest ≤ length ls = after_short is_round ls in (
       one_more is_round l ls h.0,
       h.1 ∙ unsent_all (i + 1) ls rest refl (length ls - length rest) refl
-          ∙ mapped_same (λ j. i + 1 + (length ls - length rest + suc j)) (λ j. i + (suc (length ls) - length rest + suc j)) (position is_step rest) (λ j. omega arith)
+          ∙ mapped_same (λ j. i + 1 + (length ls - length rest + suc j)) (λ j. i + (suc (length ls) - length rest + suc j))
+          (position is_step rest) (λ j. omega arith)
           ∙ sym (unsent_all i (l ∷ ls) rest (after_more is_round l ls h.0) (suc (length ls) - length rest) refl),
     )
 
@@ -138,6 +144,7 @@ unsent_cases first i (l ∷ ls) = elim (unsent_cases (next_unsent first i l) (i 
   ]
 ]
 
+-- going line by line finds the first step after the last round, or the first if there is no round
 pub unsent_is : (ls : List ScenarioLine) → unsent_from None 0 ls ≡ unsent ls
 unsent_is ls = elim (unsent_cases None 0 ls) [
   | inl h ↦

@@ -39,11 +39,20 @@ same_packet a b batch number tables agree =
     (All-from_get_or (λ p. page_in a p ≡ page_in b p) (batch_places batch) (place_at batch.block 0) (λ i lt.
     ap (λ (l : List ℕ). record { place = get_or (batch_places batch) i (place_at batch.block 0); content = l })
     (All-get_or (λ p. content_at a p ≡ content_at b p) (batch_places batch) i (place_at batch.block 0) lt agree))) in
-    ap (λ (t : RamTable). record { page_size = t.page_size; number = number; bytes = packet_of t.page_size number (block t.blocks batch.block).id (round_of a (batch_places batch)) }) tables
-    ∙ ap (λ (r : List Page). record { page_size = b.table.page_size; number = number; bytes = packet_of b.table.page_size number (block b.table.blocks batch.block).id r }) rounds
+    ap (λ (t : RamTable). record {
+      page_size = t.page_size;
+      number = number;
+      bytes = packet_of t.page_size number (block t.blocks batch.block).id (round_of a (batch_places batch));
+    }) tables
+    ∙ ap (λ (r : List Page). record {
+      page_size = b.table.page_size;
+      number = number;
+      bytes = packet_of b.table.page_size number (block b.table.blocks batch.block).id r;
+    }) rounds
 
 -- an image with a memory's pages agrees with it at each place of the batch
-pub pages_agree : (image memory : Image) (batch : BatchOfPages) → HasPagesOf image batch memory → All (λ p. content_at memory p ≡ content_at image p) (batch_places batch)
+pub pages_agree : (image memory : Image) (batch : BatchOfPages) → HasPagesOf image batch memory
+    → All (λ p. content_at memory p ≡ content_at image p) (batch_places batch)
 pages_agree image memory batch has =
     All-from_get_or (λ p. content_at memory p ≡ content_at image p) (batch_places batch) (place_at batch.block 0) (λ i lt.
     let within : i < length batch.pages = omega (arith, lt, length-map batch.pages (place_at batch.block)) in
@@ -111,6 +120,7 @@ claims_none image terms memories (Ending spent last) in_hand has pages = subst (
 claims_none image terms memories (Ended spent) in_hand has pages = subst (HasPagesPacked image terms memories) has pages
 claims_none image terms memories Moving in_hand has pages = tt
 
+-- a worker that claims a number keeps what it has packed, of each image that has the packed pages
 pub claims_each : (memories : ℕ → Image) (terms : RoundTerms) (before whole : List ℕ) (old in_hand : Hand) → HasClaimed terms.deal old in_hand
     → ((image : Image) → image.table ≡ terms.table → HasPagesPacked image terms memories old → HasPackedTo image terms before whole old)
     → (image : Image) → image.table ≡ terms.table → HasPagesPacked image terms memories in_hand → HasPackedTo image terms before whole in_hand
@@ -160,7 +170,8 @@ earlier_pages image memory terms memories (Ended spent) work pages = pages
 earlier_pages image memory terms memories Moving work pages = tt
 
 -- they are all if it is refused
-kept_pages : (image memory : Image) (terms : RoundTerms) (memories : ℕ → Image) (in_hand : Hand) → HasPagesPacked image terms (with_memory in_hand memory memories) in_hand
+kept_pages : (image memory : Image) (terms : RoundTerms) (memories : ℕ → Image) (in_hand : Hand)
+    → HasPagesPacked image terms (with_memory in_hand memory memories) in_hand
     → HasPagesPacked image terms memories in_hand
 kept_pages image memory terms memories (Drawing seat) pages = pages
 kept_pages image memory terms memories (Claimed seat number) pages = stay_below image memory terms memories seat number number (omega arith) pages
@@ -188,7 +199,8 @@ read_pages image memory terms memories before whole (Ended spent) same packed pa
 read_pages image memory terms memories before whole Moving same packed pages = record { same_table = same; has_pages = tt }
 
 -- the packets so far, after a step
-stepped_each : (image memory : Image) (terms : RoundTerms) (memories : ℕ → Image) (made : Result (Unit {0}) NoMemory) (old new : Hand) (old_text new_text before drained : List ℕ)
+stepped_each : (image memory : Image) (terms : RoundTerms) (memories : ℕ → Image) (made : Result (Unit {0}) NoMemory)
+    (old new : Hand) (old_text new_text before drained : List ℕ)
     → image.table ≡ terms.table → memory.table ≡ terms.table → IsHand terms.deal old → (step : IsStep memory terms made old new old_text new_text)
     → (HasPagesPacked image terms memories old → HasPackedTo image terms before (drained ++ old_text) old)
     → HasPagesPacked image terms (with_memory step.in_hand memory memories) new → HasPackedTo image terms before (drained ++ new_text) new
@@ -196,10 +208,13 @@ stepped_each image memory terms memories (Ok u) old new old_text new_text before
     let now = subst (HasPagesPacked image terms (with_memory step.in_hand memory memories)) step.writes.0 pages in
     let earlier = earlier_pages image memory terms memories step.in_hand (claims_work terms old step.in_hand is step.has_claimed) now in
     let packed = each (claims_none image terms memories old step.in_hand step.has_claimed earlier) in
-    let read = read_pages image memory terms memories before (drained ++ old_text) step.in_hand same (claimed_packed image terms before (drained ++ old_text) old step.in_hand step.has_claimed packed) now in
-    step_packed image terms (Ok u) old new old_text new_text before drained (step_of image memory terms (Ok u) old new old_text new_text of_table step read) packed
+    let read = read_pages image memory terms memories before (drained ++ old_text) step.in_hand same
+    (claimed_packed image terms before (drained ++ old_text) old step.in_hand step.has_claimed packed) now in
+    step_packed image terms (Ok u) old new old_text new_text before drained
+    (step_of image memory terms (Ok u) old new old_text new_text of_table step read) packed
 stepped_each image memory terms memories (Err e) old new old_text new_text before drained same of_table is step each pages =
-    let earlier = kept_pages image memory terms memories step.in_hand (subst (HasPagesPacked image terms (with_memory step.in_hand memory memories)) step.keeps.1 pages) in
+    let earlier = kept_pages image memory terms memories step.in_hand
+    (subst (HasPagesPacked image terms (with_memory step.in_hand memory memories)) step.keeps.1 pages) in
     let packed = each (claims_none image terms memories old step.in_hand step.has_claimed earlier) in
     step_packed image terms (Err e) old new old_text new_text before drained
     (record { in_hand = step.in_hand; has_claimed = step.has_claimed; writes = tt; keeps = step.keeps }) packed
@@ -216,11 +231,13 @@ step_writes memory (Ok u) old new of_table step = (
 )
 step_writes memory (Err e) old new of_table step = tt
 
-step_keeps : (memory : Image) (made : Result (Unit {0}) NoMemory) (old new : ChannelWork) → (step : IsStep memory old.terms made old.hand new.hand old.text new.text)
+step_keeps : (memory : Image) (made : Result (Unit {0}) NoMemory) (old new : ChannelWork)
+    → (step : IsStep memory old.terms made old.hand new.hand old.text new.text)
     → OnErr made ((new.hand ≡ step.in_hand) × (new.text ≡ old.text))
 step_keeps memory (Ok u) old new step = tt
 step_keeps memory (Err e) old new step = (step.keeps.1, step.keeps.2)
 
+-- a step from a memory of the round's table packs that memory's pages of the claimed batch alone
 pub packs_pages : (memory : Image) (made : Result (Unit {0}) NoMemory) (old new : ChannelWork) → memory.table ≡ old.terms.table → IsHand old.terms.deal old.hand
     → HasStepped memory made old new → PacksPages memory made old new
 packs_pages memory made old new of_table is stepped =
@@ -238,5 +255,6 @@ packs_pages memory made old new of_table is stepped =
       packed_each = λ memories before drained each.
           subst (λ (t : RoundTerms). (image : Image) → image.table ≡ t.table → HasPagesPacked image t (with_memory step.in_hand memory memories) new.hand
           → HasPackedTo image t before (drained ++ new.text) new.hand) terms
-          (λ image same pages. stepped_each image memory old.terms memories made old.hand new.hand old.text new.text before drained same of_table is step (each image same) pages);
+          (λ image same pages. stepped_each image memory old.terms memories made old.hand new.hand old.text new.text before
+          drained same of_table is step (each image same) pages);
     }

@@ -22,7 +22,8 @@ abbrev rank : List Block → Place → ℕ
 rank blocks p = sum_by pages_of (take p.block blocks) + p.page
 
 -- the blocks before a later one have at least the pages up to the end of this one
-before_more : (blocks : List Block) (i j : ℕ) → i < j → i < length blocks → sum_by pages_of (take i blocks) + (block blocks i).pages ≤ sum_by pages_of (take j blocks)
+before_more : (blocks : List Block) (i j : ℕ) → i < j → i < length blocks
+    → sum_by pages_of (take i blocks) + (block blocks i).pages ≤ sum_by pages_of (take j blocks)
 before_more [] i j lt within = absurd (omega (arith, within))
 before_more (b ∷ blocks) i zero lt within = absurd (omega (arith, lt))
 before_more (b ∷ blocks) zero (suc j) lt within =
@@ -67,6 +68,7 @@ few_pages : (total page_size : ℕ) → (page_size ≡ 4096) ⊎ (page_size ≡ 
 few_pages total page_size (inl e) room = let room' : total * 4096 ≤ 2 ^ 40 = subst (λ (n : ℕ). total * n ≤ 2 ^ 40) e room in omega (arith, room')
 few_pages total page_size (inr e) room = let room' : total * 8192 ≤ 2 ^ 40 = subst (λ (n : ℕ). total * n ≤ 2 ^ 40) e room in omega (arith, room')
 
+-- batches of at least one page each are no more than their places
 pub batches_few : (batches : List BatchOfPages) (limit : ℕ) → All (λ batch. (0 < length batch.pages) × (length batch.pages ≤ limit)) batches
     → length batches ≤ length (flat_map batch_places batches)
 batches_few [] limit sizes = omega arith

@@ -1,6 +1,6 @@
 -- Batches, one after another.
 use Rattle.std.proofs.Common.{ℕ, ◌≡◌, ◌<◌, ◌≤◌, List, [], ◌∷◌, ◌++◌, length, map, get_or, refl, sym, ap}
-use Rattle.std.proofs.Common.{◌∙◌, inl, inr, arith, suc, subst, Option, Some, None, true, false}
+use Rattle.std.proofs.Common.{◌∙◌, inl, inr, arith, subst, Option, Some, None, true, false}
 use Rattle.std.specs.Prelude.{◌≢◌, ◌⊎◌, IsTrue, nat_lt}
 use Rattle.std.specs.List.{filter, flat_map, All, AllPairs}
 use Rattle.std.proofs.lemmas.Bool.{ltb-true, lt-ltb}
@@ -16,6 +16,7 @@ use Rattle.mig_mem.specs.Place.{place_at, place_lt, has_place, IsPlace, IsAscend
 use Rattle.mig_mem.specs.PlaceSet.{PlaceSet, IsPlaceSet}
 use Rattle.mig_mem.proofs.Members.{InOrder, order_from_AllPairs, AllPairs-from_order, All-any}
 use Rattle.mig_mem.proofs.PlaceOrder.{place_lt-true, place_lt-false}
+use Rattle.mig_mem.proofs.Lists.{pairs_tail}
 use Rattle.mig_packet.specs.PageSize.{page_limit}
 use Rattle.mig_send.specs.Batches.{BatchOfPages, batch_places, IsBatch, IsCut, IsFirstBatch, IsInSet, places_from, HasOneCut}
 use Rattle.mig_send.proofs.PlacesFrom.{behind, is_from, from_place, none_before}
@@ -39,6 +40,7 @@ pub record IsCutUpTo (limit : ℕ) (places left : List Place) (batches : List Ba
   pub are_full : AllPairs (IsFullBefore limit) batches
   pub may_follow : All (MayFollow limit left) batches
 
+-- before the first batch all places are left
 pub cut_none : (limit : ℕ) (places : List Place) → IsCutUpTo limit places places []
 cut_none limit places = record {
   has_all = refl;
@@ -47,6 +49,7 @@ cut_none limit places = record {
   may_follow = All-nil (MayFollow limit places);
 }
 
+-- if no place is left, the batches so far are the batches of the places
 pub cut_all : (limit : ℕ) (places : List Place) (batches : List BatchOfPages) → IsCutUpTo limit places [] batches → IsCut limit places batches
 cut_all limit places batches cut =
     record { has_all = sym (cut.has_all ∙ append-nil (flat_map batch_places batches)); has_sizes = cut.has_sizes; are_full = cut.are_full }
@@ -63,6 +66,7 @@ full_before limit a block [] behind some follow same = absurd (omega arith)
 full_before limit a block (page ∷ pages) behind some follow same =
     All-head (λ p. p.block ≡ a.block → length a.pages ≡ limit) (place_at block page) (map (place_at block) pages ++ behind) follow (sym same)
 
+-- with the first batch of the places left added, the places after it are left
 pub cut_more : (limit : ℕ) (places left behind : List Place) (batches : List BatchOfPages) (b : BatchOfPages) → IsCutUpTo limit places left batches
     → IsFirstBatch limit left b behind
     → IsCutUpTo limit places behind (batches ++ b ∷ [])
@@ -120,6 +124,8 @@ full_where_it_ends limit marked first p pages order has all (inl other) =
     (λ q ge e. absurd (elim (place_lt-false q p ge) [ inl less ↦ omega arith | inr at ↦ let same : q.block ≡ p.block = at.0 in omega arith ]))
     (filter (is_from p) marked) (none_before p marked)
 
+-- at most `limit` pages of one block, from a place on, are its first batch, if they are full or
+-- the next place is of another block
 pub batch_ends : (limit : ℕ) (marked : List Place) (first : Place) (pages : List ℕ) (next : Option Place) → IsAscending marked → 0 < limit
     → places_from marked (Some first) ≡ map (place_at first.block) pages ++ places_from marked next → IsInSet marked next → length pages ≤ limit
     → (length pages ≡ 0 → next ≡ Some first) → MayEnd limit first pages next
@@ -188,9 +194,6 @@ not_empty limit b places size e =
 same_batch : (a b : BatchOfPages) → a.block ≡ b.block → a.pages ≡ b.pages → a ≡ b
 same_batch a b e f = ap (λ (n : ℕ). record { block = n; pages = a.pages }) e ∙ ap (λ (l : List ℕ). record { block = b.block; pages = l }) f
 
-pairs_tail : {X : Type 0} (R : X → X → Type 0) (x : X) (xs : List X) → AllPairs R (x ∷ xs) → AllPairs R xs
-pairs_tail R x xs h i j d before within = h (suc i) (suc j) d (omega arith) (omega arith)
-
 one_cut : (limit : ℕ) (some others : List BatchOfPages) → All (HasSize limit) some → All (HasSize limit) others → AllPairs (IsFullBefore limit) some
     → AllPairs (IsFullBefore limit) others
     → flat_map batch_places some ≡ flat_map batch_places others → some ≡ others
@@ -216,6 +219,7 @@ one_cut limit (a ∷ xs) (b ∷ ys) s t f g e =
           full_here limit b ys page more (All-tail (HasSize limit) b ys t) g (is ∙ ap (λ (n : ℕ). place_at n page ∷ more) block) in omega arith)
     ]
 
+-- two lists of batches of the same places, with the same limit, are equal
 pub has_one_cut : HasOneCut
 has_one_cut limit places some others cut other =
     one_cut limit some others cut.has_sizes other.has_sizes cut.are_full other.are_full (cut.has_all ∙ sym other.has_all)

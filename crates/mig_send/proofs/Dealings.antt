@@ -138,7 +138,9 @@ record Told {A : Type 0} (deal : DealView) (image : Image) (batches : List Batch
   have_shares : AllZip (HasShare (new_seat deal)) (map (λ (worked : Worked A). worked.spent) answers) shares
   are_sent : AllZip (IsSent deal.base image batches) shares answers
 
-pub is_sent : {A : Type 0} (deal : DealView) (image : Image) (batches : List BatchOfPages) (worked : Worked A) (h : HasWorked image batches (new_seat deal) worked)
+-- the packets that a worker returned give the bytes sent of its share
+pub is_sent : {A : Type 0} (deal : DealView) (image : Image) (batches : List BatchOfPages) (worked : Worked A) (h : HasWorked
+    image batches (new_seat deal) worked)
     → IsSent deal.base image batches h.share worked
 is_sent deal image batches worked h = IfOk-weaker worked.packets (λ packets. packets.items ≡ map (claimed_packet deal.base image batches) h.share.numbers)
     (λ packets. answer_text image.table.page_size packets.items worked.last ≡ share_text deal.base image batches h.share)
@@ -162,6 +164,7 @@ told deal image batches (worked ∷ answers) all =
       are_sent = (is_sent deal image batches worked h, rest.are_sent);
     }
 
+-- workers that all returned packets make a dealing, if they drew each number of the deal once
 pub workers_make_a_dealing : {A : Type 0} → WorkersMakeADealing A
 workers_make_a_dealing {A} deal image batches answers worked good many seats once =
     let t = told deal image batches answers worked in

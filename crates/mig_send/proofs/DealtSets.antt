@@ -14,11 +14,13 @@ use Rattle.mig_send.specs.Finding.{IsRoundWork, cut_of}
 use Rattle.mig_send.proofs.Cutting.{batches_fit}
 
 -- its deal numbers them
-pub dealt_claims : (dirty : PlaceSet) (limit : ℕ) (deal : DealView) → IsPlaceSet dirty → limit ≤ page_limit dirty.table.page_size → IsCut limit dirty.marked (cut_of limit dirty.marked)
+pub dealt_claims : (dirty : PlaceSet) (limit : ℕ) (deal : DealView) → IsPlaceSet dirty → limit ≤ page_limit dirty.table.page_size
+    → IsCut limit dirty.marked (cut_of limit dirty.marked)
     → deal.batches ≡ length (cut_of limit dirty.marked) → ClaimsBatches deal dirty.table (cut_of limit dirty.marked)
 dealt_claims dirty limit deal is fits cut many =
     record { are_batches = batches_fit dirty limit (cut_of limit dirty.marked) is fits cut; as_many = sym many }
 
+-- a deal with one number for each batch of a dirty set claims the work of its round
 pub round_work : (dirty : PlaceSet) (limit : ℕ) (deal : DealView) → IsPlaceSet dirty → 0 < limit → limit ≤ page_limit dirty.table.page_size
     → IsCut limit dirty.marked (cut_of limit dirty.marked) → deal.batches ≡ length (cut_of limit dirty.marked)
     → IsRoundWork dirty limit (record { deal = deal; table = dirty.table; batches = cut_of limit dirty.marked })

@@ -42,6 +42,7 @@ pub all_front : {X : Type 0} (P : X → Type 0) (xs : List X) (x : X) → All P 
 all_front P [] x all = λ i d lt. absurd (omega (arith, lt))
 all_front P (y ∷ xs) x all = All-cons P y xs (all 0 y (omega arith)) (all_front P xs x (λ i d lt. all (suc i) d (omega (arith, lt))))
 
+-- what holds of all members of a list holds of its last one
 pub all_end : {X : Type 0} (P : X → Type 0) (xs : List X) (x : X) → All P (xs ++ x ∷ []) → P x
 all_end P [] x all = all 0 x (omega arith)
 all_end P (y ∷ xs) x all = all_end P xs x (λ i d lt. all (suc i) d (omega (arith, lt)))
@@ -53,6 +54,7 @@ taken whole front back x is =
 
 -- ---- the bytes and seats that go into the slots
 
+-- with the last channel left moved to a slot, the slots and the channels left have the same bytes
 pub seated_more : {A : Type 0} (olds : List (List ℕ)) (slots new_slots : List (Slot A)) (channels left : List (Vec ℕ A)) (slot : Slot A) (text : Vec ℕ A)
     → olds ≡ map slot_text slots ++ texts_of (reverse channels) → channels ≡ left ++ text ∷ [] → new_slots ≡ slots ++ slot ∷ [] → slot_text slot ≡ text.items
     → olds ≡ map slot_text new_slots ++ texts_of (reverse left)
@@ -60,20 +62,24 @@ seated_more olds slots new_slots channels left slot text is from to same =
     let front = map slot_text slots in
     is ∙ (ap (λ l. front ++ texts_of l) (ap reverse from ∙ reverse-append left (text ∷ []))
     ∙ (sym (append_assoc front (text.items ∷ []) (texts_of (reverse left)))
-    ∙ ap (λ (l : List (List ℕ)). l ++ texts_of (reverse left)) (ap (λ (t : List ℕ). front ++ t ∷ []) (sym same) ∙ (sym (map_push slot_text slots slot) ∙ ap (map slot_text) (sym to)))))
+    ∙ ap (λ (l : List (List ℕ)). l ++ texts_of (reverse left))
+    (ap (λ (t : List ℕ). front ++ t ∷ []) (sym same) ∙ (sym (map_push slot_text slots slot) ∙ ap (map slot_text) (sym to)))))
 
 -- ---- the bytes and seats that come out of the slots
 
 -- From the slots, but for those that are left, came channels' bytes and seats, with or without
 -- memory.
-pub record HaveReturned {A : Type 0} (slots left : List (Slot A)) (texts : List (Vec ℕ A)) (spents : List SeatView) (made : Result (Unit {0}) NoMemory) : Type 0 where
+pub record HaveReturned {A : Type 0} (slots left : List (Slot A)) (texts : List (Vec ℕ A)) (spents : List SeatView) (made : Result
+    (Unit {0}) NoMemory) : Type 0 where
   pub done : List (Slot A)
   pub is_whole : slots ≡ done ++ reverse left
   pub have_texts : texts_of texts ≡ map slot_text done
   pub have_spents : AllZip HasSpent done spents
   pub had_memory : OnOk made (All HadMemory done)
 
-pub returned_none : {A : Type 0} (slots left : List (Slot A)) (texts : List (Vec ℕ A)) (spents : List SeatView) → slots ≡ reverse left → texts ≡ [] → spents ≡ []
+-- before a worker has returned, all slots are left, without bytes or spent seats
+pub returned_none : {A : Type 0} (slots left : List (Slot A)) (texts : List (Vec ℕ A)) (spents : List SeatView)
+    → slots ≡ reverse left → texts ≡ [] → spents ≡ []
     → HaveReturned slots left texts spents (Ok tt)
 returned_none {A} slots left texts spents whole no_text no_spent = record {
   done = [];
@@ -83,7 +89,9 @@ returned_none {A} slots left texts spents whole no_text no_spent = record {
   had_memory = All-nil (HadMemory {A = A});
 }
 
-pub returned_more : {A : Type 0} (slots left : List (Slot A)) (texts new_texts : List (Vec ℕ A)) (spents new_spents : List SeatView) (made more : Result (Unit {0}) NoMemory)
+-- the last slot left, if its worker is done, adds its bytes and its spent seat to those returned
+pub returned_more : {A : Type 0} (slots left : List (Slot A)) (texts new_texts : List (Vec ℕ A))
+    (spents new_spents : List SeatView) (made more : Result (Unit {0}) NoMemory)
     (slot : Slot A) (written : Written A) → slot ≡ Done written
     → HaveReturned slots (left ++ slot ∷ []) texts spents made → new_texts ≡ texts ++ written.text ∷ [] → new_spents ≡ spents ++ written.spent ∷ []
     → OnOk more (IsOk made × IsOk written.made) → HaveReturned slots left new_texts new_spents more
@@ -103,6 +111,7 @@ returned_more {A} slots left texts new_texts spents new_spents made more slot wr
     memory (Err e) (Ok u) had both = absurd (let wrong = both.0 in cc)
     memory (Ok v) (Ok u) had both = All-push HadMemory so_far.done (Done written) had both.1
 
+-- if no slot is left, bytes and spent seats are those of all slots, and on success all had memory
 pub returned_all : {A : Type 0} (slots left : List (Slot A)) (texts : List (Vec ℕ A)) (spents : List SeatView) (made : Result (Unit {0}) NoMemory)
     → HaveReturned slots left texts spents made → length left ≡ 0
     → (texts_of texts ≡ map slot_text slots) × AllZip HasSpent slots spents × OnOk made (All HadMemory slots)
@@ -117,7 +126,8 @@ returned_all slots (x ∷ left) texts spents made have none = absurd (omega (ari
 -- ---- the dealing that they carry
 
 -- The shares of the workers, and what their channels have of them.
-pub record AreShared {A : Type 0} (deal : DealView) (image : Image) (batches : List BatchOfPages) (before : List (List ℕ)) (slots : List (Slot A)) (spents : List SeatView) : Type 0 where
+pub record AreShared {A : Type 0} (deal : DealView) (image : Image) (batches : List BatchOfPages) (before : List
+    (List ℕ)) (slots : List (Slot A)) (spents : List SeatView) : Type 0 where
   pub shares : List Share
   pub have_shares : AllZip (HasShare (new_seat deal)) spents shares
   pub keep_texts : AllZip IsPrefix before (map slot_text slots)
@@ -128,7 +138,8 @@ on_ok : (made : Result (Unit {0}) NoMemory) (P : Type 0) → IsOk made → OnOk 
 on_ok (Ok u) P is p = p
 on_ok (Err e) P is p = absurd cc
 
-shared_more : {A : Type 0} (deal : DealView) (image : Image) (batches : List BatchOfPages) (text : List ℕ) (before : List (List ℕ)) (written : Written A) (slots : List (Slot A))
+shared_more : {A : Type 0} (deal : DealView) (image : Image) (batches : List BatchOfPages) (text : List ℕ) (before : List
+    (List ℕ)) (written : Written A) (slots : List (Slot A))
     (spent : SeatView) (spents : List SeatView) → HasWritten image batches (new_seat deal) text written → spent ≡ written.spent
     → AreShared deal image batches before slots spents → AreShared deal image batches (text ∷ before) (Done written ∷ slots) (spent ∷ spents)
 shared_more deal image batches text before written slots spent spents has is rest = record {
@@ -139,13 +150,21 @@ shared_more deal image batches text before written slots spent spents has is res
 }
   where
     each : All HadMemory (Done written ∷ slots) → (channel : ℕ) → channel < length (text ∷ before)
-        → get_or (map slot_text (Done written ∷ slots)) channel [] ≡ get_or (text ∷ before) channel [] ++ share_text deal.base image batches (get_or (has.share ∷ rest.shares) channel no_share)
+        → get_or (map slot_text (Done written ∷ slots)) channel [] ≡ get_or
+        (text ∷ before) channel [] ++ share_text deal.base image batches (get_or (has.share ∷ rest.shares) channel no_share)
     each all zero lt = on_ok written.made _ (All-head HadMemory (Done written) slots all) has.has_text
     each all (suc k) lt = rest.have_texts (All-tail HadMemory (Done written) slots all) k (omega (arith, lt))
 
-pub shared : {A : Type 0} (deal : DealView) (image : Image) (batches : List BatchOfPages) (before : List (List ℕ)) (slots : List (Slot A)) (spents : List SeatView)
+-- workers that are done have a share each, and the bytes sent of it if all had memory
+pub shared : {A : Type 0} (deal : DealView) (image : Image) (batches : List BatchOfPages) (before : List (List ℕ)) (slots : List
+    (Slot A)) (spents : List SeatView)
     → AllZip (IsDone deal image batches) before slots → AllZip HasSpent slots spents → AreShared deal image batches before slots spents
-shared deal image batches [] [] [] done spent = record { shares = []; have_shares = tt; keep_texts = tt; have_texts = λ all channel lt. absurd (omega (arith, lt)) }
+shared deal image batches [] [] [] done spent = record {
+  shares = [];
+  have_shares = tt;
+  keep_texts = tt;
+  have_texts = λ all channel lt. absurd (omega (arith, lt));
+}
 shared deal image batches [] (x ∷ slots) spents done spent = absurd done
 shared deal image batches (b ∷ before) [] spents done spent = absurd done
 shared deal image batches [] [] (s ∷ spents) done spent = absurd spent
@@ -156,8 +175,10 @@ shared deal image batches (b ∷ before) (Waiting seat text ∷ slots) (s ∷ sp
 shared deal image batches (b ∷ before) (Running ∷ slots) (s ∷ spents) done spent = absurd done.0
 
 -- if the deal is ended and all had memory, the channels carry a dealing
-pub carried : {A : Type 0} (deal : DealView) (image : Image) (batches : List BatchOfPages) (before after : List (List ℕ)) (slots : List (Slot A)) (spents : List SeatView)
-    (made : Result (Unit {0}) NoMemory) (base next : ℕ) → AreShared deal image batches before slots spents → after ≡ map slot_text slots → OnOk made (All HadMemory slots)
+pub carried : {A : Type 0} (deal : DealView) (image : Image) (batches : List BatchOfPages)
+    (before after : List (List ℕ)) (slots : List (Slot A)) (spents : List SeatView)
+    (made : Result (Unit {0}) NoMemory) (base next : ℕ) → AreShared deal image batches before slots spents
+    → after ≡ map slot_text slots → OnOk made (All HadMemory slots)
     → deal.base ≡ base → deal.batches ≡ length batches → deal.seats ≡ length before → length spents ≡ length before
     → next ≡ end_of_deal deal → HasEachOnce deal.base next (all_drawn spents) → OnOk made (CarryDealing base image batches before after)
 carried deal image batches before after slots spents (Err e) base next are is had is_base as_many seats long end once = tt
@@ -177,17 +198,20 @@ pub same_texts : (texts : List (List ℕ)) → AllZip IsPrefix texts texts
 same_texts [] = tt
 same_texts (t ∷ texts) = (record { rest = []; is_text = sym (append-nil t) }, same_texts texts)
 
+-- if the worker of each slot is done, each slot has a result
 pub all_answers : {A : Type 0} (deal : DealView) (image : Image) (batches : List BatchOfPages) (before : List (List ℕ)) (slots : List (Slot A))
     → AllZip (IsDone deal image batches) before slots → All IsAnswer slots
 all_answers deal image batches [] [] done = All-nil IsAnswer
 all_answers deal image batches [] (x ∷ slots) done = absurd done
 all_answers deal image batches (b ∷ before) [] done = absurd done
-all_answers deal image batches (b ∷ before) (Done written ∷ slots) done = All-cons IsAnswer (Done written) slots tt (all_answers deal image batches before slots done.1)
+all_answers deal image batches (b ∷ before) (Done written ∷ slots) done =
+    All-cons IsAnswer (Done written) slots tt (all_answers deal image batches before slots done.1)
 all_answers deal image batches (b ∷ before) (Waiting seat text ∷ slots) done = absurd done.0
 all_answers deal image batches (b ∷ before) (Running ∷ slots) done = absurd done.0
 
 -- the seats are all the deal's
-pub own_spents : (deal : DealView) (spents : List SeatView) (shares : List Share) → AllZip (HasShare (new_seat deal)) spents shares → All (λ (spent : SeatView). spent.deal ≡ deal) spents
+pub own_spents : (deal : DealView) (spents : List SeatView) (shares : List Share)
+    → AllZip (HasShare (new_seat deal)) spents shares → All (λ (spent : SeatView). spent.deal ≡ deal) spents
 own_spents deal [] [] zip = λ i d lt. absurd (omega (arith, lt))
 own_spents deal [] (x ∷ shares) zip = absurd zip
 own_spents deal (s ∷ spents) [] zip = absurd zip

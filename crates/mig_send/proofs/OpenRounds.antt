@@ -30,7 +30,9 @@ use Rattle.mig_send.proofs.SentImages.{sent_image, sent_table, sent_is_image, se
 
 -- ---- begun
 
-pub begun_open : (dirty : PlaceSet) (sender : MultiSending) (terms : RoundTerms) (seats spents : List SeatView) → IsPlaceSet dirty → dirty.table ≡ sender.main.table
+-- a dirty set dealt out to a sender of its table, with no worker given back, is an open round
+pub begun_open : (dirty : PlaceSet) (sender : MultiSending) (terms : RoundTerms) (seats spents : List SeatView) → IsPlaceSet dirty
+    → dirty.table ≡ sender.main.table
     → IsDealtOut dirty sender terms seats → spents ≡ [] → IsOpenMulti record { sender = sender; terms = terms; seats = seats; spents = spents }
 begun_open dirty sender terms seats spents set same dealt none =
     let is = dealt.is_dealt in
@@ -52,6 +54,7 @@ begun_open dirty sender terms seats spents set same dealt none =
       are_few = omega (arith, long, ap length none);
     }
 
+-- before a worker is given back, a round is that of any image, with any bytes drained
 pub begun : (image : Image) (drained : ℕ → List ℕ) (old : MultiSending) (terms : RoundTerms) (seats spents : List SeatView) → spents ≡ []
     → IsRoundSoFar image drained old record { sender = old; terms = terms; seats = seats; spents = spents }
 begun image drained old terms seats [] none = record {
@@ -64,6 +67,7 @@ begun image drained old terms seats [] none = record {
 }
 begun image drained old terms seats (s ∷ spents) none = absurd (omega (arith, ap length none))
 
+-- a dirty set dealt out to a sender of its table, with no worker given back, is a round begun
 pub has_begun : (dirty : PlaceSet) (sender : MultiSending) (terms : RoundTerms) (seats spents : List SeatView) → dirty.table ≡ sender.main.table
     → IsDealtOut dirty sender terms seats → spents ≡ [] → HasBegun dirty sender record { sender = sender; terms = terms; seats = seats; spents = spents }
 has_begun dirty sender terms seats spents same dealt none = record {
@@ -131,12 +135,14 @@ new_packed image first old seats seat at text is next last has_text same waiting
     let fewer : length old.seats ≡ length seats + 1 = ap length last ∙ length-append seats (seat ∷ []) in
     record {
       numbers = [];
-      has_drawn = all_end (λ (s : SeatView). s ≡ new_seat old.terms.deal) seats seat (subst (All (λ (s : SeatView). s ≡ new_seat old.terms.deal)) last is.are_new);
+      has_drawn = all_end (λ (s : SeatView). s ≡ new_seat old.terms.deal) seats seat
+          (subst (All (λ (s : SeatView). s ≡ new_seat old.terms.deal)) last is.are_new);
       claim_batches = λ i d lt. absurd (omega (arith, lt));
       rise = λ i j d before within. absurd (omega (arith, within));
       has_text = has_text ∙ waiting at (omega (arith, next)) (omega (arith, next, fewer, is.are_few, same)) ∙ sym (append-nil (get_or first.channels at []));
     }
 
+-- a worker with the last seat left and the next channel's bytes is the next one given out
 pub hands_out : (old : OpenMulti) (sender : MultiSending) (seats : List SeatView) (seat : SeatView) (at : ℕ) (text : List ℕ) → IsOpenMulti old
     → at ≡ handed_out old → old.seats ≡ seats ++ seat ∷ []
     → sender ≡ record old.sender { channels = slice_set old.sender.channels at [] } → text ≡ get_or old.sender.channels at []
@@ -165,6 +171,7 @@ hands_out old sender seats seat at text is next last same has_text =
 
 -- ---- a worker given back
 
+-- a round stays open if a worker of its deal is given back, and fewer came back than went out
 pub back_open : (old : OpenMulti) (sender : MultiSending) (spents : List SeatView) (spent : SeatView) (at : ℕ) (text : List ℕ) → IsOpenMulti old
     → length old.spents < handed_out old → spent.deal ≡ old.terms.deal
     → sender ≡ record old.sender { channels = slice_set old.sender.channels at text } → spents ≡ old.spents ++ spent ∷ []
@@ -197,10 +204,17 @@ back_waiting sender old spents at text is turn few waiting = λ channel from lt.
     get_or-set_other channels at channel text [] (λ same. absurd (omega (arith, from, turn, few, same, long)))
     ∙ waiting channel (omega (arith, from, long)) lt
 
+-- a round of an image goes on as such if the next worker comes back with its share of it packed
 pub back : (image : Image) (drained : ℕ → List ℕ) (sender : MultiSending) (old : OpenMulti) (spent : SeatView) (at : ℕ) (text : List ℕ) → IsOpenMulti old
     → at ≡ length old.spents → length old.spents < handed_out old
     → IsRoundSoFar image drained sender old → HasPackedShare image old.terms spent (get_or sender.channels at []) (drained at ++ text)
-    → IsRoundSoFar image drained sender record old { sender = record old.sender { channels = slice_set old.sender.channels at text }; spents = old.spents ++ spent ∷ [] }
+    → IsRoundSoFar image drained sender record old {
+      sender = record old.sender {
+        channels =
+            slice_set old.sender.channels at text;
+      };
+      spents = old.spents ++ spent ∷ [];
+    }
 back image drained sender old spent at text is turn few come packed =
     let channels = old.sender.channels in
     let long = length-set channels at text in
@@ -214,7 +228,8 @@ back image drained sender old spent at text is turn few come packed =
       shares = shares;
       have_shares = zip_push (HasShare (new_seat old.terms.deal)) old.spents come.shares spent packed.share come.have_shares packed.has_share;
       have_texts = λ channel lt. elim (cases_lt channel (length old.spents)) as
-          (λ _. drained channel ++ get_or (slice_set channels at text) channel [] ≡ get_or sender.channels channel [] ++ share_bytes (get_or shares channel no_share)) [
+          (λ _. drained channel ++ get_or (slice_set channels at text) channel [] ≡ get_or sender.channels channel []
+          ++ share_bytes (get_or shares channel no_share)) [
             | inl below ↦
                 ap (λ (l : List ℕ). drained channel ++ l) (get_or-set_other channels at channel text [] (λ same. absurd (omega (arith, below, turn, same))))
                 ∙ come.have_texts channel below
@@ -234,7 +249,8 @@ back image drained sender old spent at text is turn few come packed =
     }
 
 -- an image that has the pages of all channels has those of the earlier ones, and of this one
-earlier_sent : (memories : ℕ → ℕ → Image) (own : ℕ → Image) (old : OpenMulti) (sender : MultiSending) (spent : SeatView) (at : ℕ) (image : Image) → at ≡ length old.spents
+earlier_sent : (memories : ℕ → ℕ → Image) (own : ℕ
+    → Image) (old : OpenMulti) (sender : MultiSending) (spent : SeatView) (at : ℕ) (image : Image) → at ≡ length old.spents
     → HasPagesSent (with_memories memories at own) (record old { sender = sender; spents = old.spents ++ spent ∷ [] }) image
     → HasPagesSent memories old image × HasPagesBelow (end_of_work old.terms.deal) image old.terms spent own
 earlier_sent memories own old sender spent at image turn pages =
@@ -257,11 +273,13 @@ earlier_sent memories own old sender spent at image turn pages =
       | inr other ↦ other
     ]
 
-back_each : (memories : ℕ → ℕ → Image) (own : ℕ → Image) (drained : ℕ → List ℕ) (sender : MultiSending) (old : OpenMulti) (spent : SeatView) (at : ℕ) (text : List ℕ) → IsOpenMulti old
+back_each : (memories : ℕ → ℕ → Image) (own : ℕ → Image) (drained : ℕ
+    → List ℕ) (sender : MultiSending) (old : OpenMulti) (spent : SeatView) (at : ℕ) (text : List ℕ) → IsOpenMulti old
     → at ≡ length old.spents → length old.spents < handed_out old → IsRoundOfEach memories drained sender old
     → ((image : Image) → image.table ≡ old.terms.table → HasPagesBelow (end_of_work old.terms.deal) image old.terms spent own
     → HasPackedShare image old.terms spent (get_or sender.channels at []) (drained at ++ text))
-    → IsRoundOfEach (with_memories memories at own) drained sender record old { sender = record old.sender { channels = slice_set old.sender.channels at text }; spents = old.spents ++ spent ∷ [] }
+    → IsRoundOfEach (with_memories memories at own) drained
+    sender record old { sender = record old.sender { channels = slice_set old.sender.channels at text }; spents = old.spents ++ spent ∷ [] }
 back_each memories own drained sender old spent at text is turn few come packed = record {
   same_channels = length-set old.sender.channels at text ∙ come.same_channels;
   are_waiting = back_waiting sender old (old.spents ++ spent ∷ []) at text is turn few come.are_waiting;
@@ -294,9 +312,12 @@ takes_back worker old sender spents spent is own_terms turn few ended same more 
       let before = get_or first.channels worker.channel [] in
       let whole = drained worker.channel ++ worker.text in
       let all = with_memories memories worker.channel own in
-      let share : (image : Image) → image.table ≡ old.terms.table → HasPagesBelow (end_of_work old.terms.deal) image old.terms spent own → HasPackedShare image old.terms spent before whole =
-      subst (λ (terms : RoundTerms). (image : Image) → image.table ≡ terms.table → HasPagesPacked image terms own (Ended spent) → HasPackedTo image terms before whole (Ended spent)) own_terms
-      (subst (λ (hand : Hand). (image : Image) → image.table ≡ worker.terms.table → HasPagesPacked image worker.terms own hand → HasPackedTo image worker.terms before whole hand) ended packed) in
+      let share : (image : Image) → image.table ≡ old.terms.table
+      → HasPagesBelow (end_of_work old.terms.deal) image old.terms spent own → HasPackedShare image old.terms spent before whole =
+      subst (λ (terms : RoundTerms). (image : Image) → image.table ≡ terms.table → HasPagesPacked image terms own (Ended spent)
+      → HasPackedTo image terms before whole (Ended spent)) own_terms
+      (subst (λ (hand : Hand). (image : Image) → image.table ≡ worker.terms.table → HasPagesPacked image worker.terms own hand
+      → HasPackedTo image worker.terms before whole hand) ended packed) in
       subst (λ (s : MultiSending). IsRoundOfEach all drained first (record old { sender = s; spents = spents })) (sym same)
       (subst (λ (l : List SeatView). IsRoundOfEach all drained first
       (record old { sender = record old.sender { channels = slice_set old.sender.channels worker.channel worker.text }; spents = l })) (sym more)
@@ -305,6 +326,8 @@ takes_back worker old sender spents spent is own_terms turn few ended same more 
 
 -- ---- ended
 
+-- a round of an image is sent once all workers are back, if they drew each number of the deal once
+-- and the main stream has a FLUSH more
 pub ended : (image : Image) (drained : ℕ → List ℕ) (old : MultiSending) (round : OpenMulti) (main : Writer) (base rounds next : ℕ) → IsImage image
     → image.table ≡ round.sender.main.table → IsOpenMulti round → IsRoundSoFar image drained old round → length round.spents ≡ length round.sender.channels
     → next ≡ end_of_deal round.terms.deal → HasEachOnce round.terms.deal.base next (all_drawn round.spents)
@@ -318,7 +341,12 @@ ended image drained old round main base rounds next is_image of_table is come al
     let channels = round.sender.channels in
     let new : MultiSending = record round.sender { main = main; base = base; rounds = rounds } in
     let as_many : length come.shares ≡ length round.spents = AllZip-long (HasShare (new_seat deal)) round.spents come.shares come.have_shares in
-    let dealt : DealtRound = record { snapshot = record { image = image; dirty = dirty_of terms }; batches = terms.batches; base = old.base; shares = come.shares } in
+    let dealt : DealtRound = record {
+      snapshot = record { image = image; dirty = dirty_of terms };
+      batches = terms.batches;
+      base = old.base;
+      shares = come.shares;
+    } in
     let old_main : round.sender.main ≡ old.main = ap (λ (s : MultiSending). s.main) same in
     let old_base : round.sender.base ≡ old.base = ap (λ (s : MultiSending). s.base) same in
     let old_rounds : round.sender.rounds ≡ old.rounds = ap (λ (s : MultiSending). s.rounds) same in
@@ -332,7 +360,8 @@ ended image drained old round main base rounds next is_image of_table is come al
       as_many = come.same_channels;
     } in
     let is_dealing : IsDealing deal.base deal.batches come.shares =
-    shares_are_dealt deal round.spents come.shares come.have_shares (all ∙ sym is.as_many) (subst (λ n. HasEachOnce deal.base n (all_drawn round.spents)) end once) in
+    shares_are_dealt deal round.spents come.shares come.have_shares (all ∙ sym is.as_many)
+    (subst (λ n. HasEachOnce deal.base n (all_drawn round.spents)) end once) in
     let is_dealt : IsDealtRound old.main.table old.limit (length old.channels) dealt = record {
       has_image = is_image;
       has_table = of_table ∙ old_table;
@@ -358,7 +387,8 @@ ended image drained old round main base rounds next is_image of_table is come al
           ∙ ap (λ (l : List ℕ). before.channel channel ++ l)
           (come.have_texts channel (omega (arith, below, all, come.same_channels))
           ∙ ap (λ n. get_or old.channels channel [] ++ share_text n image terms.batches (get_or come.shares channel no_share)) deal_base)
-          ∙ sym (append_assoc (before.channel channel) (get_or old.channels channel []) (share_text old.base image terms.batches (get_or come.shares channel no_share))))
+          ∙ sym (append_assoc (before.channel channel) (get_or old.channels channel [])
+          (share_text old.base image terms.batches (get_or come.shares channel no_share))))
           some sent;
     }
 
@@ -385,8 +415,10 @@ undrained snapshot old new sent = record {
 }
 
 -- if the steps had different memories, it has sent an image that has the pages of each
-sent_each : (memories : ℕ → ℕ → Image) (drained : ℕ → List ℕ) (old : MultiSending) (round : OpenMulti) (main : Writer) (base rounds next : ℕ) → IsOpenMulti round
-    → ((channel number : ℕ) → IsImage (memories channel number) × ((memories channel number).table ≡ round.terms.table)) → IsRoundOfEach memories drained old round
+sent_each : (memories : ℕ → ℕ → Image) (drained : ℕ → List ℕ) (old : MultiSending) (round : OpenMulti) (main : Writer)
+    (base rounds next : ℕ) → IsOpenMulti round
+    → ((channel number : ℕ) → IsImage (memories channel number) × ((memories channel number).table ≡ round.terms.table))
+    → IsRoundOfEach memories drained old round
     → length round.spents ≡ length round.sender.channels
     → next ≡ end_of_deal round.terms.deal → HasEachOnce round.terms.deal.base next (all_drawn round.spents)
     → main.table ≡ round.sender.main.table → HasFlushed round.sender.main main
@@ -399,7 +431,8 @@ sent_each memories drained old round main base rounds next is are come all end o
     let of_table = sent_table terms.table deal.base terms.batches round.spents memories in
     let is_image = sent_is_image terms.table deal.base terms.batches round.spents memories are in
     let pages : HasPagesSent memories round image = λ channel within number drew below.
-    sent_has_pages terms.table deal.base next terms.batches round.spents memories channel number (new_seat deal) is.claims.are_batches is.are_places.is_ascending once
+    sent_has_pages terms.table deal.base next terms.batches round.spents memories channel number
+    (new_seat deal) is.claims.are_batches is.are_places.is_ascending once
     (omega (arith, below, end)) (omega (arith, below, is.claims.as_many)) within drew in
     record {
       image = image;
@@ -418,10 +451,12 @@ sent_each memories drained old round main base rounds next is are come all end o
             has_pages = subst (λ k. HasPagesOf image (get_or terms.batches k no_batch) (memories by.0 number)) back
                 (pages by.0 by.1 number by.2 (omega (arith, lt, is.claims.as_many)));
           };
-      has_sent = ended image drained old round main base rounds next is_image (of_table ∙ is.same_table) is (come.is_of_each image of_table pages) all end once same_table flushed has_base
+      has_sent = ended image drained old round main base rounds next is_image (of_table ∙ is.same_table) is
+          (come.is_of_each image of_table pages) all end once same_table flushed has_base
           has_rounds;
     }
 
+-- an open round whose workers are all back ends with a FLUSH more, if they drew each number once
 pub ends_round : (round : OpenMulti) (main : Writer) (base rounds next : ℕ) → IsOpenMulti round → length round.spents ≡ length round.sender.channels
     → next ≡ end_of_deal round.terms.deal → HasEachOnce round.terms.deal.base next (all_drawn round.spents)
     → main.table ≡ round.sender.main.table → HasFlushed round.sender.main main
@@ -432,7 +467,8 @@ ends_round round main base rounds next is all end once same_table flushed has_ba
   has_sent = λ image drained old is_image of_table come.
       ended image drained old round main base rounds next is_image of_table is come all end once same_table flushed has_base has_rounds;
   has_sent_undrained = λ image old is_image of_table come.
-      undrained _ old _ (ended image none_drained old round main base rounds next is_image of_table is come all end once same_table flushed has_base has_rounds);
+      undrained _ old _ (ended image none_drained old round main base rounds next is_image of_table is come all end once
+      same_table flushed has_base has_rounds);
   has_sent_each = λ memories drained old are come.
       sent_each memories drained old round main base rounds next is are come all end once same_table flushed has_base has_rounds;
 }

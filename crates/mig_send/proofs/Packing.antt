@@ -56,10 +56,12 @@ passing-push test m b pages n =
     map-append [] ys = refl
     map-append (x ∷ xs) ys = ap (λ (l : List ℕ). (x.place.page * m.table.page_size) ∷ l) (map-append xs ys)
 
+-- no pages have no offsets
 pub none_passing : (test : List ℕ → Bool) (m : Image) (b : ℕ) → [] ≡ passing test m b []
 unfolding pages_of
 none_passing test m b = refl
 
+-- the first i + 1 pages give the offset of page i after those of the first i, if it passes the test
 pub passes_too : (test : List ℕ → Bool) (m : Image) (b : ℕ) (pages : List ℕ) (i : ℕ) → i < length pages
     → test (content_at m (place_at b (get_or pages i 0))) ≡ true
     → passing test m b (take (i + 1) pages) ≡ passing test m b (take i pages) ++ (get_or pages i 0 * m.table.page_size) ∷ []
@@ -68,6 +70,7 @@ passes_too test m b pages i lt t =
     let n : ℕ = get_or pages i 0 in
     ap (passing test m b) (take_more pages i 0 lt) ∙ passing-push test m b (take i pages) n ∙ rw t refl
 
+-- the first i + 1 pages give the same offsets as the first i, if page i fails the test
 pub passes_not : (test : List ℕ → Bool) (m : Image) (b : ℕ) (pages : List ℕ) (i : ℕ) → i < length pages
     → test (content_at m (place_at b (get_or pages i 0))) ≡ false
     → passing test m b (take (i + 1) pages) ≡ passing test m b (take i pages)
@@ -77,6 +80,7 @@ passes_not test m b pages i lt t =
 
 -- ---- the contents, by their offsets
 
+-- the contents at the offsets of the pages that pass a test are the contents of those pages
 pub contents_back : (test : List ℕ → Bool) (m : Image) (b : ℕ) (pages : List ℕ) → 0 < m.table.page_size
     → contents_at m b (passing test m b pages)
     ≡ contents_of (filter (λ page. test page.content) (round_of m (map (place_at b) pages)))
@@ -176,6 +180,7 @@ offset_fits table p is at =
     let below : p.page * table.page_size ≤ (block table.blocks p.block).pages * table.page_size = grind (arith, lt) in
     omega (arith, room, below)
 
+-- where a page of a lawful table is in its block, in bytes, fits in 64 bits
 pub page_offset_fits : (table : RamTable) (b : ℕ) (pages : List ℕ) (i : ℕ) → IsTable table → All (IsPlace table) (map (place_at b) pages) → i < length pages
     → get_or pages i 0 * table.page_size < 2 ^ 64
 page_offset_fits table b pages i is all lt = offset_fits table (place_at b (get_or pages i 0)) is (of_map pages i all lt)
@@ -234,7 +239,8 @@ batch_block table batch is = block_of_places batch.block batch.pages is.has_plac
     block_of_places b (n ∷ pages) all some = (All-head (IsPlace table) (place_at b n) (map (place_at b) pages) all).has_block
 
 -- the pages that aren't zeros have the size of a page
-batch_sizes : (m : Image) (batch : BatchOfPages) → IsImage m → IsBatch m.table batch → All (HasSize m.table.page_size) (normals_of (round_of m (batch_places batch)))
+batch_sizes : (m : Image) (batch : BatchOfPages) → IsImage m → IsBatch m.table batch
+    → All (HasSize m.table.page_size) (normals_of (round_of m (batch_places batch)))
 batch_sizes m batch image is_batch =
     All-filter (λ page. not (is_zero page.content)) (HasSize m.table.page_size) (round_of m (batch_places batch))
     (places_have (HasSize m.table.page_size) m (batch_places batch)
@@ -264,6 +270,8 @@ batch_writable m batch number is image is_batch fits =
       has_whole_id = whole_id (block table.blocks b).id (is.has_ids b (record { id = []; pages = 0 }) in_table);
     }
 
+-- a batch's packet is written with at least one page and no zeros as a normal page, and pages of
+-- each kind ascend
 pub is_packed : (m : Image) (batch : BatchOfPages) (number : ℕ) → IsTable m.table → IsImage m → IsBatch m.table batch → number < 2 ^ 64
     → IsPacked (packed_of m batch number)
 is_packed m batch number is image is_batch fits =
@@ -283,7 +291,8 @@ is_packed m batch number is image is_batch fits =
       is_writable = batch_writable m batch number is image is_batch fits;
       has_bytes = refl;
       has_some = omega (arith, kinds_length m b pages, is_batch.has_some);
-      no_zeros = normal_pages_have table.page_size normals (offsets_of table.page_size normals) (λ c. IsFalse (is_zero c)) (batch_sizes m batch image is_batch) long
+      no_zeros = normal_pages_have table.page_size normals (offsets_of table.page_size normals) (λ c. IsFalse (is_zero c))
+          (batch_sizes m batch image is_batch) long
           (All-weaker (λ page. not (is_zero page.content) ≡ true) (λ page. IsFalse (is_zero page.content))
           (λ page h. is_false (is_zero page.content) h) normals no_zeros);
       normal_ascends = offsets_ascend (λ c. not (is_zero c)) m b pages some is_batch.is_ascending;
@@ -298,7 +307,9 @@ is_packed m batch number is image is_batch fits =
 abbrev pub at_offset : ℕ → Page → NormalPage
 at_offset size page = record { offset = page.place.page * size; content = page.content }
 
-pub normal_pages_are : (m : Image) (batch : BatchOfPages) → IsImage m → IsBatch m.table batch → (normals : List Page) → normals ≡ normals_of (round_of m (batch_places batch))
+-- the normal pages at a batch's normal offsets are its pages that aren't zeros, with their contents
+pub normal_pages_are : (m : Image) (batch : BatchOfPages) → IsImage m → IsBatch m.table batch → (normals : List Page)
+    → normals ≡ normals_of (round_of m (batch_places batch))
     → normal_pages m.table.page_size (offsets_of m.table.page_size normals) (contents_of normals) ≡ map (at_offset m.table.page_size) normals
 normal_pages_are m batch image is_batch normals is =
     let size = m.table.page_size in
@@ -312,7 +323,8 @@ normal_pages_are m batch image is_batch normals is =
     (λ k lt.
     let within : k < length normals = omega (arith, lt, length-map normals offset) in
     get_or-map (at_offset size) normals k none (at_offset size none) within
-    ∙ page_same (offset (get_or normals k none)) (get_or offsets k 0) (get_or normals k none).content (slice_range (contents_of normals) (k * size) (k * size + size))
+    ∙ page_same (offset (get_or normals k none)) (get_or offsets k 0) (get_or normals k none).content
+    (slice_range (contents_of normals) (k * size) (k * size + size))
     (sym (get_or-map offset normals k none 0 within)) (sym (content_slice size normals k none sizes within))))
   where
     page_same : (i j : ℕ) (x y : List ℕ) → i ≡ j → x ≡ y → ◌≡◌ {A = NormalPage} (record { offset = i; content = x }) (record { offset = j; content = y })

@@ -102,6 +102,7 @@ filter_all f (q ∷ qs) all =
     let here : f q ≡ true =
     All-head (λ r. f r ≡ true) q qs all in rw here (ap (λ (l : List Place). q ∷ l) (filter_all f qs (All-tail (λ r. f r ≡ true) q qs all)))
 
+-- of ascending places, all are from the first one on, where the walk begins
 pub walk_begins : (ps : List Place) (next : Option Place) → IsAscending ps → next ≡ find (is_from (place_at 0 0)) ps
     → (ps ≡ places_from ps next) × IsInSet ps next
 walk_begins ps next order found =

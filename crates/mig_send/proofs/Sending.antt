@@ -6,6 +6,7 @@ use Rattle.mig_stream.specs.Written.{Part, RoundPart}
 use Rattle.mig_stream.specs.Writer.{Writer, HasDrained}
 use Rattle.mig_send.specs.Sending.{HasSentDrained}
 
+-- a sender that was given one round part more has sent one round more, with the same bytes drained
 pub round_sent : (drained : List ℕ) (sender : Writer) (rounds : List (List Page)) (round : List Page)
     → HasDrained drained sender (map RoundPart rounds ++ RoundPart round ∷ []) → HasSentDrained drained sender (rounds ++ round ∷ [])
 round_sent drained sender rounds round h =

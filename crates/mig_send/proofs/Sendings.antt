@@ -37,7 +37,8 @@ abbrev pub HaveRound : DealtRound → List (List ℕ) → List (List ℕ) → Ty
 HaveRound round old new = (channel : ℕ) → channel < length old → get_or new channel [] ≡ get_or old channel [] ++ round_text channel round
 
 -- so does a sender of whose channels bytes were drained meanwhile
-pub sent_on : (old new : MultiSending) (round : DealtRound) (before after : Drained) → KeepsSetting old new → IsDealtRound old.main.table old.limit (length old.channels) round
+pub sent_on : (old new : MultiSending) (round : DealtRound) (before after : Drained) → KeepsSetting old new
+    → IsDealtRound old.main.table old.limit (length old.channels) round
     → round.base ≡ old.base → new.base ≡ old.base + packet_count round → new.rounds ≡ old.rounds + 1
     → HasFlushed old.main new.main → after.main ≡ before.main
     → ((channel : ℕ) → channel < length old.channels
@@ -45,13 +46,15 @@ pub sent_on : (old new : MultiSending) (round : DealtRound) (before after : Drai
     → (rounds : List DealtRound) → HasSentRounds before old rounds → HasSentRounds after new (rounds ++ round ∷ [])
 sent_on old new round before after keeps dealt goes_on base count flushed same_main have rounds sent =
     let long : length (rounds ++ round ∷ []) ≡ suc (length rounds) = omega (arith, length-append rounds (round ∷ [])) in
-    let sum : sum_by packet_count (rounds ++ round ∷ []) ≡ sum_by packet_count rounds + packet_count round = omega (arith, sum_by-append packet_count rounds (round ∷ [])) in
+    let sum : sum_by packet_count (rounds ++ round ∷ []) ≡ sum_by packet_count rounds + packet_count round =
+    omega (arith, sum_by-append packet_count rounds (round ∷ [])) in
     let are = All-push (IsDealtRound old.main.table old.limit (length old.channels)) rounds round sent.are_dealt dealt in
     record {
       are_dealt = rw (keeps.same_table, keeps.same_limit, keeps.as_many) are;
       are_numbered = numbered_push 0 rounds round sent.are_numbered (omega (arith, goes_on, sent.has_base));
       has_main = subst (λ (d : List ℕ). HasDrained d new.main (replicate (length (rounds ++ round ∷ [])) FlushPart)) (sym same_main)
-          (subst (λ (l : List Part). HasDrained before.main new.main l) (replicate_push (length rounds) FlushPart ∙ ap (λ (n : ℕ). replicate n FlushPart) (sym long))
+          (subst (λ (l : List Part). HasDrained before.main new.main l)
+          (replicate_push (length rounds) FlushPart ∙ ap (λ (n : ℕ). replicate n FlushPart) (sym long))
           (flushed before.main (replicate (length rounds) FlushPart) sent.has_main));
       has_texts = λ channel lt.
           let below : channel < length old.channels = omega (arith, lt, keeps.as_many) in
@@ -62,6 +65,7 @@ sent_on old new round before after keeps dealt goes_on base count flushed same_m
       has_rounds = omega (arith, count, long, sent.has_rounds);
     }
 
+-- with a FLUSH more, and a dealt round's bytes more on each channel, a sender has sent that round
 pub sent_more : (old new : MultiSending) (round : DealtRound) → KeepsSetting old new → IsDealtRound old.main.table old.limit (length old.channels) round
     → round.base ≡ old.base → new.base ≡ old.base + packet_count round → new.rounds ≡ old.rounds + 1
     → HasFlushed old.main new.main → HaveRound round old.channels new.channels
@@ -71,6 +75,7 @@ sent_more old new round keeps dealt goes_on base count flushed have drained roun
     (λ channel below. ap (λ (l : List ℕ). drained.channel channel ++ l) (have channel below)
     ∙ sym (append_assoc (drained.channel channel) (get_or old.channels channel []) (round_text channel round))) rounds sent
 
+-- two lists with as many buffers have as many contents
 pub texts_long : {A : Type 0} (xs ys : List (Vec ℕ A)) → length xs ≡ length ys → length (texts_of xs) ≡ length (texts_of ys)
 texts_long xs ys same = let f = λ (text : Vec ℕ _). text.items in length-map xs f ∙ (same ∙ sym (length-map ys f))
 
@@ -85,6 +90,7 @@ unchanged old new same = record {
 
 -- ---- drained
 
+-- once bytes of the main stream are drained, the sender has still sent the same rounds
 pub drained_main : (old new : MultiSending) (bytes : List ℕ) → KeepsCounts old new → new.channels ≡ old.channels
     → ((drained : List ℕ) (parts : List Part) → HasDrained drained old.main parts → HasDrained (drained ++ bytes) new.main parts)
     → (drained : Drained) (rounds : List DealtRound) → HasSentRounds drained old rounds → HasSentRounds (with_main drained bytes) new rounds
@@ -101,7 +107,8 @@ drained_main old new bytes keeps same more drained rounds sent =
     }
 
 -- a channel's bytes are the same in all, whichever of it were drained
-drained_text : {A : Type 0} (olds : List (Vec ℕ A)) (at : ℕ) (none : Vec ℕ A) (bytes : List ℕ) (drained : Drained) (channel : ℕ) → channel < length olds → at < length olds
+drained_text : {A : Type 0} (olds : List (Vec ℕ A)) (at : ℕ) (none : Vec ℕ A) (bytes : List ℕ) (drained : Drained) (channel : ℕ)
+    → channel < length olds → at < length olds
     → bytes ≡ (get_or olds at none).items → (whole : List ℕ) → drained.channel channel ++ get_or (texts_of olds) channel [] ≡ whole
     → (news : List (List ℕ)) → news ≡ slice_set (texts_of olds) at [] → (with_channel drained at bytes).channel channel ++ get_or news channel [] ≡ whole
 drained_text olds at none bytes drained channel lt inside given whole sent news moved =
@@ -109,18 +116,23 @@ drained_text olds at none bytes drained channel lt inside given whole sent news 
     let in_texts : at < length (texts_of olds) = omega (arith, inside, length-map olds f) in
     let there = get_or-map f olds at none [] inside in
     ap (λ (l : List (List ℕ)). (with_channel drained at bytes).channel channel ++ get_or l channel []) moved
-    ∙ elim (cases_Bool (channel == at)) as (λ _. (if channel == at then drained.channel channel ++ bytes else drained.channel channel) ++ get_or (slice_set (texts_of olds) at []) channel [] ≡ whole) [
+    ∙ elim (cases_Bool (channel == at)) as (λ _. (if channel == at then drained.channel channel
+    ++ bytes else drained.channel channel) ++ get_or (slice_set (texts_of olds) at []) channel [] ≡ whole) [
       | inl is ↦ let same : channel ≡ at = eqb-true channel at is in
           ap (λ (b : Bool). (if b then drained.channel channel ++ bytes else drained.channel channel) ++ get_or (slice_set (texts_of olds) at []) channel []) is
           ∙ (ap (λ (l : List ℕ). (drained.channel channel ++ bytes) ++ l) (get_or-set_at (texts_of olds) at channel [] [] same in_texts)
           ∙ (append-nil (drained.channel channel ++ bytes)
           ∙ (ap (λ (l : List ℕ). drained.channel channel ++ l) (given ∙ (sym there ∙ ap (λ (n : ℕ). get_or (texts_of olds) n []) (sym same))) ∙ sent)))
-      | inr isn ↦ ap (λ (b : Bool). (if b then drained.channel channel ++ bytes else drained.channel channel) ++ get_or (slice_set (texts_of olds) at []) channel []) isn
+      | inr isn ↦ ap (λ (b : Bool). (if b then drained.channel channel ++ bytes else drained.channel channel) ++ get_or
+          (slice_set (texts_of olds) at []) channel []) isn
           ∙ (ap (λ (l : List ℕ). drained.channel channel ++ l) (get_or-set_other (texts_of olds) at channel [] [] (eqb-false channel at isn)) ∙ sent)
     ]
 
-pub drained_channel : {A : Type 0} (old new : MultiSending) (olds : List (Vec ℕ A)) (at : ℕ) (emptied none : Vec ℕ A) (bytes : List ℕ) → KeepsCounts old new → new.main ≡ old.main
-    → old.channels ≡ texts_of olds → new.channels ≡ texts_of (slice_set olds at emptied) → emptied.items ≡ [] → at < length olds → bytes ≡ (get_or olds at none).items
+-- once all bytes of a channel are drained, the sender has still sent the same rounds
+pub drained_channel : {A : Type 0} (old new : MultiSending) (olds : List (Vec ℕ A)) (at : ℕ)
+    (emptied none : Vec ℕ A) (bytes : List ℕ) → KeepsCounts old new → new.main ≡ old.main
+    → old.channels ≡ texts_of olds → new.channels ≡ texts_of (slice_set olds at emptied) → emptied.items ≡ [] → at < length olds
+    → bytes ≡ (get_or olds at none).items
     → (drained : Drained) (rounds : List DealtRound) → HasSentRounds drained old rounds → HasSentRounds (with_channel drained at bytes) new rounds
 drained_channel old new olds at emptied none bytes keeps main was is empty inside given drained rounds sent =
     let setting = keeps.same_setting in
@@ -131,9 +143,11 @@ drained_channel old new olds at emptied none bytes keeps main was is empty insid
       are_dealt = rw (setting.same_table, setting.same_limit, setting.as_many) are;
       are_numbered = sent.are_numbered;
       has_main = rw main sent.has_main;
-      has_texts = λ channel lt. drained_text olds at none bytes drained channel (omega (arith, lt, setting.as_many, ap length was, length-map olds f)) inside given
+      has_texts = λ channel lt. drained_text olds at none bytes drained channel
+          (omega (arith, lt, setting.as_many, ap length was, length-map olds f)) inside given
           (channel_text old.uuid rounds channel)
-          (ap (λ (l : List (List ℕ)). drained.channel channel ++ get_or l channel []) (sym was) ∙ sent.has_texts channel (omega (arith, lt, setting.as_many))) new.channels moved
+          (ap (λ (l : List (List ℕ)). drained.channel channel ++ get_or l channel []) (sym was)
+          ∙ sent.has_texts channel (omega (arith, lt, setting.as_many))) new.channels moved
           ∙ ap (λ (u : List ℕ). channel_text u rounds channel) (sym setting.same_uuid);
       has_base = keeps.same_base ∙ sent.has_base;
       has_rounds = keeps.same_rounds ∙ sent.has_rounds;
@@ -141,15 +155,18 @@ drained_channel old new olds at emptied none bytes keeps main was is empty insid
 
 -- ---- finished
 
+-- if each channel's drained bytes and the rest are its hello and rounds, so are all channels' bytes
 pub whole : (uuid : List ℕ) (rounds : List DealtRound) (drained : Drained) (channels : List (List ℕ))
     → ((channel : ℕ) → channel < length channels → drained.channel channel ++ get_or channels channel [] ≡ channel_text uuid rounds channel)
     → whole_texts drained channels ≡ channel_texts uuid (length channels) rounds
 whole uuid rounds drained channels each =
     map_agree (λ channel. drained.channel channel ++ get_or channels channel []) (channel_text uuid rounds) (range_with_len 0 (length channels))
-    (All-range (λ channel. drained.channel channel ++ get_or channels channel [] ≡ channel_text uuid rounds channel) 0 (length channels) (λ k low high. each k (omega (arith, high))))
+    (All-range (λ channel. drained.channel channel ++ get_or channels channel [] ≡ channel_text uuid rounds channel) 0
+    (length channels) (λ k low high. each k (omega (arith, high))))
 
 -- A sender's rounds are a sending, whose main stream is what the writer's end makes of them.
-pub sending_of : (sender : MultiSending) (drained : Drained) (rounds : List DealtRound) (main_text : List ℕ) → IsMultiSending sender → HasSentRounds drained sender rounds
+pub sending_of : (sender : MultiSending) (drained : Drained) (rounds : List DealtRound) (main_text : List ℕ)
+    → IsMultiSending sender → HasSentRounds drained sender rounds
     → main_text ≡ main sender.main.table (length rounds)
     → IsSending sender.main.table sender.uuid sender.limit (length sender.channels) rounds main_text (whole_texts drained sender.channels)
 sending_of sender drained rounds main_text is sent has = record {

@@ -68,7 +68,8 @@ once_ascending (q ∷ ps) p ascends =
     elim (cases_Bool (place_eq q p)) [
       | inl here ↦
           let above : All (λ r. place_eq r p ≡ false) ps = λ i d within.
-          let later : place_lt p (get_or ps i d) ≡ true = subst (λ (o : Place). place_lt o (get_or ps i d) ≡ true) (place_eq-true q p here) (ascends 0 (suc i) d (omega arith) (omega (arith, within))) in
+          let later : place_lt p (get_or ps i d) ≡ true =
+          subst (λ (o : Place). place_lt o (get_or ps i d) ≡ true) (place_eq-true q p here) (ascends 0 (suc i) d (omega arith) (omega (arith, within))) in
           place_eq-flip p (get_or ps i d) (place_lt-ne p (get_or ps i d) later) in
           omega (arith, all, cond-true {A = ℕ} (place_eq q p) 1 0 here, count_none (λ r. place_eq r p) ps above)
       | inr other ↦ omega (arith, all, cond-false {A = ℕ} (place_eq q p) 1 0 other, once_ascending ps p rest)
@@ -86,7 +87,8 @@ has_page batch i within =
       cond-true {A = ℕ} (place_eq (get_or (batch_places batch) i p) p) 1 0 (place_eq-from (get_or (batch_places batch) i p) p at),
     )
 
-page_is_place : (table : RamTable) (batch : BatchOfPages) (i : ℕ) → IsBatch table batch → i < length batch.pages → IsPlace table (place_at batch.block (get_or batch.pages i 0))
+page_is_place : (table : RamTable) (batch : BatchOfPages) (i : ℕ) → IsBatch table batch → i < length batch.pages
+    → IsPlace table (place_at batch.block (get_or batch.pages i 0))
 page_is_place table batch i is within =
     let p : Place = place_at batch.block (get_or batch.pages i 0) in
     subst (IsPlace table) (get_or-map (place_at batch.block) batch.pages i 0 p within)
@@ -106,12 +108,16 @@ pub sent_image : RamTable → ℕ → List BatchOfPages → List SeatView → (�
 sent_image table base batches spents memories =
     image_of table (λ p. content_at (memories (channel_of spents (number_at base batches p)) (number_at base batches p)) p)
 
-pub sent_table : (table : RamTable) (base : ℕ) (batches : List BatchOfPages) (spents : List SeatView) (memories : ℕ → ℕ → Image) → (sent_image table base batches spents memories).table ≡ table
+-- the image of what was packed has the round's table
+pub sent_table : (table : RamTable) (base : ℕ) (batches : List BatchOfPages) (spents : List SeatView) (memories : ℕ → ℕ → Image)
+    → (sent_image table base batches spents memories).table ≡ table
 unfolding sent_image
 sent_table table base batches spents memories = refl
 
+-- if each memory is an image of the table, what was packed from them is an image
 pub sent_is_image : (table : RamTable) (base : ℕ) (batches : List BatchOfPages) (spents : List SeatView) (memories : ℕ → ℕ → Image)
-    → ((channel number : ℕ) → IsImage (memories channel number) × ((memories channel number).table ≡ table)) → IsImage (sent_image table base batches spents memories)
+    → ((channel number : ℕ) → IsImage (memories channel number) × ((memories channel number).table ≡ table))
+    → IsImage (sent_image table base batches spents memories)
 unfolding sent_image
 sent_is_image table base batches spents memories are =
     image_from table (λ p. content_at (memories (channel_of spents (number_at base batches p)) (number_at base batches p)) p)
@@ -119,10 +125,12 @@ sent_is_image table base batches spents memories are =
     let number = number_at base batches p in
     let channel = channel_of spents number in
     let of_table = (are channel number).1 in
-    content_size (memories channel number) p (are channel number).0 (subst (λ (t : RamTable). IsPlace t p) (sym of_table) is) ∙ ap (λ (t : RamTable). t.page_size) of_table)
+    content_size (memories channel number) p (are channel number).0 (subst (λ (t : RamTable). IsPlace t p) (sym of_table) is)
+    ∙ ap (λ (t : RamTable). t.page_size) of_table)
 
 -- if each number was drawn once, it has the pages of each batch from that batch's memory
-pub sent_has_pages : (table : RamTable) (base next : ℕ) (batches : List BatchOfPages) (spents : List SeatView) (memories : ℕ → ℕ → Image) (channel number : ℕ) (d : SeatView)
+pub sent_has_pages : (table : RamTable) (base next : ℕ) (batches : List BatchOfPages) (spents : List SeatView) (memories : ℕ → ℕ
+    → Image) (channel number : ℕ) (d : SeatView)
     → All (IsBatch table) batches → IsAscending (flat_map batch_places batches) → HasEachOnce base next (all_drawn spents)
     → number < next → number < base + length batches → channel < length spents → 0 < times number (get_or spents channel d).drawn
     → HasPagesOf (sent_image table base batches spents memories) (get_or batches (number - base) no_batch) (memories channel number)
@@ -141,7 +149,11 @@ sent_has_pages table base next batches spents memories channel number d are asce
     let count : BatchOfPages → ℕ = λ b. count_of p (batch_places b) in
     let at : which count batches ≡ number - base =
     which_is count batches (number - base) no_batch
-    (omega (arith, once_ascending (flat_map batch_places batches) p ascends, count_by-flat_map (λ q. place_eq q p) batch_places batches)) inside (has_page batch i lt) in
+    (omega (
+      arith,
+      once_ascending (flat_map batch_places batches) p ascends,
+      count_by-flat_map (λ q. place_eq q p) batch_places batches,
+    )) inside (has_page batch i lt) in
     let numbered : number_at base batches p ≡ number = omega (arith, at, from) in
     let drawn : channel_of spents number ≡ channel = which_is draws spents channel d (omega (arith, once.once number from before, all)) within drew in
     content_at-image_of table (λ q. content_at (memories (channel_of spents (number_at base batches q)) (number_at base batches q)) q) p is

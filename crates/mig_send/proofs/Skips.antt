@@ -58,8 +58,10 @@ pub run_from : (ps : List Place) (b from n : ℕ) → InOrder place_lt ps
 run_from ps b from zero order = let none : from + zero ≡ from = omega arith in rw none refl
 run_from ps b from (suc n) order =
     let on : (from + 1) + n ≡ from + suc n = omega arith in
-    let rest : filter (is_from (place_at b (from + 1))) ps ≡ map (place_at b) (filter (page_in ps b) (range_with_len (from + 1) n)) ++ filter (is_from (place_at b (from + suc n))) ps =
-    run_from ps b (from + 1) n order ∙ ap (λ (k : ℕ). map (place_at b) (filter (page_in ps b) (range_with_len (from + 1) n)) ++ filter (is_from (place_at b k)) ps) on in
+    let rest : filter (is_from (place_at b (from + 1))) ps ≡ map (place_at b)
+    (filter (page_in ps b) (range_with_len (from + 1) n)) ++ filter (is_from (place_at b (from + suc n))) ps =
+    run_from ps b (from + 1) n order ∙ ap (λ (k : ℕ). map (place_at b)
+    (filter (page_in ps b) (range_with_len (from + 1) n)) ++ filter (is_from (place_at b k)) ps) on in
     elim (cases_Bool (page_in ps b from)) [
       | inl t ↦ from_place (place_at b from) ps order t ∙ ap (λ (l : List Place). place_at b from ∷ l) rest ∙ rw t refl
       | inr f ↦ from_no_place (place_at b from) ps f ∙ rest ∙ rw f refl
@@ -68,12 +70,14 @@ run_from ps b from (suc n) order =
 -- ---- the place after a batch
 
 -- what is found from a place on isn't before it
-not_before : (ps : List Place) (from p : Place) → InOrder place_lt ps → filter (is_from from) ps ≡ places_from ps (Some p) → has_place ps p ≡ true → place_lt p from ≡ false
+not_before : (ps : List Place) (from p : Place) → InOrder place_lt ps → filter (is_from from) ps ≡ places_from ps (Some p)
+    → has_place ps p ≡ true → place_lt p from ≡ false
 not_before ps from p order same has =
     let all : filter (is_from from) ps ≡ p ∷ filter (is_from (behind p)) ps = same ∙ from_place p ps order has in
     All-head (λ q. place_lt q from ≡ false) p (filter (is_from (behind p)) ps)
     (subst (λ (l : List Place). All (λ q. place_lt q from ≡ false) l) all (none_before from ps))
 
+-- once a batch's places are passed, the next place of the set is the first one after the batch
 pub passed_batch : (s : PlaceSet) (limit page : ℕ) (first : Place) (next : Option Place) → IsPlaceSet s → 0 < limit → has_place s.marked first ≡ true
     → IsPastPlaces s first.block first.page limit page → next ≡ find (is_from (place_at first.block page)) s.marked
     → IsAfterBatch limit s.marked first next

@@ -19,8 +19,10 @@ use Rattle.mig_send.specs.ChannelWork.{RoundTerms, HasClaimed, HasPackedSoFar, H
 -- a draw leaves what is packed
 pub claimed_packed : (image : Image) (terms : RoundTerms) (before whole : List ℕ) (old in_hand : Hand) → HasClaimed terms.deal old in_hand
     → HasPackedTo image terms before whole old → HasPackedTo image terms before whole in_hand
-claimed_packed image terms before whole (Drawing seat) (Claimed next number) has packed = (record { earlier = seat; has_packed = packed; has_drawn = has.0 }, has.1)
-claimed_packed image terms before whole (Drawing seat) (Ending spent last) has packed = (record { earlier = seat; has_packed = packed; has_drawn = has.0 }, has.1)
+claimed_packed image terms before whole (Drawing seat) (Claimed next number) has packed =
+    (record { earlier = seat; has_packed = packed; has_drawn = has.0 }, has.1)
+claimed_packed image terms before whole (Drawing seat) (Ending spent last) has packed =
+    (record { earlier = seat; has_packed = packed; has_drawn = has.0 }, has.1)
 claimed_packed image terms before whole (Drawing seat) (Drawing next) has packed = absurd has
 claimed_packed image terms before whole (Drawing seat) (Ended spent) has packed = absurd has
 claimed_packed image terms before whole (Drawing seat) Moving has packed = absurd has
@@ -79,12 +81,14 @@ written_packed image terms before whole (Ending spent last) packed = share_ends 
 written_packed image terms before whole (Ended spent) packed = subst (λ (l : List ℕ). HasPackedShare image terms spent before l) (sym (append-nil whole)) packed
 written_packed image terms before whole Moving packed = absurd packed
 
+-- what a worker has packed so far is still so after a step, with the same bytes drained
 pub step_packed : (image : Image) (terms : RoundTerms) (made : Result (Unit {0}) NoMemory) (old new : Hand) (old_text new_text before drained : List ℕ)
     → IsStep image terms made old new old_text new_text → HasPackedTo image terms before (drained ++ old_text) old
     → HasPackedTo image terms before (drained ++ new_text) new
 step_packed image terms (Ok u) old new old_text new_text before drained step packed =
     let bytes = hand_bytes image terms step.in_hand in
-    let now = written_packed image terms before (drained ++ old_text) step.in_hand (claimed_packed image terms before (drained ++ old_text) old step.in_hand step.has_claimed packed) in
+    let now = written_packed image terms before (drained ++ old_text) step.in_hand
+    (claimed_packed image terms before (drained ++ old_text) old step.in_hand step.has_claimed packed) in
     subst (λ (h : Hand). HasPackedTo image terms before (drained ++ new_text) h) (sym step.writes.0)
     (subst (λ (l : List ℕ). HasPackedTo image terms before l (after_packet step.in_hand))
     (append_assoc drained old_text bytes ∙ ap (λ (l : List ℕ). drained ++ l) (sym step.writes.1)) now)

@@ -1,5 +1,6 @@
 -- A round that is taken back before a worker was given out.
 use Rattle.std.proofs.Common.{ℕ, ◌≡◌, ◌<◌, ◌≤◌, ◌+◌, List, [], ◌∷◌, length, get_or, refl, ap, ◌∙◌, arith, suc}
+use Rattle.std.proofs.lemmas.List.{nil_from_length}
 use Rattle.mig_send.specs.MultiRound.{OpenMulti, IsTakenBack}
 
 -- lists that have the same at each index
@@ -12,15 +13,13 @@ same_lists (x ∷ xs) (y ∷ ys) len each =
     let tail : xs ≡ ys = same_lists xs ys (omega arith) (λ k lt. each (suc k) (omega arith)) in
     ap (λ (z : List ℕ). z ∷ xs) head ∙ ap (λ (zs : List (List ℕ)). y ∷ zs) tail
 
-no_list : {X : Type 0} (xs : List X) → length xs ≡ 0 → xs ≡ []
-no_list [] none = refl
-no_list (x ∷ xs) none = absurd (omega arith)
-
-pub taken_back : (round : OpenMulti) → length round.spents + length round.seats ≤ length round.sender.channels → length round.seats ≡ length round.sender.channels
+-- a round with all of its seats left is taken back, and its sender is as it was before
+pub taken_back : (round : OpenMulti) → length round.spents + length round.seats ≤ length round.sender.channels
+    → length round.seats ≡ length round.sender.channels
     → IsTakenBack round round.sender
 taken_back round few all = record {
   same_sender = refl;
-  none_back = no_list round.spents (omega arith);
+  none_back = nil_from_length round.spents (omega arith);
   was = λ dirty old begun. begun.same_sender;
   had_come = λ image drained old come.
       let len : length round.sender.channels ≡ length old.channels = come.same_channels in

@@ -24,7 +24,10 @@ pages_in block pages = record { block = block; pages = pages }
 -- a batch that was begun takes these pages
 taken : (limit block : ℕ) (before pages : List ℕ) (behind : List Place) → length before + length pages ≤ limit
     → All (λ p. p.block ≡ block → length before + length pages ≡ limit) behind
-    → cut_after limit (record { block = block; pages = before }) (map (place_at block) pages ++ behind) ≡ record { block = block; pages = before ++ pages } ∷ cut_of limit behind
+    → cut_after limit (record { block = block; pages = before }) (map (place_at block) pages ++ behind) ≡ record {
+      block = block;
+      pages = before ++ pages;
+    } ∷ cut_of limit behind
 unfolding cut_after cut_of
 taken limit block before [] [] few full = ap (λ (l : List ℕ). pages_in block l ∷ []) (sym (append-nil before))
 taken limit block before [] (p ∷ ps) few full =
@@ -47,7 +50,8 @@ taken limit block before (page ∷ pages) behind few full =
     (λ p is e. let at : length before + suc (length pages) ≡ limit = is e in omega arith) behind full) in
     rw (t, f) (more ∙ ap (λ (l : List ℕ). pages_in block l ∷ cut_of limit behind) (append_assoc before (page ∷ []) pages))
 
-first_taken : (limit block : ℕ) (pages : List ℕ) (behind : List Place) → 0 < length pages → length pages ≤ limit → All (λ p. p.block ≡ block → length pages ≡ limit) behind
+first_taken : (limit block : ℕ) (pages : List ℕ) (behind : List Place) → 0 < length pages → length pages ≤ limit
+    → All (λ p. p.block ≡ block → length pages ≡ limit) behind
     → cut_of limit (map (place_at block) pages ++ behind) ≡ record { block = block; pages = pages } ∷ cut_of limit behind
 unfolding cut_of
 first_taken limit block [] behind some few full = absurd (omega arith)
@@ -74,7 +78,8 @@ same_follow : (limit : ℕ) (a : BatchOfPages) (block : ℕ) (pages : List ℕ) 
     → All (λ p. p.block ≡ a.block → length a.pages ≡ limit) (map (place_at block) pages)
 same_follow limit a block [] full = All-nil (λ p. p.block ≡ a.block → length a.pages ≡ limit)
 same_follow limit a block (page ∷ pages) full =
-    All-cons (λ p. p.block ≡ a.block → length a.pages ≡ limit) (place_at block page) (map (place_at block) pages) (λ e. full (sym e)) (same_follow limit a block pages full)
+    All-cons (λ p. p.block ≡ a.block → length a.pages ≡ limit) (place_at block page) (map (place_at block) pages)
+    (λ e. full (sym e)) (same_follow limit a block pages full)
 
 cut_is_of : (limit : ℕ) (batches : List BatchOfPages) → All (HasSize limit) batches → AllPairs (IsFullBefore limit) batches
     → cut_of limit (flat_map batch_places batches) ≡ batches
@@ -123,7 +128,8 @@ has_some None some none = some refl
 has_some (Some p) some none = none p refl
 
 -- one batch on
-pub walk_on : (limit : ℕ) (places : List Place) (walk : Walk) (first : Place) (batch : BatchOfPages) (next : Option Place) → IsWalk limit places walk → walk.next ≡ Some first
+pub walk_on : (limit : ℕ) (places : List Place) (walk : Walk) (first : Place) (batch : BatchOfPages) (next : Option Place)
+    → IsWalk limit places walk → walk.next ≡ Some first
     → IsFirstBatch limit (places_from places (Some first)) batch (places_from places next) → IsInSet places next
     → (batch ≡ get_or (cut_of limit places) walk.at no_batch) × IsWalk limit places (record { at = walk.at + 1; next = next })
 walk_on limit places walk first batch next is at begins in_set =
@@ -147,7 +153,9 @@ pub record IsCounting (limit : ℕ) (places : List Place) (next : Option Place) 
   pub has_rest : cut_of limit places ≡ counted ++ cut_of limit (places_from places next)
   pub is_in_set : IsInSet places next
 
-pub none_counted : (limit : ℕ) (places : List Place) (next : Option Place) → IsAscending places → next ≡ find (is_from (place_at 0 0)) places → IsCounting limit places next 0
+-- a walk at the first of some ascending places has counted no batch
+pub none_counted : (limit : ℕ) (places : List Place) (next : Option Place) → IsAscending places
+    → next ≡ find (is_from (place_at 0 0)) places → IsCounting limit places next 0
 none_counted limit places next order found =
     let begins = walk_begins places next order found in
     record {
@@ -158,6 +166,7 @@ none_counted limit places next order found =
       is_in_set = begins.1;
     }
 
+-- a walk that goes on to the first place after a batch has counted one batch more
 pub one_counted : (limit : ℕ) (places : List Place) (count : ℕ) (first : Place) (next : Option Place) → IsCounting limit places (Some first) count
     → IsAfterBatch limit places first next → IsCounting limit places next (count + 1)
 one_counted limit places count first next is after =
@@ -167,11 +176,13 @@ one_counted limit places count first next is after =
       counted = is.counted ++ batch ∷ [];
       is_count = ap (λ (n : ℕ). n + 1) is.is_count ∙ sym (length-append is.counted (batch ∷ []));
       is_cut = cut_more limit places (places_from places (Some first)) (places_from places next) is.counted batch is.is_cut after.is_first;
-      has_rest = is.has_rest ∙ ap (λ (l : List BatchOfPages). is.counted ++ l) (first_cut limit (places_from places (Some first)) batch (places_from places next) after.is_first)
+      has_rest = is.has_rest ∙ ap (λ (l : List BatchOfPages). is.counted ++ l)
+          (first_cut limit (places_from places (Some first)) batch (places_from places next) after.is_first)
           ∙ sym (append_assoc is.counted (batch ∷ []) rest);
       is_in_set = after.is_in_set;
     }
 
+-- a walk after all places has counted all of their batches, and `cut_of` gives these batches
 pub all_counted : (limit : ℕ) (places : List Place) (count : ℕ) → IsCounting limit places None count
     → (count ≡ length (cut_of limit places)) × IsCut limit places (cut_of limit places)
 unfolding cut_of

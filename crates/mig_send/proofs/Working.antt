@@ -107,6 +107,7 @@ entries_more entries f numbers number =
     ap (flat_map entries) (map-append f numbers (number ∷ []))
     ∙ (flat_map-append entries (map f numbers) (f number ∷ []) ∙ ap (λ l. flat_map entries (map f numbers) ++ l) (append-nil (entries (f number))))
 
+-- a seat that has drawn nothing since has filled the sink with nothing more
 pub filled_none : {E : Type 0} (entries : PackedBatch → List E) (image : Image) (batches : List BatchOfPages) (seat : SeatView) (before : List E)
     → HasFilledSoFar entries image batches seat seat before before (Ok tt)
 filled_none entries image batches seat before = record {
@@ -116,6 +117,7 @@ filled_none entries image batches seat before = record {
   has_packets = sym (append-nil before);
 }
 
+-- a seat that draws a batch's number more fills the sink with that batch's packet more
 pub filled_more : {E : Type 0} (entries : PackedBatch → List E) (image : Image) (batches : List BatchOfPages) (deal : DealView) (first seat after : SeatView)
     (number : ℕ) (batch : BatchOfPages) (before some new : List E) (made more : Result (Unit {0}) NoMemory)
     → HasFilledSoFar entries image batches first seat before some made → first.deal ≡ deal → length batches ≡ deal.batches
@@ -135,6 +137,7 @@ filled_more entries image batches deal first seat after number batch before some
           (subst (λ (p : PackedBatch). OnOk more (new ≡ some ++ entries p)) same added));
     }
 
+-- a seat that draws its last number has filled the sink with the packets of its share
 pub filled_last : {E : Type 0} (entries : PackedBatch → List E) (image : Image) (batches : List BatchOfPages) (deal : DealView) (first seat : SeatView)
     (before after : List E) (filled : Filled)
     → HasFilledSoFar entries image batches first seat before after filled.made → first.deal ≡ deal
@@ -160,6 +163,7 @@ packets_of f numbers packets made (Err e) has are = tt
 packets_of f numbers packets (Err e) (Ok some) has are = absurd (let no = are.0 in cc)
 packets_of f numbers packets (Ok v) (Ok some) has are = ap (λ v. v.items) are.1 ∙ (has ∙ each_alone (map f numbers))
 
+-- a worker that filled an empty list with its share's packets, and returns that list, has worked
 pub worked_of : {A : Type 0} (image : Image) (batches : List BatchOfPages) (seat : SeatView) (packets : Vec PackedBatch A) (filled : Filled)
     (all : Result (Vec PackedBatch A) NoMemory) (before : List PackedBatch) → before ≡ []
     → HasFilled (λ packet. packet ∷ []) image batches seat before packets.items filled
@@ -180,6 +184,7 @@ bytes_of : (f : ℕ → PackedBatch) (numbers : List ℕ) → flat_map (λ packe
 bytes_of f [] = refl
 bytes_of f (n ∷ numbers) = ap (λ l. (f n).bytes ++ l) (bytes_of f numbers)
 
+-- a worker that filled its bytes with packets, and added a SYNC packet, has written its share
 pub written_of : {A : Type 0} (image : Image) (batches : List BatchOfPages) (seat : SeatView) (before some : List ℕ) (filled : Filled) (written : Written A)
     → HasFilled (λ packet. packet.bytes) image batches seat before some filled → written.spent ≡ filled.spent
     → OnOk written.made (IsOk filled.made) → OnOk written.made (written.text.items ≡ some ++ sync_packet image.table.page_size filled.last)
@@ -193,6 +198,7 @@ written_of image batches seat before some filled written is spent was added pref
       has_text = subst (λ (l : List ℕ). OnOk written.made (written.text.items ≡ before ++ l))
           (ap (λ l. l ++ sync_packet image.table.page_size filled.last) (bytes_of packet is.share.numbers)
           ∙ ap (λ last. flat_map (λ number. (packet number).bytes) is.share.numbers ++ sync_packet image.table.page_size last) is.has_last)
-          (list_more before (flat_map (λ p. p.bytes) (map packet is.share.numbers)) some (sync_packet image.table.page_size filled.last) written.text.items filled.made written.made
+          (list_more before (flat_map (λ p. p.bytes) (map packet is.share.numbers)) some
+          (sync_packet image.table.page_size filled.last) written.text.items filled.made written.made
           is.has_packets was added);
     }

@@ -116,7 +116,7 @@ pub(crate) fn unpacked<A: Allocator, C: Allocator>(
             break;
         }
         put(&mut pages, place.page);
-        next = first_behind(dirty, place);
+        next = first_after(dirty, place);
     }
     let batch = Batch {
         block: first.block,
@@ -126,7 +126,7 @@ pub(crate) fn unpacked<A: Allocator, C: Allocator>(
 }
 
 // Returns the first dirty place after another one.
-fn first_behind<C: Allocator>(dirty: &Dirty<C>, place: Place) -> Option<Place>
+fn first_after<C: Allocator>(dirty: &Dirty<C>, place: Place) -> Option<Place>
     requires set { IsPlaceSet dirty.now }
     requires place { IsInSet dirty.now.marked (Some place) }
     ensures behind { places_from dirty.now.marked (Some place) ≡ place ∷ places_from dirty.now.marked result }

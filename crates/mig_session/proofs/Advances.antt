@@ -23,7 +23,6 @@ use Rattle.mig_single_load.specs.declared.fault.Fault.TheVariants as fault
 use Rattle.mig_single_load.specs.declared.fault.LoadFault.{LoadFault}
 use Rattle.mig_answer.specs.declared.verdict.Verdict.{Verdict}
 use Rattle.mig_answer.specs.declared.verdict.Verdict.TheVariants.{Failed}
-use Rattle.mig_single_load.specs.SingleLoad.{no_memory_at}
 use Rattle.mig_answer.specs.Status.{main_status, stream_end, is_whole}
 use Rattle.mig_answer.specs.Texts.{Readings}
 use Rattle.mig_answer.specs.Rounds.{packets_at, refusal_at, memory_at, pages_at}
@@ -52,7 +51,8 @@ memory_of : (readings : Readings) (t : LoadTarget) → HasPutRounds readings t �
 memory_of readings t has = sym has.has_loaded.has_memory
 
 -- a verdict: it is that of the streams
-pub told_of : (f : Feeding) (s : FedSources) (t : LoadTarget) (v : Verdict) → Advances f s (Some t) → TellsAll t.rounds s (Some v) → TellsVerdict f.readings (Some t) v
+pub told_of : (f : Feeding) (s : FedSources) (t : LoadTarget) (v : Verdict) → Advances f s (Some t) → TellsAll t.rounds s (Some v)
+    → TellsVerdict f.readings (Some t) v
 told_of f s t v advances told =
     let here = told_here t.rounds f.readings v (told f.given f.uuid f.texts f.readings advances.is_page_size advances.holds advances.are_readings) in
     record {
@@ -64,13 +64,15 @@ told_of f s t v advances told =
 
 -- ---- the round that is judged
 
+-- at a round that is due, the main stream and each channel have that round complete
 pub round_comes : (f : Feeding) (s : FedSources) (t : LoadTarget) → RoundIsDue f s t → HaveRound s
 round_comes f s t comes =
     have_round f.given f.uuid t.rounds f.texts f.readings s comes.advances.is_page_size comes.advances.holds comes.advances.are_readings comes.is_due
 
 table_size : (f : Feeding) (s : FedSources) (t : LoadTarget) → RoundIsDue f s t → t.memory.table.page_size ≡ f.given.page_size
 table_size f s t comes =
-    size_of_table f.given t.rounds f.texts.main f.readings t comes.advances.is_page_size comes.advances.are_readings.has_main comes.advances.has_rounds.has_put.has_loaded
+    size_of_table f.given t.rounds f.texts.main f.readings t comes.advances.is_page_size comes.advances.are_readings.has_main
+    comes.advances.has_rounds.has_put.has_loaded
 
 -- the records that wait are of pages of the table, and the reading's
 pub fits_here : (f : Feeding) (s : FedSources) (t : LoadTarget) (round : RoundOfRecords) → RoundIsDue f s t → Some round ≡ s.main.round
@@ -80,7 +82,8 @@ fits_here f s t round comes is =
     let k : ℕ = t.rounds in
     let size = comes.advances.is_page_size in
     let are = comes.advances.are_readings.has_main in
-    let waits : IsMainRound given k f.texts.main.bytes round = subst (λ (o : Option RoundOfRecords). IfSome o (IsMainRound given k f.texts.main.bytes)) (sym is) comes.advances.holds.main.has_round in
+    let waits : IsMainRound given k f.texts.main.bytes round =
+    subst (λ (o : Option RoundOfRecords). IfSome o (IsMainRound given k f.texts.main.bytes)) (sym is) comes.advances.holds.main.has_round in
     let table : Some t.memory.table ≡ are.found.table =
     sym (table_is k f.readings t comes.advances.has_rounds.has_put.has_loaded) ∙ ap (λ (r : StreamReading). r.table) are.has_end in (
       record {
@@ -98,13 +101,16 @@ sizes_fit f s t packets comes sizes =
     subst (λ (n : ℕ). All (λ (packet : Packet). packet.page_size ≡ n) packets) (sym (table_size f s t comes))
     (sizes f.given.page_size (sizes_here f.given f.uuid t.rounds f.texts s comes.advances.holds))
 
-gathered_are : (f : Feeding) (s : FedSources) (t : LoadTarget) (packets : List Fields) → RoundIsDue f s t → packets ≡ packets_of_all s.channels → packets ≡ packets_at f.given.page_size t.rounds f.readings
+gathered_are : (f : Feeding) (s : FedSources) (t : LoadTarget) (packets : List Fields) → RoundIsDue f s t
+    → packets ≡ packets_of_all s.channels → packets ≡ packets_at f.given.page_size t.rounds f.readings
 gathered_are f s t packets comes are =
     are ∙ packets_here f.given f.uuid t.rounds f.texts f.readings s comes.advances.is_page_size comes.advances.holds comes.advances.are_readings
 
 -- a lawful round passes, and is in the memory
-pub goes_in : (f : Feeding) (s : FedSources) (t new : LoadTarget) (round : RoundOfRecords) (packets : List Fields) (x : ⊤) → RoundIsDue f s t → Some round ≡ s.main.round
-    → packets ≡ packets_of_all s.channels → refusal t.memory.table t.base (pages_of_round round) packets ≡ None → new ≡ after_round t round packets → new.base ≤ 2 ^ 63
+pub goes_in : (f : Feeding) (s : FedSources) (t new : LoadTarget) (round : RoundOfRecords) (packets : List Fields) (x : ⊤)
+    → RoundIsDue f s t → Some round ≡ s.main.round
+    → packets ≡ packets_of_all s.channels → refusal t.memory.table t.base (pages_of_round round) packets ≡ None
+    → new ≡ after_round t round packets → new.base ≤ 2 ^ 63
     → PutsOrRefuses f t (Ok x) new
 goes_in f s t new round packets x comes is are lawful after few =
     let p : ℕ = f.given.page_size in
@@ -130,17 +136,25 @@ goes_in f s t new round packets x comes is are lawful after few =
     )
 
 -- one that isn't ends the load, and so does a refused allocation
-pub stays_out : (f : Feeding) (s : FedSources) (t new : LoadTarget) (round : RoundOfRecords) (packets : List Fields) (found : LoadFault) → RoundIsDue f s t → Some round ≡ s.main.round
-    → packets ≡ packets_of_all s.channels → IsRoundError t.rounds (refusal t.memory.table t.base (pages_of_round round) packets) (Err found) → new ≡ t → PutsOrRefuses f t (Err found) new
+pub stays_out : (f : Feeding) (s : FedSources)
+    (t new : LoadTarget) (round : RoundOfRecords) (packets : List Fields) (found : LoadFault) → RoundIsDue f s t → Some round ≡ s.main.round
+    → packets ≡ packets_of_all s.channels → IsRoundError t.rounds (refusal t.memory.table t.base (pages_of_round round) packets)
+    (Err found) → new ≡ t → PutsOrRefuses f t (Err found) new
 stays_out f s t new round packets found comes is are refused same = elim refused [
-  | inl without ↦ (same, inr (let e : found ≡ record { round = t.rounds; source = origin.Round; fault = fault.NoMemory } = cc in ap (λ (x : LoadFault). x.fault) e))
+  | inl without ↦ (
+    same,
+    inr (let e : found ≡ record { round = t.rounds; source = origin.Round; fault = fault.NoMemory } = cc in
+        ap (λ (x : LoadFault). x.fault) e),
+  )
   | inr w ↦
       let fits = fits_here f s t round comes is in
       let gathered = gathered_are f s t packets comes are in
       let why : refusal_at t.rounds f.readings ≡ Some w.0 =
-      refusal_of_round f.given.page_size f.readings t round packets (table_size f s t comes) comes.advances.has_rounds.has_put.has_loaded fits.0 fits.1 gathered ∙ w.1 in
+      refusal_of_round f.given.page_size f.readings t round packets
+      (table_size f s t comes) comes.advances.has_rounds.has_put.has_loaded fits.0 fits.1 gathered ∙ w.1 in
       let stops = due_refused t.rounds f.readings w.0 comes.is_due why in
-      let other : found.fault ≢ fault.NoMemory = λ e. let bad : fault.Round w.0 ≡ fault.NoMemory = sym (ap (λ (x : LoadFault). x.fault) w.2) ∙ e in absurd cc in (
+      let other : found.fault ≢ fault.NoMemory = λ e. let bad : fault.Round w.0 ≡ fault.NoMemory =
+      sym (ap (λ (x : LoadFault). x.fault) w.2) ∙ e in absurd cc in (
         same,
         inl (
           other,
@@ -154,12 +168,9 @@ stays_out f s t new round packets found comes is are refused same = elim refused
       )
 ]
 
--- its packets couldn't be gathered
-pub stays_without : (f : Feeding) (t new : LoadTarget) (n : ℕ) (result : Result ⊤ LoadFault) → result ≡ no_memory_at n → new ≡ t → PutsOrRefuses f t result new
-stays_without f t new n result is same = subst (λ (r : Result ⊤ LoadFault). PutsOrRefuses f t r new) (sym is) (same, inr refl)
-
 -- after it the next one is due
-pub next_advances : (f : Feeding) (s next : FedSources) (t new : LoadTarget) → Advances f s (Some t) → HasRounds f.readings (Some new) → new.rounds ≡ t.rounds + 1
+pub next_advances : (f : Feeding) (s next : FedSources) (t new : LoadTarget) → Advances f s (Some t)
+    → HasRounds f.readings (Some new) → new.rounds ≡ t.rounds + 1
     → Holds f.given f.uuid (t.rounds + 1) f.texts next → Advances f next (Some new)
 next_advances f s next t new advances has count holds = record {
   is_page_size = advances.is_page_size;
@@ -171,7 +182,8 @@ next_advances f s next t new advances has count holds = record {
 -- ---- before the table
 
 -- there is no round, and there is a verdict
-pub told_without : (f : Feeding) (s : FedSources) (v : Verdict) → Advances f s None → f.readings.main.table ≡ None → TellsAll 0 s (Some v) → TellsVerdict f.readings None v
+pub told_without : (f : Feeding) (s : FedSources) (v : Verdict) → Advances f s None → f.readings.main.table ≡ None
+    → TellsAll 0 s (Some v) → TellsVerdict f.readings None v
 told_without f s v advances none told =
     let here = told_here 0 f.readings v (told f.given f.uuid f.texts f.readings advances.is_page_size advances.holds advances.are_readings) in
     record {
@@ -181,14 +193,18 @@ told_without f s v advances none told =
       has_verdict = here.1;
     }
 
+-- while the main stream has no size list, the sources have a verdict at the first round
 pub some_told : (f : Feeding) (s : FedSources) → Advances f s None → f.readings.main.table ≡ None → TellsAll 0 s None → ⊥
 some_told f s advances none told =
     let are = advances.are_readings.has_main in
     let due : IsDue 0 f.readings = sym (told f.given f.uuid f.texts f.readings advances.is_page_size advances.holds advances.are_readings) in
-    let whole : is_whole (main_status 0 f.readings.main) ≡ true = All-head IsWhole (main_at 0 f.readings) (channels_at 0 f.readings) (due_sources 0 f.readings due).0 in
+    let whole : is_whole (main_status 0 f.readings.main) ≡ true =
+    All-head IsWhole (main_at 0 f.readings) (channels_at 0 f.readings) (due_sources 0 f.readings due).0 in
     let table : are.found.table ≡ None = sym (ap (λ (r : StreamReading). r.table) are.has_end) ∙ none in
-    let empty : are.found.rounds ≡ [] = (limits_law (main_of f.given) f.texts.main.bytes are.found advances.is_page_size are.is_reading).has_table_first table in
-    let zero : 0 ≡ length f.readings.main.rounds = sym (ap (λ (r : StreamReading). length r.rounds) are.has_end ∙ ap (λ (l : List (List PageRecord)). length l) empty) in
+    let empty : are.found.rounds ≡ [] = (limits_law
+    (main_of f.given) f.texts.main.bytes are.found advances.is_page_size are.is_reading).has_table_first table in
+    let zero : 0 ≡ length f.readings.main.rounds =
+    sym (ap (λ (r : StreamReading). length r.rounds) are.has_end ∙ ap (λ (l : List (List PageRecord)). length l) empty) in
     let other : is_whole (main_status 0 f.readings.main) ≡ false =
     ap is_whole (status_end 0 (length f.readings.main.rounds) (stream_end f.readings.main.state) zero) ∙ stream_ends f.readings.main.state in absurd cc
 
@@ -200,7 +216,8 @@ table_found f s table advances has =
     ap (λ (r : StreamReading). r.table) same ∙ sym has.2
 
 -- a memory of zeros has no round
-pub zeros_advance : (f : Feeding) (s : FedSources) (table : RamTable) (t : LoadTarget) → Advances f s None → f.readings.main.table ≡ Some table → t ≡ new_target table → Advances f s (Some t)
+pub zeros_advance : (f : Feeding) (s : FedSources) (table : RamTable) (t : LoadTarget) → Advances f s None
+    → f.readings.main.table ≡ Some table → t ≡ new_target table → Advances f s (Some t)
 zeros_advance f s table t advances is_table is = rw is (record {
   is_page_size = advances.is_page_size;
   are_readings = advances.are_readings;
@@ -208,36 +225,49 @@ zeros_advance f s table t advances is_table is = rw is (record {
   has_rounds = record {
     have_passed = λ j below. absurd (omega (arith, below));
     has_put = record {
-      has_loaded = record { has_memory = after_nothing table f.readings is_table; has_named = named_at_first table f.readings is_table; has_rounds = refl; has_base = refl };
+      has_loaded = record {
+        has_memory = after_nothing table f.readings is_table;
+        has_named = named_at_first table f.readings is_table;
+        has_rounds = refl;
+        has_base = refl;
+      };
       is_few = omega arith;
     };
   };
 })
 
 -- what the judging leaves, whichever it is
-pub judged : (f : Feeding) (s : FedSources) (t new : LoadTarget) (round : RoundOfRecords) (packets : List Fields) (result : Result ⊤ LoadFault) → RoundIsDue f s t → Some round ≡ s.main.round
-    → packets ≡ packets_of_all s.channels → OnOk result (refusal t.memory.table t.base (pages_of_round round) packets ≡ None) → OnOk result (new ≡ after_round t round packets)
-    → OnOk result (new.base ≤ 2 ^ 63) → IsRoundError t.rounds (refusal t.memory.table t.base (pages_of_round round) packets) result → OnErr result (new ≡ t) → PutsOrRefuses f t result new
+pub judged : (f : Feeding) (s : FedSources)
+    (t new : LoadTarget) (round : RoundOfRecords) (packets : List Fields) (result : Result ⊤ LoadFault) → RoundIsDue f s t → Some round ≡ s.main.round
+    → packets ≡ packets_of_all s.channels → OnOk result (refusal t.memory.table t.base (pages_of_round round) packets ≡ None)
+    → OnOk result (new ≡ after_round t round packets)
+    → OnOk result (new.base ≤ 2 ^ 63) → IsRoundError t.rounds
+    (refusal t.memory.table t.base (pages_of_round round) packets) result → OnErr result (new ≡ t) → PutsOrRefuses f t result new
 judged f s t new round packets (Ok x) comes is are lawful after few refused same = goes_in f s t new round packets x comes is are lawful after few
 judged f s t new round packets (Err found) comes is are lawful after few refused same = stays_out f s t new round packets found comes is are refused same
 
 -- ---- a target that isn't there yet
 
+-- an option that was asked whether it is Some, and answered false, is None
 pub none_where : {X : Type 0} {b : Bool} (o : Option X) → b ≡ is_some o → b ≡ false → o ≡ None
 none_where None e f = refl
 none_where (Some x) e f = let bad : true ≡ false = sym e ∙ f in absurd cc
 
+-- a verdict is None where the answer that there is none is true
 pub none_told_of : {b : Bool} (o : Option Verdict) → is_some o ≡ not b → b ≡ true → o ≡ None
 none_told_of None e t = refl
 none_told_of (Some v) e t = let bad : true ≡ false = e ∙ ap not t in absurd cc
 
 -- a round that isn't put ends the judging
-pub fails : {E : Type 0} (f : Feeding) (s : FedSources) (t new : LoadTarget) (found : LoadFault) (result : Result Verdict E) → Advances f s (Some t) → PutsOrRefuses f t (Err found) new
-    → IfOk result (λ verdict. (verdict ≡ Failed found) × (found.fault ≢ fault.NoMemory)) → OnErr result (found.fault ≡ fault.NoMemory) → HasAdvanced f s (Some new) result
+pub fails : {E : Type 0} (f : Feeding) (s : FedSources) (t new : LoadTarget) (found : LoadFault) (result : Result Verdict E)
+    → Advances f s (Some t) → PutsOrRefuses f t (Err found) new
+    → IfOk result (λ verdict. (verdict ≡ Failed found) × (found.fault ≢ fault.NoMemory))
+    → OnErr result (found.fault ≡ fault.NoMemory) → HasAdvanced f s (Some new) result
 fails f s t new found (Ok v) advances put ok err = record {
   advances = subst (λ (x : LoadTarget). Advances f s (Some x)) (sym put.0) advances;
   is_told = elim put.1 [
-    | inl told ↦ subst (λ (x : LoadTarget). TellsVerdict f.readings (Some x) v) (sym put.0) (subst (λ (w : Verdict). TellsVerdict f.readings (Some t) w) (sym ok.0) told.1)
+    | inl told ↦ subst (λ (x : LoadTarget). TellsVerdict f.readings (Some x) v) (sym put.0)
+        (subst (λ (w : Verdict). TellsVerdict f.readings (Some t) w) (sym ok.0) told.1)
     | inr wants ↦ absurd (ok.1 wants)
   ];
 }

@@ -9,13 +9,13 @@ use Rattle.mig_packet.specs.declared.state.ChannelState.{ChannelState}
 use Rattle.mig_packet.specs.Packet.{fields_of}
 use Rattle.mig_packet.specs.Progress.{ChannelProgress}
 use Rattle.mig_packet.specs.Reading.{Settings, ChannelReading, IsReading, state_at}
-use Rattle.mig_packet.specs.Reader.{Reader, RoundOfPackets, Stands, StepsOn, Tells, with_taken, with_piece as read_piece, over as read_over, one_taken, HasRound, HasState, HasHello}
+use Rattle.mig_packet.specs.Reader.{Reader, RoundOfPackets, Stands, StepsOn, Tells, with_taken, with_piece as read_piece, one_taken, HasRound, HasState, HasHello}
 use Rattle.mig_packet.proofs.Exists.{one_reading_law}
 use Rattle.mig_answer.specs.declared.status.Status.{Status}
 use Rattle.mig_answer.specs.declared.status.Status.TheVariants.{Whole}
 use Rattle.mig_single_load.specs.declared.fault.Fault.{Fault}
 use Rattle.mig_answer.specs.Status.{channel_status, channel_end, is_whole, fault_of}
-use Rattle.mig_answer.specs.Texts.{Text, with_piece, over}
+use Rattle.mig_answer.specs.Texts.{Text, with_piece}
 use Rattle.mig_answer.specs.Rounds.{channel_packets_at}
 use Rattle.mig_session.specs.Sources.{FedChannel, HoldsChannel, IsChannelRound, TakesChannel, TellsChannelStatus, TellsHello, channel_so_far, with_one, packets_of, IsOfSize}
 use Rattle.mig_session.specs.Session.{HasChannelFault}
@@ -28,6 +28,7 @@ kept reader round = record { reader = reader; round = round }
 
 -- ---- the next round is taken
 
+-- a channel moves on to its next round, or to none if the reader has none complete
 pub takes_next : (o : Option RoundOfPackets) (old now : Reader) → IfNone o (now ≡ old)
     → IfNone o (Tells old (λ given so_far. (i : ℕ) (round : List (List ℕ)) → HasRound given so_far.text i round → i < so_far.taken))
     → IfSome o (λ r. Tells old (λ given so_far. (r.page_size ≡ given.page_size) × HasRound given so_far.text so_far.taken r.packets))
@@ -49,7 +50,8 @@ takes_next (Some r) old now same last is step round = λ given k text stands.
 -- ---- a piece comes
 
 -- after a round that waits
-pub fed_behind : (given : Settings) (k : ℕ) (text : Text) (piece : List ℕ) (old now : Reader) (r : RoundOfPackets) → IsPageSize given.page_size → StepsOn (read_piece piece) old now
+pub fed_behind : (given : Settings) (k : ℕ) (text : Text) (piece : List ℕ) (old now : Reader) (r : RoundOfPackets)
+    → IsPageSize given.page_size → StepsOn (read_piece piece) old now
     → HoldsChannel given k text (kept old (Some r)) → HoldsChannel given k (with_piece piece text) (kept now (Some r))
 fed_behind given k text piece old now r size step holds = record {
   stands = step given (channel_so_far text (k + 1)) holds.stands;
@@ -61,16 +63,10 @@ fed_behind given k text piece old now r size step holds = record {
 }
 
 -- if none does
-pub fed_open : (given : Settings) (k : ℕ) (text : Text) (piece : List ℕ) (old now : Reader) → StepsOn (read_piece piece) old now → HoldsChannel given k text (kept old None)
+pub fed_open : (given : Settings) (k : ℕ) (text : Text) (piece : List ℕ) (old now : Reader) → StepsOn (read_piece piece) old now
+    → HoldsChannel given k text (kept old None)
     → Stands given (channel_so_far (with_piece piece text) k) now
 fed_open given k text piece old now step holds = step given (channel_so_far text k) holds.stands
-
--- ---- the channel has ended
-
-pub holds_over : (given : Settings) (k : ℕ) (text : Text) (old now : Reader) (round : Option RoundOfPackets) → StepsOn read_over old now
-    → HoldsChannel given k text (kept old round) → HoldsChannel given k (over text) (kept now round)
-holds_over given k text old now None step holds = record { stands = step given (channel_so_far text k) holds.stands; has_round = tt; has_none = holds.has_none }
-holds_over given k text old now (Some r) step holds = record { stands = step given (channel_so_far text (k + 1)) holds.stands; has_round = holds.has_round; has_none = tt }
 
 -- ---- what it says
 
@@ -94,7 +90,8 @@ taken_are_there given text taken r reading stands is =
 
 -- if no round waits there is none
 none_further : (given : Settings) (k : ℕ) (text : Text) (reading : ChannelReading) → IsPageSize given.page_size
-    → ((i : ℕ) (packets : List (List ℕ)) → HasRound given text.bytes i packets → i < k) → IsReading given text.bytes text.ended reading → length reading.rounds ≤ k
+    → ((i : ℕ) (packets : List (List ℕ)) → HasRound given text.bytes i packets → i < k)
+    → IsReading given text.bytes text.ended reading → length reading.rounds ≤ k
 none_further given k text reading size none is = elim (cases_lt k (length reading.rounds)) [
   | inr le ↦ le
   | inl lt ↦
@@ -114,16 +111,21 @@ waits_here given k text r reading round is =
       ap (λ (l : List (List (List ℕ))). get_or l k []) (sym same) ∙ has.3,
     )
 
-pub none_waits : (given : Settings) (k : ℕ) (text : Text) (reader : Reader) (reading : ChannelReading) → IsPageSize given.page_size → HoldsChannel given k text (kept reader None)
+-- if a channel keeps no round, all the complete rounds of its reading were judged
+pub none_waits : (given : Settings) (k : ℕ) (text : Text) (reader : Reader) (reading : ChannelReading)
+    → IsPageSize given.page_size → HoldsChannel given k text (kept reader None)
     → IsReading given text.bytes text.ended reading → k ≡ length reading.rounds
 none_waits given k text reader reading size holds is =
     omega (arith, taken_are_there given text k reader reading holds.stands is, none_further given k text reading size holds.has_none is)
 
+-- a channel that keeps a round has the status Whole
 pub tells_whole : (reader : Reader) (r : RoundOfPackets) → TellsChannelStatus (kept reader (Some r)) Whole
 tells_whole reader r = λ given k text reading size holds is.
     sym (status_whole k (length reading.rounds) (channel_end reading.state) (waits_here given k text r reading holds.has_round is).0)
 
-pub tells_end : (reader : Reader) (state : ChannelState) (status : Status) → Tells reader (λ given so_far. HasState given so_far.text so_far.ended state) → status ≡ channel_end state
+-- a channel that keeps no round has the status of its reader's state
+pub tells_end : (reader : Reader) (state : ChannelState) (status : Status)
+    → Tells reader (λ given so_far. HasState given so_far.text so_far.ended state) → status ≡ channel_end state
     → TellsChannelStatus (kept reader None) status
 tells_end reader state status tells e = λ given k text reading size holds is.
     let has = tells given (channel_so_far text k) holds.stands in
@@ -132,13 +134,15 @@ tells_end reader state status tells e = λ given k text reading size holds is.
     e ∙ ap channel_end (has.2 ∙ ap (λ (x : ChannelReading). x.state) same)
     ∙ sym (status_end k (length reading.rounds) (channel_end reading.state) (none_waits given k text reader reading size holds is))
 
+-- a hello id that the reader's bytes have is the channel's hello
 pub tells_hello : (c : FedChannel) (hello : Option ℕ) → Tells c.reader (λ given so_far. HasHello given so_far.text hello) → TellsHello c hello
 tells_hello c hello tells = λ given k text reading size holds is.
     let has = tells given (channel_so_far text (with_one k c.round)) holds.stands in
     has.2 ∙ (same_rounds given text.bytes false text.ended has.0 reading has.1 is).1
 
 -- the fault of the bytes is the reading's
-pub fault_is : (given : Settings) (text : Text) (reading : ChannelReading) (found : Option Fault) → IsPageSize given.page_size → HasChannelFault given text found → IsReading given text.bytes text.ended reading
+pub fault_is : (given : Settings) (text : Text) (reading : ChannelReading) (found : Option Fault) → IsPageSize given.page_size
+    → HasChannelFault given text found → IsReading given text.bytes text.ended reading
     → found ≡ fault_of (channel_end reading.state)
 fault_is given text reading found size has is =
     let state = has.1 in
@@ -153,8 +157,10 @@ fault_told None false e = absurd cc
 fault_told (Some f) true e = absurd cc
 fault_told (Some f) false e = (λ t. absurd cc, λ none. absurd cc)
 
+-- a channel that keeps no round has the judged rounds alone exactly if its bytes have no fault
 pub only_of : (reader : Reader) (o : Option RoundOfPackets) (found : Option Fault) (told : Bool)
-    → ((given : Settings) (k : ℕ) (text : Text) → HoldsChannel given k text (kept reader o) → HasChannelFault given text found) → is_some o ≡ false → is_some found ≡ not told → TellsOnly (kept reader o) told
+    → ((given : Settings) (k : ℕ) (text : Text) → HoldsChannel given k text (kept reader o) → HasChannelFault given text found)
+    → is_some o ≡ false → is_some found ≡ not told → TellsOnly (kept reader o) told
 only_of reader (Some r) found told has none e = absurd cc
 only_of reader None found told has none e = λ given k text reading size holds is.
     let fault : found ≡ fault_of (channel_end reading.state) = fault_is given text reading found size (has given k text holds) is in
@@ -172,7 +178,8 @@ not_only reader (Some r) some = λ given k text reading size holds is. (
 )
 
 -- a channel that has the round has one that waits
-pub whole_waits : (given : Settings) (k : ℕ) (text : Text) (c : FedChannel) (reading : ChannelReading) → IsPageSize given.page_size → HoldsChannel given k text c
+pub whole_waits : (given : Settings) (k : ℕ) (text : Text) (c : FedChannel) (reading : ChannelReading)
+    → IsPageSize given.page_size → HoldsChannel given k text c
     → IsReading given text.bytes text.ended reading → is_whole (channel_status k reading) ≡ true → c.round ≢ None
 whole_waits given k text c reading size holds is whole none =
     let here : HoldsChannel given k text (kept c.reader None) = subst (λ (o : Option RoundOfPackets). HoldsChannel given k text (kept c.reader o)) none holds in
@@ -182,20 +189,25 @@ whole_waits given k text c reading size holds is whole none =
 
 -- ---- its packets
 
-pub same_packets : (given : Settings) (k : ℕ) (text : Text) (c : FedChannel) (reading : ChannelReading) → IsPageSize given.page_size → HoldsChannel given k text c
+-- the packets of a channel's kept round are those of round k of its reading
+pub same_packets : (given : Settings) (k : ℕ) (text : Text) (c : FedChannel) (reading : ChannelReading)
+    → IsPageSize given.page_size → HoldsChannel given k text c
     → IsReading given text.bytes text.ended reading → packets_of c ≡ channel_packets_at given.page_size k reading
 same_packets given k text c reading size holds is = go c.round refl
   where
     go : (o : Option RoundOfPackets) → c.round ≡ o → packets_of (kept c.reader o) ≡ channel_packets_at given.page_size k reading
     go None e =
-        let here : HoldsChannel given k text (kept c.reader None) = subst (λ (x : Option RoundOfPackets). HoldsChannel given k text (kept c.reader x)) e holds in
+        let here : HoldsChannel given k text (kept c.reader None) =
+        subst (λ (x : Option RoundOfPackets). HoldsChannel given k text (kept c.reader x)) e holds in
         let all = none_waits given k text c.reader reading size here is in
         sym (ap (map (fields_of given.page_size)) (get_or-eq_default reading.rounds [] (omega (arith, all))))
     go (Some r) e =
-        let here : HoldsChannel given k text (kept c.reader (Some r)) = subst (λ (x : Option RoundOfPackets). HoldsChannel given k text (kept c.reader x)) e holds in
+        let here : HoldsChannel given k text (kept c.reader (Some r)) =
+        subst (λ (x : Option RoundOfPackets). HoldsChannel given k text (kept c.reader x)) e holds in
         let waits = waits_here given k text r reading here.has_round is in
         ap (λ (n : ℕ). map (fields_of n) r.packets) here.has_round.has_page_size ∙ ap (map (fields_of given.page_size)) (sym waits.1)
 
+-- a channel's kept round has the page size of the settings
 pub of_size : (given : Settings) (k : ℕ) (text : Text) (c : FedChannel) → HoldsChannel given k text c → IsOfSize given.page_size c
 of_size given k text c holds = go c.round refl
   where
@@ -204,29 +216,39 @@ of_size given k text c holds = go c.round refl
     go (Some r) e = (subst (λ (x : Option RoundOfPackets). IfSome x (IsChannelRound given k text.bytes)) e holds.has_round).has_page_size
 
 -- after a round that waits its reader has given one more
-pub stands_next : (given : Settings) (k : ℕ) (text : Text) (c : FedChannel) → HoldsChannel given k text c → c.round ≢ None → Stands given (channel_so_far text (k + 1)) c.reader
+pub stands_next : (given : Settings) (k : ℕ) (text : Text) (c : FedChannel) → HoldsChannel given k text c → c.round ≢ None
+    → Stands given (channel_so_far text (k + 1)) c.reader
 stands_next given k text c holds some = go c.round some holds.stands
   where
-    go : (o : Option RoundOfPackets) → o ≢ None → Stands given (channel_so_far text (with_one k o)) c.reader → Stands given (channel_so_far text (k + 1)) c.reader
+    go : (o : Option RoundOfPackets) → o ≢ None → Stands given (channel_so_far text (with_one k o)) c.reader
+        → Stands given (channel_so_far text (k + 1)) c.reader
     go None some stands = absurd (some refl)
     go (Some r) some stands = stands
 
 -- ---- whether a round waits
 
-pub where_some : (reader : Reader) (o : Option RoundOfPackets) (status : Status) → ((r : RoundOfPackets) → TellsChannelStatus (kept reader (Some r)) status) → is_some o ≡ true → TellsChannelStatus (kept reader o) status
+-- where a channel keeps a round, its status is the one that it has with any round kept
+pub where_some : (reader : Reader) (o : Option RoundOfPackets) (status : Status)
+    → ((r : RoundOfPackets) → TellsChannelStatus (kept reader (Some r)) status) → is_some o ≡ true → TellsChannelStatus (kept reader o) status
 where_some reader None status tells e = absurd cc
 where_some reader (Some r) status tells e = tells r
 
-pub where_none : (reader : Reader) (o : Option RoundOfPackets) (status : Status) → TellsChannelStatus (kept reader None) status → is_some o ≡ false → TellsChannelStatus (kept reader o) status
+-- where a channel keeps no round, its status is the one that it has without
+pub where_none : (reader : Reader) (o : Option RoundOfPackets) (status : Status) → TellsChannelStatus (kept reader None) status
+    → is_some o ≡ false → TellsChannelStatus (kept reader o) status
 where_none reader None status tells e = tells
 where_none reader (Some r) status tells e = absurd cc
 
-pub fed_where_none : (given : Settings) (k : ℕ) (text : Text) (piece : List ℕ) (old now : Reader) (o : Option RoundOfPackets) → StepsOn (read_piece piece) old now
+-- if no round is kept, a piece leaves the reader at the bytes with it, with k rounds taken
+pub fed_where_none : (given : Settings) (k : ℕ) (text : Text) (piece : List ℕ) (old now : Reader) (o : Option RoundOfPackets)
+    → StepsOn (read_piece piece) old now
     → HoldsChannel given k text (kept old o) → is_some o ≡ false → Stands given (channel_so_far (with_piece piece text) k) now
 fed_where_none given k text piece old now None step holds e = fed_open given k text piece old now step holds
 fed_where_none given k text piece old now (Some r) step holds e = absurd cc
 
-pub fed_where_some : (given : Settings) (k : ℕ) (text : Text) (piece : List ℕ) (old now : Reader) (o : Option RoundOfPackets) → IsPageSize given.page_size → StepsOn (read_piece piece) old now
+-- a channel that keeps a round still keeps it once its reader has read a piece
+pub fed_where_some : (given : Settings) (k : ℕ) (text : Text) (piece : List ℕ) (old now : Reader) (o : Option RoundOfPackets)
+    → IsPageSize given.page_size → StepsOn (read_piece piece) old now
     → HoldsChannel given k text (kept old o) → is_some o ≡ true → HoldsChannel given k (with_piece piece text) (kept now o)
 fed_where_some given k text piece old now None size step holds e = absurd cc
 fed_where_some given k text piece old now (Some r) size step holds e = fed_behind given k text piece old now r size step holds

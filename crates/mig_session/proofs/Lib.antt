@@ -1,7 +1,7 @@
 mod KeptChannel
 mod KeptMain
 pub mod Telling
-mod KeptSources
+pub mod KeptSources
 mod Advances
-mod Sessions
+pub mod Sessions
 mod Pumped

@@ -8,7 +8,6 @@ use Rattle.std.proofs.lemmas.List.{length-append, append-nil, length-map, length
 use Rattle.std.proofs.lemmas.List.Elements.{All-nil, All-cons, All-head, All-tail}
 use Rattle.mig_mem.specs.PageSize.{IsPageSize}
 use Rattle.mig_mem.specs.RamTable.{RamTable}
-use Rattle.mig_mem.specs.PlaceSet.{PlaceSet}
 use Rattle.mig_mem.specs.Round.{after}
 use Rattle.mig_stream.specs.declared.item.StreamState.TheVariants.{Reading, Closed}
 use Rattle.mig_stream.specs.Progress.{StreamProgress, start}
@@ -23,8 +22,6 @@ use Rattle.mig_packet.specs.Progress.{ChannelProgress, start as channel_start}
 use Rattle.mig_packet.proofs.Feeding.{reads_short as channel_short}
 use Rattle.mig_packet.specs.Reading.{Settings, ChannelReading, IsReading, Reads as ChannelReads}
 use Rattle.mig_assemble.specs.Target.{LoadTarget}
-use Rattle.mig_assemble.specs.NamedPlaces.{named_by, left_out}
-use Rattle.mig_assemble.proofs.Naming.{missing_is}
 use Rattle.mig_session.specs.declared.counts.Count.{Count}
 use Rattle.mig_session.specs.declared.places.Noted.{Noted}
 use Rattle.mig_session.specs.declared.source.Source.{Source}
@@ -39,15 +36,16 @@ use Rattle.mig_answer.specs.declared.verdict.Verdict.{Verdict}
 use Rattle.mig_answer.specs.declared.verdict.Verdict.TheVariants.{Running, Done, Failed}
 use Rattle.mig_answer.specs.Status.{status_at, stream_end, channel_end, channel_status, is_whole, is_pending, is_clean, fault_of}
 use Rattle.mig_answer.specs.Texts.{Text, Texts, Readings, IsMainReading, AreReadings, no_text, no_texts, with_piece, over}
-use Rattle.mig_answer.specs.Rounds.{memory_at, named_at, places_in_rounds, missing_after, base_at, pages_at}
+use Rattle.mig_answer.specs.Rounds.{memory_at, named_at, missing_at, base_at, pages_at}
 use Rattle.mig_answer.specs.MultiLoad.{IsAnswer, Standing, main_at, channels_at, passes, IsFirstStop, verdict_at}
 use Rattle.mig_answer.specs.Growing.{GoesOn, GoOn}
 use Rattle.mig_session.specs.Sources.{Counts, Places, FedChannel, FedSources, main_count, channel_count, counts_of, HoldsChannel, Holds, TellsAll}
-use Rattle.mig_session.specs.Session.{LoadSession, rounds_loaded, missing_in, answer_in, HasSource, count_of, no_count, with_count, with_fed, with_end, count_in, counts_in, at_source, feed_step, end_step, HasBase, IsRunning, HasFault, HasMainFault, HasChannelFault, place_of, noted_fault, nothing_noted, IsNotedOfChannel, HasPlaces, HavePlaces, IsSourceValidUpTo, HasOnly, HasAllRounds, HasNamed, HasMissing, AsRead, StandsFor, LacksMemory, StandsForSome, IsSession}
+use Rattle.mig_session.specs.Session.{LoadSession, rounds_loaded, missing_in, answer_in, HasSource, count_of, no_count, with_count, with_fed, with_end, count_in, counts_in, at_source, feed_step, end_step, HasBase, IsRunning, HasFault, HasMainFault, HasChannelFault, place_of, noted_fault, nothing_noted, IsNotedOfChannel, HasPlaces, HavePlaces, IsSourceValidUpTo, HasOnly, HasAllRounds, HasMissing, AsRead, StandsFor, LacksMemory, StandsForSome, IsSession}
 use Rattle.mig_session.specs.Advancing.{Feeding, HasPutRounds, HasRounds, Advances, TellsVerdict, HasAdvanced, HasTaken, failed_without_memory, IsDue, TellAllIn}
+use Rattle.mig_answer.proofs.NamedRounds.{counted_missing, no_missing}
 use Rattle.mig_answer.proofs.Statuses.{status_whole, status_end, stream_ends, channel_ends, clean_at, stream_closed, passes_all}
 use Rattle.mig_answer.proofs.Never.{done_is_clean}
-use Rattle.mig_answer.proofs.Judged.{IsWhole, IsSettled, settled_is_told}
+use Rattle.mig_answer.proofs.Judged.{IsWhole, IsFinal, settled_is_told}
 use Rattle.mig_answer.proofs.OneAnswer.{same_main, some_readings, same_readings}
 use Rattle.mig_session.proofs.KeptMain.{same_found, fault_is as main_fault}
 use Rattle.mig_session.proofs.KeptChannel.{fault_is as channel_fault}
@@ -58,22 +56,26 @@ use Rattle.mig_answer.proofs.Growing.{ReadingsStay, readings_stay, pass_still, m
 
 -- ---- how much has come
 
-channels_counted : (given : Settings) (k : ℕ) (texts : List Text) (channels : List FedChannel) → AllZip (HoldsChannel given k) texts channels → map channel_count channels ≡ map count_in texts
+channels_counted : (given : Settings) (k : ℕ) (texts : List Text) (channels : List FedChannel)
+    → AllZip (HoldsChannel given k) texts channels → map channel_count channels ≡ map count_in texts
 channels_counted given k [] [] holds = refl
 channels_counted given k [] (c ∷ channels) holds = absurd holds
 channels_counted given k (text ∷ texts) [] holds = absurd holds
 channels_counted given k (text ∷ texts) (c ∷ channels) holds =
     let here : channel_count c ≡ count_in text =
-    ap (λ (n : ℕ). record { fed = n; ended = c.reader.ended }) holds.0.stands.has_fed ∙ ap (λ (b : Bool). record { fed = length text.bytes; ended = b }) holds.0.stands.has_ended in
+    ap (λ (n : ℕ). record { fed = n; ended = c.reader.ended }) holds.0.stands.has_fed
+    ∙ ap (λ (b : Bool). record { fed = length text.bytes; ended = b }) holds.0.stands.has_ended in
     ap (λ (x : Count). x ∷ map channel_count channels) here ∙ ap (λ (l : List Count). count_in text ∷ l) (channels_counted given k texts channels holds.1)
 
+-- the counts of the sources are those of the streams that they represent
 pub held_counts : (given : LoadSettings) (uuid : List ℕ) (k : ℕ) (texts : Texts) (s : FedSources) → Holds given uuid k texts s → counts_of s ≡ counts_in texts
 held_counts given uuid k texts s holds =
     let m : main_count s.main ≡ count_in texts.main =
     ap (λ (n : ℕ). record { fed = n; ended = s.main.reader.ended }) holds.main.stands.has_fed
     ∙ ap (λ (b : Bool). record { fed = length texts.main.bytes; ended = b }) holds.main.stands.has_ended in
     ap (λ (x : Count). record { main = x; channels = map channel_count s.channels }) m
-    ∙ ap (λ (l : List Count). record { main = count_in texts.main; channels = l }) (channels_counted (channel_of given uuid (length texts.channels)) k texts.channels s.channels holds.channels)
+    ∙ ap (λ (l : List Count). record { main = count_in texts.main; channels = l })
+    (channels_counted (channel_of given uuid (length texts.channels)) k texts.channels s.channels holds.channels)
 
 -- a stream that takes a step has the count that does
 channel_stepped : (j : ℕ) (step : Text → Text) (by : Count → Count) (texts : List Text) → ((text : Text) → count_in (step text) ≡ by (count_in text))
@@ -85,26 +87,33 @@ channel_stepped (suc j) step by (text ∷ texts) same = ap (λ (l : List Count).
 counts_stepped : (from : Source) (step : Text → Text) (by : Count → Count) (texts : Texts) → ((text : Text) → count_in (step text) ≡ by (count_in text))
     → counts_in (at_source from step texts) ≡ with_count (counts_in texts) from (by (count_of (counts_in texts) from))
 counts_stepped source.Main step by texts same = ap (λ (c : Count). record { main = c; channels = map count_in texts.channels }) (same texts.main)
-counts_stepped (source.Channel j) step by texts same = ap (λ (l : List Count). record { main = count_in texts.main; channels = l }) (channel_stepped j step by texts.channels same)
+counts_stepped (source.Channel j) step by texts same =
+    ap (λ (l : List Count). record { main = count_in texts.main; channels = l }) (channel_stepped j step by texts.channels same)
 
+-- feeding a piece adds its length to the count of its source's bytes
 pub counts_fed : (from : Source) (piece : List ℕ) (texts : Texts) → counts_in (feed_step from piece texts) ≡ with_fed (counts_in texts) from (length piece)
 counts_fed from piece texts =
     counts_stepped from (with_piece piece) (λ (c : Count). record c { fed = c.fed + length piece }) texts
     (λ (text : Text). ap (λ (n : ℕ). record { fed = n; ended = text.ended }) (length-append text.bytes piece))
 
+-- ending a source sets the end in its count, and changes no other count
 pub counts_ended : (from : Source) (texts : Texts) → counts_in (end_step from texts) ≡ with_end (counts_in texts) from
 counts_ended from texts = counts_stepped from over (λ (c : Count). record c { ended = true }) texts (λ (text : Text). refl)
 
 -- ---- streams go on
 
-stays_same : (text : Text) → GoesOn text text
+-- a stream goes on to itself
+pub stays_same : (text : Text) → GoesOn text text
 stays_same text = record { more = []; has_bytes = sym (append-nil text.bytes); stays_ended = λ e. refl }
 
-all_same : (texts : List Text) → AllZip GoesOn texts texts
+-- each of some streams goes on to itself
+pub all_same : (texts : List Text) → AllZip GoesOn texts texts
 all_same [] = tt
 all_same (text ∷ texts) = (stays_same text, all_same texts)
 
-one_goes : (j : ℕ) (step : Text → Text) (texts : List Text) → GoesOn (get_or texts j no_text) (step (get_or texts j no_text)) → AllZip GoesOn texts (set texts j (step (get_or texts j no_text)))
+-- if one stream goes on with a step, each does where only that one takes it
+pub one_goes : (j : ℕ) (step : Text → Text) (texts : List Text) → GoesOn (get_or texts j no_text) (step (get_or texts j no_text))
+    → AllZip GoesOn texts (set texts j (step (get_or texts j no_text)))
 one_goes j step [] goes = tt
 one_goes zero step (text ∷ texts) goes = (goes, all_same texts)
 one_goes (suc j) step (text ∷ texts) goes = (stays_same text, one_goes j step texts goes)
@@ -114,19 +123,25 @@ abbrev text_of : Texts → Source → Text
 text_of texts source.Main = texts.main
 text_of texts (source.Channel j) = get_or texts.channels j no_text
 
-steps_on : (from : Source) (step : Text → Text) (texts : Texts) → GoesOn (text_of texts from) (step (text_of texts from)) → GoOn texts (at_source from step texts)
+steps_on : (from : Source) (step : Text → Text) (texts : Texts) → GoesOn (text_of texts from) (step (text_of texts from))
+    → GoOn texts (at_source from step texts)
 steps_on source.Main step texts goes = record { main = goes; channels = all_same texts.channels }
 steps_on (source.Channel j) step texts goes = record { main = stays_same texts.main; channels = one_goes j step texts.channels goes }
 
-is_open : (texts : Texts) (from : Source) → HasSource (counts_in texts) from → IsFalse (count_of (counts_in texts) from).ended → (text_of texts from).ended ≡ false
+is_open : (texts : Texts) (from : Source) → HasSource (counts_in texts) from → IsFalse (count_of (counts_in texts) from).ended
+    → (text_of texts from).ended ≡ false
 is_open texts source.Main there e = e
-is_open texts (source.Channel j) there e = sym (ap (λ (c : Count). c.ended) (get_or-map count_in texts.channels j no_text no_count (omega (arith, there, length-map texts.channels count_in)))) ∙ e
+is_open texts (source.Channel j) there e =
+    sym (ap (λ (c : Count). c.ended) (get_or-map count_in texts.channels j no_text no_count (omega (arith, there, length-map texts.channels count_in)))) ∙ e
 
-pub fed_goes_on : (from : Source) (piece : List ℕ) (texts : Texts) → HasSource (counts_in texts) from → IsFalse (count_of (counts_in texts) from).ended → GoOn texts (feed_step from piece texts)
+-- the streams go on with a piece of a source that exists and hasn't ended
+pub fed_goes_on : (from : Source) (piece : List ℕ) (texts : Texts) → HasSource (counts_in texts) from
+    → IsFalse (count_of (counts_in texts) from).ended → GoOn texts (feed_step from piece texts)
 fed_goes_on from piece texts there open_ =
     let e = is_open texts from there open_ in
     steps_on from (with_piece piece) texts (record { more = piece; has_bytes = refl; stays_ended = λ over. absurd cc })
 
+-- the streams go on as a source ends
 pub ended_goes_on : (from : Source) (texts : Texts) → GoOn texts (end_step from texts)
 ended_goes_on from texts =
     let text : Text = text_of texts from in
@@ -159,12 +174,17 @@ put_still before now (Some t) stays has =
 abbrev pub further : Feeding → Texts → Readings → Feeding
 further f texts readings = record { given = f.given; uuid = f.uuid; texts = texts; readings = readings }
 
-pub rounds_further : (f : Feeding) (s : FedSources) (target : Option LoadTarget) (texts : Texts) (readings : Readings) → Advances f s target → GoOn f.texts texts
+-- if the streams go on, the counted rounds are valid and applied by their new readings, too
+pub rounds_further : (f : Feeding) (s : FedSources) (target : Option LoadTarget) (texts : Texts) (readings : Readings)
+    → Advances f s target → GoOn f.texts texts
     → AreReadings f.given f.uuid texts readings → HasRounds readings target
 rounds_further f s target texts readings advances goes are =
-    put_still f.readings readings target (readings_stay f.given f.uuid f.texts texts f.readings readings advances.is_page_size goes advances.are_readings are) advances.has_rounds
+    put_still f.readings readings target (readings_stay f.given f.uuid f.texts texts f.readings readings advances.is_page_size
+    goes advances.are_readings are) advances.has_rounds
 
-pub advances_further : (f : Feeding) (s new : FedSources) (target : Option LoadTarget) (texts : Texts) (readings : Readings) → Advances f s target → GoOn f.texts texts
+-- if the streams go on and the sources represent them, the target counts the same rounds of them
+pub advances_further : (f : Feeding) (s new : FedSources) (target : Option LoadTarget) (texts : Texts) (readings : Readings)
+    → Advances f s target → GoOn f.texts texts
     → AreReadings f.given f.uuid texts readings → Holds f.given f.uuid (rounds_loaded target) texts new → Advances (further f texts readings) new target
 advances_further f s new target texts readings advances goes are holds = record {
   is_page_size = advances.is_page_size;
@@ -176,10 +196,12 @@ advances_further f s new target texts readings advances goes are holds = record 
 -- ---- a session that runs
 
 -- what it represents, as far as it has advanced
-pub feeding_of : (given : LoadSettings) (uuid : List ℕ) (texts : Texts) (s : LoadSession) (sources : FedSources) → s.sources ≡ Some sources → (stands : StandsFor given uuid texts s)
+pub feeding_of : (given : LoadSettings) (uuid : List ℕ) (texts : Texts) (s : LoadSession) (sources : FedSources)
+    → s.sources ≡ Some sources → (stands : StandsFor given uuid texts s)
     → Advances (record { given = given; uuid = uuid; texts = texts; readings = stands.is_answer.readings }) sources s.target
 feeding_of given uuid texts s sources some stands =
-    let runs : IsRunning given uuid texts s.target sources = subst (λ (o : Option FedSources). IfSome o (IsRunning given uuid texts s.target)) some stands.runs in
+    let runs : IsRunning given uuid texts s.target sources =
+    subst (λ (o : Option FedSources). IfSome o (IsRunning given uuid texts s.target)) some stands.runs in
     let readings : Readings = stands.is_answer.readings in
     record {
       is_page_size = stands.is_page_size;
@@ -188,7 +210,8 @@ feeding_of given uuid texts s sources some stands =
       has_rounds = record { have_passed = stands.is_answer.has_rounds.before; has_put = put s.target stands.is_answer.has_memory runs.has_base };
     }
   where
-    put : (target : Option LoadTarget) → option_map (λ t. t.memory) target ≡ memory_at (rounds_loaded target) stands.is_answer.readings → IfSome target (HasBase given uuid texts)
+    put : (target : Option LoadTarget) → option_map (λ t. t.memory) target ≡ memory_at
+        (rounds_loaded target) stands.is_answer.readings → IfSome target (HasBase given uuid texts)
         → IfSome target (HasPutRounds stands.is_answer.readings)
     put None memory base = tt
     put (Some t) memory base = record {
@@ -201,20 +224,24 @@ feeding_of given uuid texts s sources some stands =
       is_few = base.is_few;
     }
 
-bases : (given : LoadSettings) (uuid : List ℕ) (texts : Texts) (readings : Readings) (target : Option LoadTarget) → IsPageSize given.page_size → AreReadings given uuid texts readings
+bases : (given : LoadSettings) (uuid : List ℕ) (texts : Texts) (readings : Readings) (target : Option LoadTarget)
+    → IsPageSize given.page_size → AreReadings given uuid texts readings
     → HasRounds readings target → IfSome target (HasBase given uuid texts)
 bases given uuid texts readings None size are has = tt
 bases given uuid texts readings (Some t) size are has = record {
   has_base = λ other are_other.
       subst (λ (r : Readings). t.base ≡ base_at t.rounds r) (same_readings given uuid texts readings other size are are_other) has.has_put.has_loaded.has_base;
   has_named = λ other are_other.
-      subst (λ (r : Readings). named_at t.rounds r ≡ Some t.named) (same_readings given uuid texts readings other size are are_other) has.has_put.has_loaded.has_named;
+      subst (λ (r : Readings). named_at t.rounds r ≡ Some t.named)
+      (same_readings given uuid texts readings other size are are_other) has.has_put.has_loaded.has_named;
   is_few = has.has_put.is_few;
 }
 
 -- the verdict is found: the session represents the streams
-pub stands_told : (given : LoadSettings) (uuid : List ℕ) (texts : Texts) (readings : Readings) (counts : Counts) (places : Option Places) (kept : Option FedSources) (sources : FedSources) (target : Option LoadTarget) (verdict : Verdict)
-    → IsPageSize given.page_size → AreReadings given uuid texts readings → counts ≡ counts_in texts → Holds given uuid (rounds_loaded target) texts sources → HasRounds readings target
+pub stands_told : (given : LoadSettings) (uuid : List ℕ) (texts : Texts) (readings : Readings) (counts : Counts) (places : Option
+    Places) (kept : Option FedSources) (sources : FedSources) (target : Option LoadTarget) (verdict : Verdict)
+    → IsPageSize given.page_size → AreReadings given uuid texts readings → counts ≡ counts_in texts
+    → Holds given uuid (rounds_loaded target) texts sources → HasRounds readings target
     → TellsVerdict readings target verdict → (kept ≡ Some sources) ⊎ (kept ≡ None) → HavePlaces given uuid texts places
     → StandsFor given uuid texts (record { counts = counts; places = places; sources = kept; target = target; verdict = verdict })
 stands_told given uuid texts readings counts places kept sources target verdict size are counted holds has told which have = record {
@@ -228,15 +255,28 @@ stands_told given uuid texts readings counts places kept sources target verdict 
   read = texts;
   goes_on = record { main = stays_same texts.main; channels = all_same texts.channels };
   has_read_all = λ some. refl;
-  is_answer_there = record { readings = readings; are_readings = are; has_rounds = told.is_first_stop; has_memory = told.has_memory; has_verdict = told.has_verdict };
+  is_answer_there = record {
+    readings = readings;
+    are_readings = are;
+    has_rounds = told.is_first_stop;
+    has_memory = told.has_memory;
+    has_verdict = told.has_verdict;
+  };
   have_places = have;
   has_named = record { readings = readings; are_readings = are; are_named = told.has_named };
 }
 
 -- an allocation was refused
-pub lacks_of : (given : LoadSettings) (uuid : List ℕ) (texts : Texts) (readings : Readings) (counts : Counts) (kept : Option FedSources) (target : Option LoadTarget)
+pub lacks_of : (given : LoadSettings) (uuid : List ℕ) (texts : Texts) (readings : Readings) (counts : Counts) (kept : Option
+    FedSources) (target : Option LoadTarget)
     → IsPageSize given.page_size → AreReadings given uuid texts readings → counts ≡ counts_in texts → HasRounds readings target
-    → LacksMemory given uuid texts (record { counts = counts; places = None; sources = kept; target = target; verdict = failed_without_memory (rounds_loaded target) })
+    → LacksMemory given uuid texts (record {
+      counts = counts;
+      places = None;
+      sources = kept;
+      target = target;
+      verdict = failed_without_memory (rounds_loaded target);
+    })
 lacks_of given uuid texts readings counts kept None size are counted has = record {
   is_page_size = size;
   has_counts = counted;
@@ -246,17 +286,24 @@ lacks_of given uuid texts readings counts kept None size are counted has = recor
 lacks_of given uuid texts readings counts kept (Some t) size are counted has = record {
   is_page_size = size;
   has_counts = counted;
-  is_without = record { readings = readings; are_readings = are; have_passed = has.have_passed; has_memory = inl (sym has.has_put.has_loaded.has_memory); has_verdict = refl };
+  is_without = record {
+    readings = readings;
+    are_readings = are;
+    have_passed = has.have_passed;
+    has_memory = inl (sym has.has_put.has_loaded.has_memory);
+    has_verdict = refl;
+  };
   has_no_places = refl;
 }
 
 -- ---- before the first piece
 
 -- what no bytes say
-abbrev nothing_read : StreamReading
+abbrev pub nothing_read : StreamReading
 nothing_read = record { table = None; rounds = []; state = Reading }
 
-main_nothing : (given : LoadSettings) (reading : StreamReading) → IsPageSize given.page_size → IsMainReading given no_text reading → reading ≡ nothing_read
+-- a main stream without bytes reads so
+pub main_nothing : (given : LoadSettings) (reading : StreamReading) → IsPageSize given.page_size → IsMainReading given no_text reading → reading ≡ nothing_read
 main_nothing given reading size is =
     let begin : StreamProgress = start given.frame (mode_of given.round_end) given.page_size given.limit given.waiting in
     same_main given no_text reading nothing_read size is (record {
@@ -274,7 +321,13 @@ main_first : (given : LoadSettings) → stream.IsValidUpTo (main_of given) [] 0
 main_first given =
     let begin : StreamProgress = start given.frame (mode_of given.round_end) given.page_size given.limit given.waiting in
     let reads : Reads begin [] begin [] Reading = reads_short begin [] (omega arith) in
-    record { to = begin; rest = []; state = Reading; reads = reads; has_length = omega (arith, ap (λ (l : List ℕ). length l) reads.has_text, length-append reads.front []) }
+    record {
+      to = begin;
+      rest = [];
+      state = Reading;
+      reads = reads;
+      has_length = omega (arith, ap (λ (l : List ℕ). length l) reads.has_text, length-append reads.front []);
+    }
 
 main_open : (given : LoadSettings) → stream.HasClosedAt (main_of given) [] None
 main_open given =
@@ -284,8 +337,15 @@ main_open given =
 channel_first : (given : Settings) → channel.IsValidUpTo given [] 0
 channel_first given =
     let begin : ChannelProgress = channel_start given.page_size given.uuid given.channels given.waiting in
-    let reads : ChannelReads begin [] begin [] channel_state.Reading = channel_short begin [] (record { has_no_fault = refl; is_short = λ le. absurd (omega (arith, le)) }) in
-    record { to = begin; rest = []; found = channel_state.Reading; reads = reads; has_length = omega (arith, ap (λ (l : List ℕ). length l) reads.has_text, length-append reads.front []) }
+    let reads : ChannelReads begin [] begin [] channel_state.Reading =
+    channel_short begin [] (record { has_no_fault = refl; is_short = λ le. absurd (omega (arith, le)) }) in
+    record {
+      to = begin;
+      rest = [];
+      found = channel_state.Reading;
+      reads = reads;
+      has_length = omega (arith, ap (λ (l : List ℕ). length l) reads.has_text, length-append reads.front []);
+    }
 
 -- and has no fault
 main_sound : (given : LoadSettings) → HasMainFault (main_of given) no_text None
@@ -296,22 +356,42 @@ main_sound given =
 channel_sound : (given : Settings) → HasChannelFault given no_text None
 channel_sound given =
     let begin : ChannelProgress = channel_start given.page_size given.uuid given.channels given.waiting in
-    let reads : ChannelReads begin [] begin [] channel_state.Reading = channel_short begin [] (record { has_no_fault = refl; is_short = λ le. absurd (omega (arith, le)) }) in
-    let reading : ChannelReading = record { hello = None; rounds = []; state = channel_state.Reading } in
-    (channel_state.Reading, (reading, record { to = begin; rest = []; found = channel_state.Reading; reads = reads; has_hello = refl; has_rounds = refl; has_state = refl }, refl), refl)
+    let reads : ChannelReads begin [] begin [] channel_state.Reading =
+    channel_short begin [] (record { has_no_fault = refl; is_short = λ le. absurd (omega (arith, le)) }) in
+    let reading : ChannelReading = record { hello = None; rounds = []; state = channel_state.Reading } in (
+      channel_state.Reading,
+      (
+        reading,
+        record {
+          to = begin;
+          rest = [];
+          found = channel_state.Reading;
+          reads = reads;
+          has_hello = refl;
+          has_rounds = refl;
+          has_state = refl;
+        },
+        refl,
+      ),
+      refl,
+    )
 
 channels_first : (given : Settings) (n : ℕ) → AllZip (IsNotedOfChannel given) (replicate n no_text) (replicate n nothing_noted)
 channels_first given zero = tt
 channels_first given (suc n) = (record { is_valid = channel_first given; has_fault = channel_sound given }, channels_first given n)
 
-pub places_first : (given : LoadSettings) (uuid : List ℕ) (n : ℕ) (places : Places) → places ≡ record { main = nothing_noted; closed_at = None; channels = replicate n nothing_noted } → HasPlaces given uuid (no_texts n) places
+-- with nothing noted of any source, the notes are those of streams without bytes
+pub places_first : (given : LoadSettings) (uuid : List ℕ) (n : ℕ) (places : Places)
+    → places ≡ record { main = nothing_noted; closed_at = None; channels = replicate n nothing_noted } → HasPlaces given uuid (no_texts n) places
 places_first given uuid n places is = rw is record {
   main = record { is_valid = main_first given; has_fault = main_sound given };
   closed = main_open given;
   channels = channels_first (channel_of given uuid (length (replicate n no_text))) n;
 }
 
-pub stands_at_first : (given : LoadSettings) (uuid : List ℕ) (n : ℕ) (sources : FedSources) (counts : Counts) (places : Option Places) → IsPageSize given.page_size
+-- a session that counts no bytes, has no target and runs represents streams without bytes
+pub stands_at_first : (given : LoadSettings) (uuid : List ℕ) (n : ℕ) (sources : FedSources) (counts : Counts) (places : Option
+    Places) → IsPageSize given.page_size
     → counts ≡ record { main = no_count; channels = replicate n no_count } → Holds given uuid 0 (no_texts n) sources → HavePlaces given uuid (no_texts n) places
     → StandsFor given uuid (no_texts n) (record { counts = counts; places = places; sources = Some sources; target = None; verdict = Running })
 stands_at_first given uuid n sources counts places size counted holds have =
@@ -339,7 +419,11 @@ stands_at_first given uuid n sources counts places size counted holds have =
       has_read_all = λ some. refl;
       is_answer_there = answer;
       have_places = have;
-      has_named = record { readings = readings; are_readings = some.1; are_named = sym (ap (λ (m : StreamReading). named_at 0 (record { main = m; channels = channels })) is) };
+      has_named = record {
+        readings = readings;
+        are_readings = some.1;
+        are_named = sym (ap (λ (m : StreamReading). named_at 0 (record { main = m; channels = channels })) is);
+      };
     }
 
 -- ---- a session that is settled
@@ -359,7 +443,9 @@ all_then (x ∷ a) [] c one two = absurd one
 all_then (x ∷ a) (y ∷ b) [] one two = absurd two
 all_then (x ∷ a) (y ∷ b) (z ∷ c) one two = (goes_then x y z one.0 two.0, all_then a b c one.1 two.1)
 
-pub settled_steps : (given : LoadSettings) (uuid : List ℕ) (texts now : Texts) (s : LoadSession) (counts : Counts) → StandsFor given uuid texts s → s.sources ≡ None → s.verdict ≢ Running
+-- a session that has its verdict represents the streams that go on, with their counts
+pub settled_steps : (given : LoadSettings) (uuid : List ℕ) (texts now : Texts) (s : LoadSession) (counts : Counts)
+    → StandsFor given uuid texts s → s.sources ≡ None → s.verdict ≢ Running
     → GoOn texts now → counts ≡ counts_in now → StandsFor given uuid now (record s { counts = counts })
 settled_steps given uuid texts now s counts stands none settled goes counted = record {
   is_page_size = stands.is_page_size;
@@ -377,7 +463,9 @@ settled_steps given uuid texts now s counts stands none settled goes counted = r
   has_named = stands.has_named;
 }
 
-pub lacking_steps : (given : LoadSettings) (uuid : List ℕ) (texts now : Texts) (s : LoadSession) (counts : Counts) → LacksMemory given uuid texts s → GoOn texts now → counts ≡ counts_in now
+-- a session after a refused allocation still represents the streams that go on, with their counts
+pub lacking_steps : (given : LoadSettings) (uuid : List ℕ) (texts now : Texts) (s : LoadSession) (counts : Counts)
+    → LacksMemory given uuid texts s → GoOn texts now → counts ≡ counts_in now
     → LacksMemory given uuid now (record s { counts = counts })
 lacking_steps given uuid texts now s counts lacks goes counted = record {
   is_page_size = lacks.is_page_size;
@@ -386,20 +474,18 @@ lacking_steps given uuid texts now s counts lacks goes counted = record {
   has_no_places = lacks.has_no_places;
 }
 
--- one that lacks memory is settled
-pub lacks_is_settled : (given : LoadSettings) (uuid : List ℕ) (texts : Texts) (s : LoadSession) → LacksMemory given uuid texts s → s.verdict ≢ Running
-lacks_is_settled given uuid texts s lacks running = let bad : failed_without_memory (rounds_loaded s.target) ≡ Running = sym lacks.is_without.has_verdict ∙ running in absurd cc
-
 -- ---- a source has ended
 
-whole_below : (k n : ℕ) (end : Status) → is_whole end ≡ false → is_whole (status_at k n end) ≡ true → k < n
+-- a source that is Whole at round k, and isn't so after its rounds, has more than k rounds
+pub whole_below : (k n : ℕ) (end : Status) → is_whole end ≡ false → is_whole (status_at k n end) ≡ true → k < n
 whole_below k n end other whole = elim (cases_order k n) [
   | inl same ↦ let f : is_whole (status_at k n end) ≡ false = ap is_whole (status_end k n end same) ∙ other in absurd cc
   | inr ne ↦ elim ne [
     | inl lt ↦ lt
     | inr gt ↦
         let pending : status_at k n end ≡ Pending =
-        cond-false (nat_lt k n) Whole (cond (k == n) end Pending) (le-ltb k n (omega (arith, gt))) ∙ cond-false (k == n) end Pending (ne_eqb k n (λ e. omega (arith, e, gt))) in
+        cond-false (nat_lt k n) Whole (cond (k == n) end Pending) (le-ltb k n (omega (arith, gt)))
+        ∙ cond-false (k == n) end Pending (ne_eqb k n (λ e. omega (arith, e, gt))) in
         let f : is_whole (status_at k n end) ≡ false = ap is_whole pending in absurd cc
   ]
 ]
@@ -413,15 +499,19 @@ settled_before k n m old new same other whole =
 abbrev pub SameBytes : Text → Text → Type 0
 SameBytes a b = b.bytes ≡ a.bytes
 
-main_tables : (given : LoadSettings) (a b : Text) (x y : StreamReading) → IsPageSize given.page_size → SameBytes a b → IsMainReading given a x → IsMainReading given b y → x.table ≡ y.table
+main_tables : (given : LoadSettings) (a b : Text) (x y : StreamReading) → IsPageSize given.page_size → SameBytes a b
+    → IsMainReading given a x → IsMainReading given b y → x.table ≡ y.table
 main_tables given a b x y size same is_x is_y =
-    let found : IsStreamReading (main_of given) a.bytes is_y.found = subst (λ (l : List ℕ). IsStreamReading (main_of given) l is_y.found) same is_y.is_reading in
+    let found : IsStreamReading (main_of given) a.bytes is_y.found =
+    subst (λ (l : List ℕ). IsStreamReading (main_of given) l is_y.found) same is_y.is_reading in
     let e = same_found given a is_y.found x size found is_x in
     ap (λ (r : StreamReading). r.table) e ∙ sym (ap (λ (r : StreamReading). r.table) is_y.has_end)
 
-main_rounds : (given : LoadSettings) (a b : Text) (x y : StreamReading) → IsPageSize given.page_size → SameBytes a b → IsMainReading given a x → IsMainReading given b y → x.rounds ≡ y.rounds
+main_rounds : (given : LoadSettings) (a b : Text) (x y : StreamReading) → IsPageSize given.page_size → SameBytes a b
+    → IsMainReading given a x → IsMainReading given b y → x.rounds ≡ y.rounds
 main_rounds given a b x y size same is_x is_y =
-    let found : IsStreamReading (main_of given) a.bytes is_y.found = subst (λ (l : List ℕ). IsStreamReading (main_of given) l is_y.found) same is_y.is_reading in
+    let found : IsStreamReading (main_of given) a.bytes is_y.found =
+    subst (λ (l : List ℕ). IsStreamReading (main_of given) l is_y.found) same is_y.is_reading in
     let e = same_found given a is_y.found x size found is_x in
     ap (λ (r : StreamReading). r.rounds) e ∙ sym (ap (λ (r : StreamReading). r.rounds) is_y.has_end)
 
@@ -431,9 +521,10 @@ standing_at k c = record { source = origin.Channel c.0; status = channel_status 
 abbrev Are : Settings → List Text → List ChannelReading → Type 0
 Are given texts readings = AllZip (λ (text : Text) (reading : ChannelReading). IsReading given text.bytes text.ended reading) texts readings
 
-channels_before : (given : Settings) (k from : ℕ) (texts now : List Text) (xs ys : List ChannelReading) → AllZip SameBytes texts now → Are given texts xs → Are given now ys
-    → All IsWhole (map (standing_at k) (enumerate_from from ys)) → All IsSettled (map (standing_at k) (enumerate_from from xs))
-channels_before given k from texts now [] ys same is_x is_y whole = All-nil IsSettled
+channels_before : (given : Settings) (k from : ℕ) (texts now : List Text) (xs ys : List ChannelReading)
+    → AllZip SameBytes texts now → Are given texts xs → Are given now ys
+    → All IsWhole (map (standing_at k) (enumerate_from from ys)) → All IsFinal (map (standing_at k) (enumerate_from from xs))
+channels_before given k from texts now [] ys same is_x is_y whole = All-nil IsFinal
 channels_before given k from [] now (x ∷ xs) ys same is_x is_y whole = absurd is_x
 channels_before given k from (text ∷ texts) [] (x ∷ xs) ys same is_x is_y whole = absurd same
 channels_before given k from (text ∷ texts) (t ∷ now) (x ∷ xs) [] same is_x is_y whole = absurd is_y
@@ -441,16 +532,19 @@ channels_before given k from (text ∷ texts) (t ∷ now) (x ∷ xs) (y ∷ ys) 
     let rest : List Standing = map (standing_at k) (enumerate_from (from + 1) ys) in
     let other : IsReading given text.bytes t.ended y = subst (λ (l : List ℕ). IsReading given l t.ended y) same.0 is_y.0 in
     let rounds = (same_rounds given text.bytes text.ended t.ended x y is_x.0 other).0 in
-    All-cons IsSettled (standing_at k (from, x)) (map (standing_at k) (enumerate_from (from + 1) xs))
-    (settled_before k (length x.rounds) (length y.rounds) (channel_end x.state) (channel_end y.state) (ap (λ (l : List (List (List ℕ))). length l) rounds) (channel_ends y.state)
+    All-cons IsFinal (standing_at k (from, x)) (map (standing_at k) (enumerate_from (from + 1) xs))
+    (settled_before k (length x.rounds) (length y.rounds) (channel_end x.state) (channel_end y.state)
+    (ap (λ (l : List (List (List ℕ))). length l) rounds) (channel_ends y.state)
     (All-head IsWhole (standing_at k (from, y)) rest whole))
     (channels_before given k (from + 1) texts now xs ys same.1 is_x.1 is_y.1 (All-tail IsWhole (standing_at k (from, y)) rest whole))
 
-all_bytes : (texts : List Text) → AllZip SameBytes texts texts
+-- each stream has the same bytes as itself
+pub all_bytes : (texts : List Text) → AllZip SameBytes texts texts
 all_bytes [] = tt
 all_bytes (text ∷ texts) = (refl, all_bytes texts)
 
-same_at : (j : ℕ) (texts : List Text) → AllZip SameBytes texts (set texts j (over (get_or texts j no_text)))
+-- with one channel ended, each channel has the bytes that it had
+pub same_at : (j : ℕ) (texts : List Text) → AllZip SameBytes texts (set texts j (over (get_or texts j no_text)))
 same_at j [] = tt
 same_at zero (text ∷ texts) = (refl, all_bytes texts)
 same_at (suc j) (text ∷ texts) = (refl, same_at j texts)
@@ -469,17 +563,20 @@ as_many source.Main texts = refl
 as_many (source.Channel j) texts = length-set texts.channels j (over (get_or texts.channels j no_text))
 
 -- if a source was pending there is a verdict once a source has ended
-pub still_told : (given : LoadSettings) (uuid : List ℕ) (k : ℕ) (from : Source) (texts : Texts) (before now : Readings) → IsPageSize given.page_size → AreReadings given uuid texts before
+pub still_told : (given : LoadSettings) (uuid : List ℕ) (k : ℕ) (from : Source) (texts : Texts) (before now : Readings)
+    → IsPageSize given.page_size → AreReadings given uuid texts before
     → AreReadings given uuid (end_step from texts) now → IsFirstStop before k → Running ≡ verdict_at k before → IsDue k now → ⊥
 still_told given uuid k from texts before now size are_before are_now stop running due =
     let whole = (due_sources k now due).0 in
     let channel_given = channel_of given uuid (length texts.channels) in
     settled_is_told k before stop
-    (All-cons IsSettled (main_at k before) (channels_at k before)
+    (All-cons IsFinal (main_at k before) (channels_at k before)
     (settled_before k (length before.main.rounds) (length now.main.rounds) (stream_end before.main.state) (stream_end now.main.state)
-    (ap (λ (l : List (List PageRecord)). length l) (main_rounds given texts.main (end_step from texts).main before.main now.main size (main_bytes from texts) are_before.has_main are_now.has_main))
+    (ap (λ (l : List (List PageRecord)). length l)
+    (main_rounds given texts.main (end_step from texts).main before.main now.main size (main_bytes from texts) are_before.has_main are_now.has_main))
     (stream_ends now.main.state) (All-head IsWhole (main_at k now) (channels_at k now) whole))
-    (channels_before channel_given k 0 texts.channels (end_step from texts).channels before.channels now.channels (channel_bytes from texts) are_before.has_channels
+    (channels_before channel_given k 0 texts.channels (end_step from texts).channels before.channels now.channels
+    (channel_bytes from texts) are_before.has_channels
     (subst (λ (n : ℕ). Are (channel_of given uuid n) (end_step from texts).channels now.channels) (as_many from texts) are_now.has_channels)
     (All-tail IsWhole (main_at k now) (channels_at k now) whole)))
     (sym running)
@@ -526,24 +623,23 @@ keeps_runs s sources is some = go s.verdict is.is_settled
     go Done settled = let bad : Some sources ≡ None = sym some ∙ settled (λ e. absurd cc) in absurd cc
     go (Failed f) settled = let bad : Some sources ≡ None = sym some ∙ settled (λ e. absurd cc) in absurd cc
 
--- a source that a piece was counted of is still there
-pub there_fed : (counts : Counts) (from : Source) (n : ℕ) → HasSource counts from → HasSource (with_fed counts from n) from
-there_fed counts source.Main n there = tt
-there_fed counts (source.Channel j) n there = subst (λ (k : ℕ). j < k) (sym (length-set counts.channels j _)) there
-
+-- a source that exists still does once it is counted as ended
 pub there_ended : (counts : Counts) (from : Source) → HasSource counts from → HasSource (with_end counts from) from
 there_ended counts source.Main there = tt
 there_ended counts (source.Channel j) there = subst (λ (k : ℕ). j < k) (sym (length-set counts.channels j _)) there
 
 -- if a piece of a source was taken, the places are those with it
 abbrev pub Notes : Source → List ℕ → FedSources → Option Places → Option Places → Type 0
-Notes from piece sources old new = (given : LoadSettings) (uuid : List ℕ) (k : ℕ) (texts : Texts) → IsPageSize given.page_size → Holds given uuid k texts sources
+Notes from piece sources old new = (given : LoadSettings) (uuid : List ℕ) (k : ℕ) (texts : Texts) → IsPageSize given.page_size
+    → Holds given uuid k texts sources
     → HavePlaces given uuid texts old → HavePlaces given uuid (feed_step from piece texts) new
 
 -- those of a session that runs are of all its streams
-places_now : (given : LoadSettings) (uuid : List ℕ) (texts : Texts) (s : LoadSession) (sources : FedSources) → s.sources ≡ Some sources → StandsFor given uuid texts s → HavePlaces given uuid texts s.places
+places_now : (given : LoadSettings) (uuid : List ℕ) (texts : Texts) (s : LoadSession) (sources : FedSources)
+    → s.sources ≡ Some sources → StandsFor given uuid texts s → HavePlaces given uuid texts s.places
 places_now given uuid texts s sources some stands =
-    subst (λ (t : Texts). HavePlaces given uuid t s.places) (stands.has_read_all (λ none. let bad : Some sources ≡ None = sym some ∙ none in absurd cc)) stands.have_places
+    subst (λ (t : Texts). HavePlaces given uuid t s.places)
+    (stands.has_read_all (λ none. let bad : Some sources ≡ None = sym some ∙ none in absurd cc)) stands.have_places
 
 -- if a source was ended, they are those with its end
 abbrev pub NotesEnd : Source → FedSources → Option Places → Option Places → Type 0
@@ -551,9 +647,12 @@ NotesEnd from sources old new = (given : LoadSettings) (uuid : List ℕ) (k : �
     → HavePlaces given uuid texts old → HavePlaces given uuid (end_step from texts) new
 
 -- a piece was taken
-pub feed_steps : {E : Type 0} (given : LoadSettings) (uuid : List ℕ) (texts : Texts) (s : LoadSession) (sources new : FedSources) (from : Source) (piece : List ℕ) (target : Option LoadTarget)
-    (taken : Result Verdict E) (verdict : Verdict) (kept : Option FedSources) (counts : Counts) (places : Option Places) → StandsFor given uuid texts s → s.sources ≡ Some sources
-    → ((f : Feeding) → Advances f sources s.target → HasTaken f from piece new target taken) → taken ≡ Ok verdict → counts ≡ with_fed s.counts from (length piece) → Keeps verdict kept new
+pub feed_steps : {E : Type 0} (given : LoadSettings) (uuid : List ℕ) (texts : Texts) (s : LoadSession)
+    (sources new : FedSources) (from : Source) (piece : List ℕ) (target : Option LoadTarget)
+    (taken : Result Verdict E) (verdict : Verdict) (kept : Option FedSources) (counts : Counts) (places : Option Places)
+    → StandsFor given uuid texts s → s.sources ≡ Some sources
+    → ((f : Feeding) → Advances f sources s.target → HasTaken f from piece new target taken) → taken ≡ Ok verdict
+    → counts ≡ with_fed s.counts from (length piece) → Keeps verdict kept new
     → Notes from piece sources s.places places
     → StandsFor given uuid (feed_step from piece texts) (record { counts = counts; places = places; sources = kept; target = target; verdict = verdict })
 feed_steps given uuid texts s sources new from piece target taken verdict kept counts places stands some takes ok counted keeps notes =
@@ -562,14 +661,17 @@ feed_steps given uuid texts s sources new from piece target taken verdict kept c
     let advances = feeding_of given uuid texts s sources some stands in
     let has = subst (λ (r : Result Verdict _). HasTaken f from piece new target r) ok (takes f advances) next.0 next.1 in
     stands_told given uuid (feed_step from piece texts) next.0 counts places kept new target verdict stands.is_page_size next.1
-    (counted ∙ ap (λ (c : Counts). with_fed c from (length piece)) stands.has_counts ∙ sym (counts_fed from piece texts)) has.1.0 has.0 has.1.1 (kept_or_not verdict kept new keeps)
+    (counted ∙ ap (λ (c : Counts). with_fed c from (length piece)) stands.has_counts
+    ∙ sym (counts_fed from piece texts)) has.1.0 has.0 has.1.1 (kept_or_not verdict kept new keeps)
     (notes given uuid (rounds_loaded s.target) texts stands.is_page_size advances.holds (places_now given uuid texts s sources some stands))
 
 -- it wasn't, since an allocation was refused
-pub feed_runs_out : {E : Type 0} (given : LoadSettings) (uuid : List ℕ) (texts : Texts) (s : LoadSession) (sources new : FedSources) (from : Source) (piece : List ℕ) (target : Option LoadTarget)
+pub feed_runs_out : {E : Type 0} (given : LoadSettings) (uuid : List ℕ) (texts : Texts) (s : LoadSession)
+    (sources new : FedSources) (from : Source) (piece : List ℕ) (target : Option LoadTarget)
     (taken : Result Verdict E) (kept : Option FedSources) (counts : Counts) → StandsFor given uuid texts s → s.sources ≡ Some sources
     → ((f : Feeding) → Advances f sources s.target → HasTaken f from piece new target taken) → counts ≡ with_fed s.counts from (length piece)
-    → LacksMemory given uuid (feed_step from piece texts) (record { counts = counts; places = None; sources = kept; target = target; verdict = failed_without_memory (rounds_loaded target) })
+    → LacksMemory given uuid (feed_step from piece texts)
+    (record { counts = counts; places = None; sources = kept; target = target; verdict = failed_without_memory (rounds_loaded target) })
 feed_runs_out given uuid texts s sources new from piece target taken kept counts stands some takes counted =
     let f : Feeding = record { given = given; uuid = uuid; texts = texts; readings = stands.is_answer.readings } in
     let next = some_readings given uuid (feed_step from piece texts) stands.is_page_size in
@@ -578,27 +680,36 @@ feed_runs_out given uuid texts s sources new from piece target taken kept counts
     (counted ∙ ap (λ (c : Counts). with_fed c from (length piece)) stands.has_counts ∙ sym (counts_fed from piece texts)) has.0
 
 -- a settled session counts a piece
-pub feed_counts : (given : LoadSettings) (uuid : List ℕ) (texts : Texts) (s : LoadSession) (from : Source) (piece : List ℕ) (counts : Counts) → IsSession s → StandsFor given uuid texts s → s.sources ≡ None
-    → HasSource s.counts from → IsFalse (count_of s.counts from).ended → counts ≡ with_fed s.counts from (length piece) → StandsFor given uuid (feed_step from piece texts) (record s { counts = counts })
+pub feed_counts : (given : LoadSettings) (uuid : List ℕ) (texts : Texts) (s : LoadSession) (from : Source) (piece : List
+    ℕ) (counts : Counts) → IsSession s → StandsFor given uuid texts s → s.sources ≡ None
+    → HasSource s.counts from → IsFalse (count_of s.counts from).ended → counts ≡ with_fed s.counts from (length piece)
+    → StandsFor given uuid (feed_step from piece texts) (record s { counts = counts })
 feed_counts given uuid texts s from piece counts is stands none there open_ counted =
     settled_steps given uuid texts (feed_step from piece texts) s counts stands none (λ running. is.is_open running none)
-    (fed_goes_on from piece texts (subst (λ (c : Counts). HasSource c from) stands.has_counts there) (subst (λ (c : Counts). IsFalse (count_of c from).ended) stands.has_counts open_))
+    (fed_goes_on from piece texts (subst (λ (c : Counts). HasSource c from) stands.has_counts there)
+    (subst (λ (c : Counts). IsFalse (count_of c from).ended) stands.has_counts open_))
     (counted ∙ ap (λ (c : Counts). with_fed c from (length piece)) stands.has_counts ∙ sym (counts_fed from piece texts))
 
-pub feed_lacks : (given : LoadSettings) (uuid : List ℕ) (texts : Texts) (s : LoadSession) (from : Source) (piece : List ℕ) (counts : Counts) → LacksMemory given uuid texts s
-    → HasSource s.counts from → IsFalse (count_of s.counts from).ended → counts ≡ with_fed s.counts from (length piece) → LacksMemory given uuid (feed_step from piece texts) (record s { counts = counts })
+-- after a refused allocation a session represents the streams with one more piece that it counts
+pub feed_lacks : (given : LoadSettings) (uuid : List ℕ) (texts : Texts) (s : LoadSession) (from : Source) (piece : List
+    ℕ) (counts : Counts) → LacksMemory given uuid texts s
+    → HasSource s.counts from → IsFalse (count_of s.counts from).ended → counts ≡ with_fed s.counts from (length piece)
+    → LacksMemory given uuid (feed_step from piece texts) (record s { counts = counts })
 feed_lacks given uuid texts s from piece counts lacks there open_ counted =
     lacking_steps given uuid texts (feed_step from piece texts) s counts lacks
-    (fed_goes_on from piece texts (subst (λ (c : Counts). HasSource c from) lacks.has_counts there) (subst (λ (c : Counts). IsFalse (count_of c from).ended) lacks.has_counts open_))
+    (fed_goes_on from piece texts (subst (λ (c : Counts). HasSource c from) lacks.has_counts there)
+    (subst (λ (c : Counts). IsFalse (count_of c from).ended) lacks.has_counts open_))
     (counted ∙ ap (λ (c : Counts). with_fed c from (length piece)) lacks.has_counts ∙ sym (counts_fed from piece texts))
 
 -- a settled session counts an end
-pub end_counts : (given : LoadSettings) (uuid : List ℕ) (texts : Texts) (s : LoadSession) (from : Source) (counts : Counts) → IsSession s → StandsFor given uuid texts s → s.sources ≡ None
+pub end_counts : (given : LoadSettings) (uuid : List ℕ) (texts : Texts) (s : LoadSession) (from : Source) (counts : Counts)
+    → IsSession s → StandsFor given uuid texts s → s.sources ≡ None
     → counts ≡ with_end s.counts from → StandsFor given uuid (end_step from texts) (record s { counts = counts })
 end_counts given uuid texts s from counts is stands none counted =
     settled_steps given uuid texts (end_step from texts) s counts stands none (λ running. is.is_open running none) (ended_goes_on from texts)
     (counted ∙ ap (λ (c : Counts). with_end c from) stands.has_counts ∙ sym (counts_ended from texts))
 
+-- after a refused allocation a session represents the streams with a source that it counts as ended
 pub end_lacks : (given : LoadSettings) (uuid : List ℕ) (texts : Texts) (s : LoadSession) (from : Source) (counts : Counts) → LacksMemory given uuid texts s
     → counts ≡ with_end s.counts from → LacksMemory given uuid (end_step from texts) (record s { counts = counts })
 end_lacks given uuid texts s from counts lacks counted =
@@ -613,13 +724,18 @@ none_there readings e = go readings.main.table e
     go None e = refl
     go (Some t) e = absurd cc
 
-told_either : (f : Feeding) (s : FedSources) (target : Option LoadTarget) (v : Verdict) → Advances f s target → (target ≡ None → f.readings.main.table ≡ None) → TellsAll (rounds_loaded target) s (Some v)
+told_either : (f : Feeding) (s : FedSources) (target : Option LoadTarget) (v : Verdict) → Advances f s target
+    → (target ≡ None → f.readings.main.table ≡ None) → TellsAll (rounds_loaded target) s (Some v)
     → TellsVerdict f.readings target v
 told_either f s None v advances none told = told_without f s v advances (none refl) told
 told_either f s (Some t) v advances none told = told_of f s t v advances told
 
-pub end_steps : (given : LoadSettings) (uuid : List ℕ) (texts : Texts) (s : LoadSession) (sources new : FedSources) (from : Source) (n : ℕ) (told : Option Verdict) (verdict : Verdict)
-    (kept : Option FedSources) (counts : Counts) (places : Option Places) → IsSession s → StandsFor given uuid texts s → s.sources ≡ Some sources → NotesEnd from sources s.places places
+-- a running session with a source's end counted and noted, and the verdict of its sources,
+-- represents the streams with that source ended
+pub end_steps : (given : LoadSettings) (uuid : List ℕ) (texts : Texts) (s : LoadSession)
+    (sources new : FedSources) (from : Source) (n : ℕ) (told : Option Verdict) (verdict : Verdict)
+    (kept : Option FedSources) (counts : Counts) (places : Option Places) → IsSession s → StandsFor given uuid texts s
+    → s.sources ≡ Some sources → NotesEnd from sources s.places places
     → ((given : LoadSettings) (uuid : List ℕ) (k : ℕ) (texts : Texts) → Holds given uuid k texts sources → Holds given uuid k (end_step from texts) new)
     → n ≡ rounds_loaded s.target → TellsAll n new told → verdict ≡ unwrap_or told Running → counts ≡ with_end s.counts from → Keeps verdict kept new
     → StandsFor given uuid (end_step from texts) (record { counts = counts; places = places; sources = kept; target = s.target; verdict = verdict })
@@ -629,32 +745,52 @@ end_steps given uuid texts s sources new from n told verdict kept counts places 
     let advances = feeding_of given uuid texts s sources some stands in
     let next = some_readings given uuid (end_step from texts) stands.is_page_size in
     let further_on : Advances (further f (end_step from texts) next.0) new s.target =
-    advances_further f sources new s.target (end_step from texts) next.0 advances (ended_goes_on from texts) next.1 (holds given uuid (rounds_loaded s.target) texts advances.holds) in
+    advances_further f sources new s.target (end_step from texts) next.0 advances (ended_goes_on from texts) next.1
+    (holds given uuid (rounds_loaded s.target) texts advances.holds) in
     let tells_here : TellsAll (rounds_loaded s.target) new told = subst (λ (m : ℕ). TellsAll m new told) same tells in
     let running : Running ≡ verdict_at (rounds_loaded s.target) before = sym (keeps_runs s sources is some) ∙ stands.is_answer.has_verdict in
     let no_table : s.target ≡ None → next.0.main.table ≡ None = λ none.
-    sym (main_tables given texts.main (end_step from texts).main before.main next.0.main stands.is_page_size (main_bytes from texts) stands.is_answer.are_readings.has_main next.1.has_main)
-    ∙ none_there before (sym (ap (λ (o : Option LoadTarget). option_map (λ t. t.memory) o) none) ∙ stands.is_answer.has_memory ∙ ap (λ (o : Option LoadTarget). memory_at (rounds_loaded o) before) none) in
-    let is_told : (o : Option Verdict) → told ≡ o → TellsVerdict next.0 s.target (unwrap_or o Running) = λ o e. go o (subst (λ (x : Option Verdict). TellsAll (rounds_loaded s.target) new x) e tells_here) further_on no_table running in
+    sym (main_tables given texts.main (end_step from texts).main before.main next.0.main stands.is_page_size
+    (main_bytes from texts) stands.is_answer.are_readings.has_main next.1.has_main)
+    ∙ none_there before (sym (ap (λ (o : Option LoadTarget). option_map (λ t. t.memory) o) none) ∙ stands.is_answer.has_memory
+    ∙ ap (λ (o : Option LoadTarget). memory_at (rounds_loaded o) before) none) in
+    let is_told : (o : Option Verdict) → told ≡ o
+    → TellsVerdict next.0 s.target (unwrap_or o Running) =
+    λ o e. go o (subst (λ (x : Option Verdict). TellsAll (rounds_loaded s.target) new x) e tells_here) further_on no_table running in
     let here : TellsVerdict next.0 s.target verdict = subst (λ (v : Verdict). TellsVerdict next.0 s.target v) (sym is_verdict) (is_told told refl) in
     stands_told given uuid (end_step from texts) next.0 counts places kept new s.target verdict stands.is_page_size next.1
-    (counted ∙ ap (λ (c : Counts). with_end c from) stands.has_counts ∙ sym (counts_ended from texts)) further_on.holds further_on.has_rounds here (kept_or_not verdict kept new keeps)
+    (counted ∙ ap (λ (c : Counts). with_end c from) stands.has_counts
+    ∙ sym (counts_ended from texts)) further_on.holds further_on.has_rounds here (kept_or_not verdict kept new keeps)
     (notes given uuid (rounds_loaded s.target) texts advances.holds (places_now given uuid texts s sources some stands))
   where
     go : (o : Option Verdict) → TellsAll (rounds_loaded s.target) new o
-        → Advances (record { given = given; uuid = uuid; texts = end_step from texts; readings = (some_readings given uuid (end_step from texts) stands.is_page_size).0 }) new s.target
-        → (s.target ≡ None → (some_readings given uuid (end_step from texts) stands.is_page_size).0.main.table ≡ None) → Running ≡ verdict_at (rounds_loaded s.target) stands.is_answer.readings
+        → Advances (record {
+          given = given;
+          uuid = uuid;
+          texts = end_step from texts;
+          readings = (some_readings given uuid (end_step from texts) stands.is_page_size).0;
+        }) new s.target
+        → (s.target ≡ None → (some_readings given uuid (end_step from texts) stands.is_page_size).0.main.table ≡ None)
+        → Running ≡ verdict_at (rounds_loaded s.target) stands.is_answer.readings
         → TellsVerdict (some_readings given uuid (end_step from texts) stands.is_page_size).0 s.target (unwrap_or o Running)
     go None tells advances none running =
         let now = some_readings given uuid (end_step from texts) stands.is_page_size in
         let due : IsDue (rounds_loaded s.target) now.0 = sym (tells given uuid (end_step from texts) now.0 stands.is_page_size advances.holds now.1) in
-        absurd (still_told given uuid (rounds_loaded s.target) from texts stands.is_answer.readings now.0 stands.is_page_size stands.is_answer.are_readings now.1 stands.is_answer.has_rounds running due)
+        absurd (still_told given uuid (rounds_loaded s.target) from texts stands.is_answer.readings now.0 stands.is_page_size
+        stands.is_answer.are_readings now.1 stands.is_answer.has_rounds running due)
     go (Some v) tells advances none running =
-        told_either (record { given = given; uuid = uuid; texts = end_step from texts; readings = (some_readings given uuid (end_step from texts) stands.is_page_size).0 }) new s.target v advances none tells
+        told_either (record {
+          given = given;
+          uuid = uuid;
+          texts = end_step from texts;
+          readings = (some_readings given uuid (end_step from texts) stands.is_page_size).0;
+        }) new s.target v advances none tells
 
 -- it is still a session
-pub is_session_still : (counts : Counts) (places : Option Places) (kept : Option FedSources) (sources : FedSources) (target : Option LoadTarget) (verdict : Verdict) → Keeps verdict kept sources
-    → (verdict ≡ Running → counts_of sources ≡ counts) → StandsForSome (record { counts = counts; places = places; sources = kept; target = target; verdict = verdict })
+pub is_session_still : (counts : Counts) (places : Option Places) (kept : Option
+    FedSources) (sources : FedSources) (target : Option LoadTarget) (verdict : Verdict) → Keeps verdict kept sources
+    → (verdict ≡ Running → counts_of sources ≡ counts)
+    → StandsForSome (record { counts = counts; places = places; sources = kept; target = target; verdict = verdict })
     → IsSession (record { counts = counts; places = places; sources = kept; target = target; verdict = verdict })
 is_session_still counts places kept sources target verdict keeps counted some = record {
   is_open = λ running none. let bad : Some sources ≡ None = sym (keeps.0 running) ∙ none in absurd cc;
@@ -671,7 +807,8 @@ is_session_still counts places kept sources target verdict keeps counted some = 
 -- ---- the valid prefixes of the streams
 
 -- what is so of the streams that it represents as read
-pub as_read : (given : LoadSettings) (uuid : List ℕ) (texts : Texts) (s t : LoadSession) (IsSo : Texts → Type 0) → t ≡ s → IsSession t → (stands : StandsFor given uuid texts s) → IsSo stands.read
+pub as_read : (given : LoadSettings) (uuid : List ℕ) (texts : Texts) (s t : LoadSession) (IsSo : Texts → Type 0) → t ≡ s
+    → IsSession t → (stands : StandsFor given uuid texts s) → IsSo stands.read
     → AsRead given uuid texts s IsSo
 as_read given uuid texts s t IsSo same is stands so =
     let here : IsSession s = subst IsSession same is in (
@@ -680,9 +817,12 @@ as_read given uuid texts s t IsSo same is stands so =
       so,
     )
 
-pub places_read : (given : LoadSettings) (uuid : List ℕ) (texts : Texts) (s : LoadSession) (p : Places) → (stands : StandsFor given uuid texts s) → s.places ≡ Some p → HasPlaces given uuid stands.read p
+-- the notes of a session are those of the streams as far as it read them
+pub places_read : (given : LoadSettings) (uuid : List ℕ) (texts : Texts) (s : LoadSession) (p : Places)
+    → (stands : StandsFor given uuid texts s) → s.places ≡ Some p → HasPlaces given uuid stands.read p
 places_read given uuid texts s p stands some = subst (λ (o : Option Places). HavePlaces given uuid stands.read o) some stands.have_places
 
+-- a session that represents streams has notes
 pub no_places_read : (given : LoadSettings) (uuid : List ℕ) (texts : Texts) (s : LoadSession) → StandsFor given uuid texts s → s.places ≡ None → ⊥
 no_places_read given uuid texts s stands none = subst (λ (o : Option Places). HavePlaces given uuid stands.read o) none stands.have_places
 
@@ -692,23 +832,30 @@ as_many_texts [] (y ∷ b) go = absurd go
 as_many_texts (x ∷ a) [] go = absurd go
 as_many_texts (x ∷ a) (y ∷ b) go = ap suc (as_many_texts a b go.1)
 
-noted_at : (R : Text → Noted → Type 0) (texts : List Text) (ns : List Noted) (j : ℕ) → AllZip R texts ns → j < length texts → (n : Noted) × (slice_get ns j ≡ Some n) × R (get_or texts j no_text) n
+noted_at : (R : Text → Noted → Type 0) (texts : List Text) (ns : List Noted) (j : ℕ) → AllZip R texts ns → j < length texts
+    → (n : Noted) × (slice_get ns j ≡ Some n) × R (get_or texts j no_text) n
 noted_at R [] ns j zip below = absurd (omega (arith, below))
 noted_at R (text ∷ texts) [] j zip below = absurd zip
 noted_at R (text ∷ texts) (n ∷ ns) zero zip below = (n, refl, zip.0)
 noted_at R (text ∷ texts) (n ∷ ns) (suc j) zip below = noted_at R texts ns j zip.1 (omega (arith, below))
 
 -- what is noted of a channel that there is
-channel_read : (given : LoadSettings) (uuid : List ℕ) (texts : Texts) (s : LoadSession) (p : Places) (j : ℕ) → (stands : StandsFor given uuid texts s) → s.places ≡ Some p → HasSource s.counts (source.Channel j)
-    → (n : Noted) × (slice_get p.channels j ≡ Some n) × IsNotedOfChannel (channel_of given uuid (length stands.read.channels)) (get_or stands.read.channels j no_text) n × (j < length stands.read.channels)
+channel_read : (given : LoadSettings) (uuid : List ℕ) (texts : Texts) (s : LoadSession) (p : Places) (j : ℕ)
+    → (stands : StandsFor given uuid texts s) → s.places ≡ Some p → HasSource s.counts (source.Channel j)
+    → (n : Noted) × (slice_get p.channels j ≡ Some n)
+    × IsNotedOfChannel (channel_of given uuid (length stands.read.channels)) (get_or stands.read.channels j no_text) n × (j < length stands.read.channels)
 channel_read given uuid texts s p j stands some there =
     let read : Texts = stands.read in
     let counted : j < length (map count_in texts.channels) = subst (λ (c : Counts). j < length c.channels) stands.has_counts there in
-    let below : j < length read.channels = omega (arith, counted, length-map texts.channels count_in, as_many_texts read.channels texts.channels stands.goes_on.channels) in
-    let here = noted_at (IsNotedOfChannel (channel_of given uuid (length read.channels))) read.channels p.channels j (places_read given uuid texts s p stands some).channels below in
+    let below : j < length read.channels = omega
+    (arith, counted, length-map texts.channels count_in, as_many_texts read.channels texts.channels stands.goes_on.channels) in
+    let here = noted_at (IsNotedOfChannel (channel_of given uuid (length read.channels))) read.channels p.channels j
+    (places_read given uuid texts s p stands some).channels below in
     (here.0, here.1, here.2, below)
 
-pub source_read : (given : LoadSettings) (uuid : List ℕ) (texts : Texts) (s : LoadSession) (p : Places) (from : Source) → (stands : StandsFor given uuid texts s) → s.places ≡ Some p → HasSource s.counts from
+-- each source, as far as the session read it, is valid up to its noted place
+pub source_read : (given : LoadSettings) (uuid : List ℕ) (texts : Texts) (s : LoadSession) (p : Places) (from : Source)
+    → (stands : StandsFor given uuid texts s) → s.places ≡ Some p → HasSource s.counts from
     → IsSourceValidUpTo given uuid stands.read from (place_of p from)
 source_read given uuid texts s p source.Main stands some there = (places_read given uuid texts s p stands some).main.is_valid
 source_read given uuid texts s p (source.Channel j) stands some there =
@@ -717,22 +864,31 @@ source_read given uuid texts s p (source.Channel j) stands some there =
 
 -- ---- the faults of their bytes
 
-fault_at : (given : Settings) (texts : List Text) (readings : List ChannelReading) (j : ℕ) (found : Option Fault) → IsPageSize given.page_size → j < length texts
-    → Are given texts readings → HasChannelFault given (get_or texts j no_text) found → found ≡ get_or (map (λ (r : ChannelReading). fault_of (channel_end r.state)) readings) j None
+fault_at : (given : Settings) (texts : List Text) (readings : List ChannelReading) (j : ℕ) (found : Option Fault)
+    → IsPageSize given.page_size → j < length texts
+    → Are given texts readings → HasChannelFault given (get_or texts j no_text) found
+    → found ≡ get_or (map (λ (r : ChannelReading). fault_of (channel_end r.state)) readings) j None
 fault_at given [] readings j found size below are has = absurd (omega (arith, below))
 fault_at given (text ∷ texts) [] j found size below are has = absurd are
 fault_at given (text ∷ texts) (r ∷ readings) zero found size below are has = channel_fault given text r found size has are.0
 fault_at given (text ∷ texts) (r ∷ readings) (suc j) found size below are has = fault_at given texts readings j found size (omega (arith, below)) are.1 has
 
-pub fault_read : (given : LoadSettings) (uuid : List ℕ) (texts : Texts) (s : LoadSession) (p : Places) (from : Source) → (stands : StandsFor given uuid texts s) → s.places ≡ Some p → HasSource s.counts from
+-- a source's noted fault, or none, is that of its bytes as far as the session read them
+pub fault_read : (given : LoadSettings) (uuid : List ℕ) (texts : Texts) (s : LoadSession) (p : Places) (from : Source)
+    → (stands : StandsFor given uuid texts s) → s.places ≡ Some p → HasSource s.counts from
     → HasFault given uuid stands.read from (noted_fault p from)
 fault_read given uuid texts s p source.Main stands some there =
-    let one = some_readings given uuid stands.read stands.is_page_size in
-    (one.0, one.1, main_fault given stands.read.main one.0.main p.main.fault stands.is_page_size (places_read given uuid texts s p stands some).main.has_fault one.1.has_main)
+    let one = some_readings given uuid stands.read stands.is_page_size in (
+      one.0,
+      one.1,
+      main_fault given stands.read.main one.0.main p.main.fault stands.is_page_size
+          (places_read given uuid texts s p stands some).main.has_fault one.1.has_main,
+    )
 fault_read given uuid texts s p (source.Channel j) stands some there =
     let one = some_readings given uuid stands.read stands.is_page_size in
     let here = channel_read given uuid texts s p j stands some there in
-    let is = fault_at (channel_of given uuid (length stands.read.channels)) stands.read.channels one.0.channels j here.0.fault stands.is_page_size here.3 one.1.has_channels here.2.has_fault in
+    let is = fault_at (channel_of given uuid (length stands.read.channels)) stands.read.channels one.0.channels j here.0.fault
+    stands.is_page_size here.3 one.1.has_channels here.2.has_fault in
     (one.0, one.1, ap (option_and_then (λ (n : Noted). n.fault)) here.1 ∙ is)
 
 -- a stream that is closed is so if other bytes follow
@@ -740,7 +896,8 @@ closed_more : (given : StreamSettings) (text more : List ℕ) (n : ℕ) → stre
 closed_more given text more n c = record {
   fits = omega (arith, c.fits, length-append text more);
   is_closed = subst (λ (l : List ℕ). stream.HasState given l false Closed) (sym (take-append-le n text more c.fits)) c.is_closed;
-  is_first = λ m lt s. c.is_first m lt (subst (λ (l : List ℕ). stream.HasState given l false Closed) (take-append-le m text more (omega (arith, lt, c.fits))) s);
+  is_first = λ m lt s. c.is_first m lt (subst (λ (l : List ℕ). stream.HasState given l false Closed)
+      (take-append-le m text more (omega (arith, lt, c.fits))) s);
 }
 
 closed_on : (given : StreamSettings) (a b : Text) (o : Option ℕ) → GoesOn a b → stream.HasClosedAt given a.bytes o → IfSome o (stream.IsClosedAt given b.bytes)
@@ -749,7 +906,8 @@ closed_on given a b (Some n) go has = subst (λ (l : List ℕ). stream.IsClosedA
 
 -- if the main stream was closed when it was read, it is closed
 pub closed_still : (s : LoadSession) (o : Option ℕ) (p : Places) → s.places ≡ Some p → o ≡ p.closed_at
-    → IfSome o (λ n. (given : LoadSettings) (uuid : List ℕ) (texts : Texts) → StandsFor given uuid texts s → stream.IsClosedAt (main_of given) texts.main.bytes n)
+    → IfSome o (λ n. (given : LoadSettings) (uuid : List ℕ) (texts : Texts) → StandsFor given uuid texts s
+    → stream.IsClosedAt (main_of given) texts.main.bytes n)
 closed_still s None p some is = tt
 closed_still s (Some n) p some is = λ given uuid texts stands.
     let was : stream.HasClosedAt (main_of given) stands.read.main.bytes (Some n) =
@@ -765,13 +923,15 @@ any_ok (Err y) P p = tt
 pub has_source_of : (s t : LoadSession) (from : Source) → s ≡ t → HasSource t.counts from → HasSource s.counts from
 has_source_of s t from same there = subst (λ (x : LoadSession). HasSource x.counts from) (sym same) there
 
+-- a source that hasn't ended in a session hasn't in one that equals it
 pub open_of : (s t : LoadSession) (from : Source) → s ≡ t → IsFalse (count_of t.counts from).ended → IsFalse (count_of s.counts from).ended
 open_of s t from same open_ = subst (λ (x : LoadSession). IsFalse (count_of x.counts from).ended) (sym same) open_
 
 -- ---- whether all rounds are in
 
 -- while it runs
-pub all_in_running : (given : LoadSettings) (uuid : List ℕ) (texts : Texts) (s : LoadSession) (sources : FedSources) (told : Bool) → s.sources ≡ Some sources → StandsFor given uuid texts s → TellAllIn sources told
+pub all_in_running : (given : LoadSettings) (uuid : List ℕ) (texts : Texts) (s : LoadSession) (sources : FedSources) (told : Bool)
+    → s.sources ≡ Some sources → StandsFor given uuid texts s → TellAllIn sources told
     → IsTrue told ↔ HasAllRounds given uuid texts (answer_in s)
 all_in_running given uuid texts s sources told some stands tells =
     let is = stands.is_answer in
@@ -792,7 +952,8 @@ no_fault channel_state.Reading clean = absurd cc
 no_fault channel_state.Closed clean = refl
 no_fault (channel_state.Bad f) clean = absurd cc
 
-channels_only : (k from : ℕ) (readings : List ChannelReading) → All (λ (s : Standing). is_clean s.status ≡ true) (map (standing_at k) (enumerate_from from readings)) → All (HasOnly k) readings
+channels_only : (k from : ℕ) (readings : List ChannelReading)
+    → All (λ (s : Standing). is_clean s.status ≡ true) (map (standing_at k) (enumerate_from from readings)) → All (HasOnly k) readings
 channels_only k from [] all = All-nil (HasOnly k)
 channels_only k from (r ∷ readings) all =
     let rest : List Standing = map (standing_at k) (enumerate_from (from + 1) readings) in
@@ -800,7 +961,9 @@ channels_only k from (r ∷ readings) all =
     All-cons (HasOnly k) r readings (record { has_rounds = sym at.0; has_no_fault = no_fault r.state at.1 })
     (channels_only k (from + 1) readings (All-tail (λ (s : Standing). is_clean s.status ≡ true) (standing_at k (from, r)) rest all))
 
-pub all_in_done : (given : LoadSettings) (uuid : List ℕ) (texts : Texts) (s : LoadSession) → StandsFor given uuid texts s → s.verdict ≡ Done → HasAllRounds given uuid texts (answer_in s)
+-- if the verdict of a session is Done, all rounds are in
+pub all_in_done : (given : LoadSettings) (uuid : List ℕ) (texts : Texts) (s : LoadSession) → StandsFor given uuid texts s
+    → s.verdict ≡ Done → HasAllRounds given uuid texts (answer_in s)
 all_in_done given uuid texts s stands done =
     let is = stands.is_answer in
     let k : ℕ = rounds_loaded s.target in
@@ -821,31 +984,20 @@ all_in_done given uuid texts s stands done =
 
 -- ---- how many pages its rounds don't name
 
-counted_missing : (readings : Readings) (k : ℕ) (named : PlaceSet) → Some named ≡ named_at k readings
-    → Some (left_out named.table named.marked) ≡ option_map (λ table. missing_after table k readings) readings.main.table
-counted_missing readings k named is = go readings.main.table is
-  where
-    go : (o : Option RamTable) → Some named ≡ option_map (λ t. named_by t (map (λ i. pages_at t i readings) (range_with_len 0 k))) o
-        → Some (left_out named.table named.marked) ≡ option_map (λ t. missing_after t k readings) o
-    go None e = absurd cc
-    go (Some t) e =
-        let names : named ≡ named_by t (map (λ i. pages_at t i readings) (range_with_len 0 k)) = cc in
-        ap (λ (m : ℕ). Some m) (missing_is t (places_in_rounds t k readings) named names)
-
-no_missing : (readings : Readings) (k : ℕ) → None ≡ named_at k readings → None ≡ option_map (λ table. missing_after table k readings) readings.main.table
-no_missing readings k is = go readings.main.table is
-  where
-    go : (o : Option RamTable) → None ≡ option_map (λ t. named_by t (map (λ i. pages_at t i readings) (range_with_len 0 k))) o → None ≡ option_map (λ t. missing_after t k readings) o
-    go None e = refl
-    go (Some t) e = absurd cc
-
 missing_told : (readings : Readings) (k : ℕ) (target : Option LoadTarget) → option_map (λ t. t.named) target ≡ named_at k readings
-    → missing_in target ≡ option_map (λ table. missing_after table k readings) readings.main.table
+    → missing_in target ≡ missing_at k readings
 missing_told readings k None is = no_missing readings k is
 missing_told readings k (Some t) is = counted_missing readings k t.named is
 
-pub missing_read : (given : LoadSettings) (uuid : List ℕ) (texts : Texts) (s : LoadSession) (n : Option ℕ) → (stands : StandsFor given uuid texts s) → n ≡ missing_in s.target
+-- the number of pages that the target leaves out is that of the pages which no counted round
+-- names, in the streams as far as the session read them
+pub missing_read : (given : LoadSettings) (uuid : List ℕ) (texts : Texts) (s : LoadSession) (n : Option ℕ)
+    → (stands : StandsFor given uuid texts s) → n ≡ missing_in s.target
     → HasMissing given uuid stands.read (rounds_loaded s.target) n
 missing_read given uuid texts s n stands is =
     let named = stands.has_named in
-    record { readings = named.readings; are_readings = named.are_readings; is_count = is ∙ missing_told named.readings (rounds_loaded s.target) s.target named.are_named }
+    record {
+      readings = named.readings;
+      are_readings = named.are_readings;
+      is_count = is ∙ missing_told named.readings (rounds_loaded s.target) s.target named.are_named;
+    }

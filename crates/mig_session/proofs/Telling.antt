@@ -1,12 +1,11 @@
 -- What the verdict that sources give at a round says of the answer on streams so far.
-use Rattle.std.proofs.Common.{ℕ, ◌≡◌, Bool, true, false, List, [], ◌∷◌, refl, sym, ap, ◌∙◌, inl, inr, Option, Some, None}
+use Rattle.std.proofs.Common.{ℕ, ◌≡◌, false, List, [], ◌∷◌, refl, sym, ap, ◌∙◌, Option, Some, None}
 use Rattle.std.specs.Prelude.{IsTrue, IsFalse}
 use Rattle.std.specs.Bool.{then_some}
 use Rattle.std.specs.Option.{option_map, unwrap_or}
 use Rattle.std.specs.List.{All, list_any}
-use Rattle.std.proofs.lemmas.Bool.{cases_Bool}
-use Rattle.std.proofs.lemmas.List.Elements.{All-nil, All-cons}
 use Rattle.mig_mem.specs.First.{first_some}
+use Rattle.mig_mem.proofs.Lists.{then_none}
 use Rattle.mig_assemble.specs.declared.fault.RoundFault.{RoundFault}
 use Rattle.mig_single_load.specs.declared.fault.Origin.TheVariants as origin
 use Rattle.mig_single_load.specs.declared.fault.Fault.TheVariants as fault
@@ -15,24 +14,19 @@ use Rattle.mig_answer.specs.declared.verdict.Verdict.TheVariants.{Running}
 use Rattle.mig_answer.specs.Status.{is_whole, is_pending}
 use Rattle.mig_answer.specs.Texts.{Readings}
 use Rattle.mig_answer.specs.Rounds.{refusal_at}
-use Rattle.mig_answer.specs.MultiLoad.{Standing, main_at, channels_at, sources_at, hello_ids, repeated_hello, passes, failed, verdicts_told, verdict_at}
+use Rattle.mig_answer.specs.MultiLoad.{Standing, main_at, channels_at, sources_at, hello_ids, repeated_hello, passes, failed, sources_verdicts, verdict_at}
+use Rattle.mig_answer.proofs.Growing.{none_passes}
 use Rattle.mig_session.specs.Advancing.{IsDue}
 use Rattle.mig_answer.proofs.Statuses.{passes_all, first_none}
-use Rattle.mig_answer.proofs.Judged.{IsSettled, then_none}
+use Rattle.mig_answer.proofs.Judged.{IsFinal}
 use Rattle.mig_answer.proofs.ToldSources.{AreWhole, told_at, round_told, told_first_some, none_told, first_behind}
 
-none_of_any : {X : Type 0} (test : X → Bool) (xs : List X) → list_any test xs ≡ false → All (λ x. test x ≡ false) xs
-none_of_any test [] e = All-nil (λ x. test x ≡ false)
-none_of_any test (x ∷ xs) e = elim (cases_Bool (test x)) [
-  | inl t ↦ let bad : list_any test (x ∷ xs) ≡ true = rw t refl in absurd cc
-  | inr f ↦ All-cons (λ y. test y ≡ false) x xs f (none_of_any test xs (let rest : list_any test (x ∷ xs) ≡ list_any test xs = rw f refl in sym rest ∙ e))
-]
-
 -- if there is no verdict no source is pending
-settled_where_due : (k : ℕ) (m : Standing) (cs : List Standing) (repeated : Option ℕ) → first_some (verdicts_told k m cs repeated) ≡ None → All IsSettled (m ∷ cs)
+settled_where_due : (k : ℕ) (m : Standing) (cs : List Standing) (repeated : Option ℕ)
+    → first_some (sources_verdicts k m cs repeated) ≡ None → All IsFinal (m ∷ cs)
 settled_where_due k m cs repeated none =
-    none_of_any (λ (s : Standing). is_pending s.status) (m ∷ cs) (then_none (list_any (λ (s : Standing). is_pending s.status) (m ∷ cs)) Running (first_none
-    (then_some (list_any (λ (s : Standing). is_pending s.status) (m ∷ cs)) Running) (rest_of (verdicts_told k m cs repeated)) none).0)
+    none_passes (λ (s : Standing). is_pending s.status) (m ∷ cs) (then_none (list_any (λ (s : Standing). is_pending s.status) (m ∷ cs)) Running (first_none
+    (then_some (list_any (λ (s : Standing). is_pending s.status) (m ∷ cs)) Running) (rest_of (sources_verdicts k m cs repeated)) none).0)
   where
     rest_of : List (Option Verdict) → List (Option Verdict)
     rest_of [] = []
@@ -64,7 +58,8 @@ due_refused k readings f due refused =
     (stops, sym (ap (λ (o : Option Verdict). unwrap_or o Running) first))
 
 -- a verdict of the sources is that at a round that doesn't pass
-pub told_here : (k : ℕ) (readings : Readings) (v : Verdict) → Some v ≡ first_some (told_at k readings) → IsFalse (passes k readings) × (v ≡ verdict_at k readings)
+pub told_here : (k : ℕ) (readings : Readings) (v : Verdict) → Some v ≡ first_some (told_at k readings)
+    → IsFalse (passes k readings) × (v ≡ verdict_at k readings)
 told_here k readings v e =
     let found = told_first_some k readings v (sym e) in
     (found.0, sym (ap (λ (o : Option Verdict). unwrap_or o Running) found.1))

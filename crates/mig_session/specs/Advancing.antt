@@ -14,7 +14,7 @@ use Rattle.mig_answer.specs.declared.verdict.Verdict.{Verdict}
 use Rattle.mig_answer.specs.declared.verdict.Verdict.TheVariants.{Failed}
 use Rattle.mig_answer.specs.Texts.{Text, Texts, Readings, AreReadings}
 use Rattle.mig_answer.specs.Rounds.{memory_at, named_at}
-use Rattle.mig_answer.specs.MultiLoad.{main_at, channels_at, hello_ids, repeated_hello, verdicts_told, passes, IsFirstStop, failed, verdict_at}
+use Rattle.mig_answer.specs.MultiLoad.{main_at, channels_at, hello_ids, repeated_hello, sources_verdicts, passes, IsFirstStop, failed, verdict_at}
 use Rattle.mig_answer.specs.Putting.{HasLoaded}
 use Rattle.mig_session.specs.Sources.{FedChannel, FedSources, HoldsChannel, Holds}
 use Rattle.mig_session.specs.Session.{rounds_loaded, feed_step, HasOnly, HaveOnly}
@@ -69,7 +69,7 @@ HasTaken f from piece s target result = (readings : Readings) → AreReadings f.
 -- a round is due if the sources have no verdict at it: each source has the round, and no hello's id
 -- is repeated
 abbrev pub IsDue : ℕ → Readings → Type 0
-IsDue k readings = first_some (verdicts_told k (main_at k readings) (channels_at k readings) (repeated_hello (hello_ids readings))) ≡ None
+IsDue k readings = first_some (sources_verdicts k (main_at k readings) (channels_at k readings) (repeated_hello (hello_ids readings))) ≡ None
 
 -- All sources have the next round, and it is due.
 pub record RoundIsDue (f : Feeding) (s : FedSources) (t : LoadTarget) : Type 0 where

@@ -24,7 +24,7 @@ use Rattle.mig_answer.specs.declared.verdict.Verdict.TheVariants.{Running}
 use Rattle.mig_answer.specs.Growing.{GoOn}
 use Rattle.mig_answer.specs.Status.{stream_end, channel_end, fault_of}
 use Rattle.mig_answer.specs.Texts.{Text, Texts, Readings, AreReadings, no_text, with_piece, over}
-use Rattle.mig_answer.specs.Rounds.{base_at, memory_at, named_at, missing_after}
+use Rattle.mig_answer.specs.Rounds.{base_at, memory_at, named_at, missing_at}
 use Rattle.mig_answer.specs.MultiLoad.{Answer, IsAnswer, IsWithoutMemory, passes}
 use Rattle.mig_session.specs.Sources.{Counts, Places, FedSources, counts_of, Holds}
 
@@ -185,7 +185,7 @@ missing_in target = option_map (λ t. left_out t.named.table t.named.marked) tar
 pub record HasMissing (given : LoadSettings) (uuid : List ℕ) (texts : Texts) (k : ℕ) (missing : Option ℕ) : Type 0 where
   pub readings : Readings
   pub are_readings : AreReadings given uuid texts readings
-  pub is_count : missing ≡ option_map (λ table. missing_after table k readings) readings.main.table
+  pub is_count : missing ≡ missing_at k readings
 
 -- ---- the streams, and the session's answer on them
 

@@ -21,7 +21,7 @@ use Rattle.mig_answer.specs.declared.status.Status.{Status}
 use Rattle.mig_answer.specs.declared.verdict.Verdict.{Verdict}
 use Rattle.mig_answer.specs.Status.{main_status, channel_status}
 use Rattle.mig_answer.specs.Texts.{Text, Texts, Readings, IsMainReading, AreReadings}
-use Rattle.mig_answer.specs.MultiLoad.{main_at, channels_at, hello_ids, repeated_hello, verdicts_told}
+use Rattle.mig_answer.specs.MultiLoad.{main_at, channels_at, hello_ids, repeated_hello, sources_verdicts}
 
 -- ---- the state
 
@@ -121,7 +121,7 @@ TellsHello c hello = (given : channel.Settings) (k : ℕ) (text : Text) (reading
 abbrev pub TellsAll : ℕ → FedSources → Option Verdict → Type 0
 TellsAll k s told = (given : LoadSettings) (uuid : List ℕ) (texts : Texts) (readings : Readings) → IsPageSize given.page_size
     → Holds given uuid k texts s → AreReadings given uuid texts readings
-    → told ≡ first_some (verdicts_told k (main_at k readings) (channels_at k readings) (repeated_hello (hello_ids readings)))
+    → told ≡ first_some (sources_verdicts k (main_at k readings) (channels_at k readings) (repeated_hello (hello_ids readings)))
 
 -- ---- the round that is judged
 

@@ -51,7 +51,7 @@ impl<A: Allocator + Copy> ChannelSource<A> {
         ensures count { channel_count result ≡ record { fed = 0; ended = false } }
     {
         let mut source = ChannelSource {
-            reader: ChannelReader::new_within(
+            reader: ChannelReader::new_with(
                 alloc,
                 settings.page_size,
                 uuid,

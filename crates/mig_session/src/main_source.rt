@@ -44,7 +44,7 @@ impl<A: Allocator + Copy> MainSource<A> {
         ensures count { main_count result ≡ record { fed = 0; ended = false } }
     {
         let mut source = MainSource {
-            reader: StreamReader::new_within(
+            reader: StreamReader::new_with(
                 alloc,
                 settings.frame,
                 settings.main_mode(),

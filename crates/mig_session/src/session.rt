@@ -138,15 +138,15 @@ fn judge_rounds<A: Allocator + Copy>(
     ensures counts { counts_of sources.new ≡ counts_of sources.old }
     ensures more { target.old.rounds ≤ target.new.rounds }
 {
-    let mut told = sources.told(target.rounds());
-    'rounds: while told.is_none() {
+    let mut found = sources.sources_verdict(target.rounds());
+    'rounds: while found.is_none() {
         if let Err(fault) = sources.judge(target) {
             return verdict_of(fault);
         }
         sources.advance();
-        told = sources.told(target.rounds());
+        found = sources.sources_verdict(target.rounds());
     }
-    match told {
+    match found {
         Some(verdict) => Ok(verdict),
         None => unreachable!(),
     }
@@ -178,12 +178,12 @@ fn make_target<A: Allocator + Copy>(
 }
 
 // Returns the verdict before the table is there.
-fn told_without_table<A: Allocator>(sources: &mut Sources<A>) -> Verdict
+fn verdict_without_table<A: Allocator>(sources: &mut Sources<A>) -> Verdict
     requires { (f : Feeding) × Advances f sources.old None × (f.readings.main.table ≡ None) }
     ensures told { (f : Feeding) → Advances f sources.old None → f.readings.main.table ≡ None → TellsVerdict f.readings None result }
     ensures same { sources.new ≡ sources.old }
 {
-    match sources.told(0) {
+    match sources.sources_verdict(0) {
         Some(verdict) => verdict,
         None => unreachable!(),
     }
@@ -204,7 +204,7 @@ fn advance<A: Allocator + Copy>(
     make_target(alloc, sources, target)?;
     match target {
         Some(target) => judge_rounds(sources, target),
-        None => Ok(told_without_table(sources)),
+        None => Ok(verdict_without_table(sources)),
     }
 }
 
@@ -257,14 +257,14 @@ fn end_source<A: Allocator>(
     requires { HasSource (counts_of sources.old) source }
     ensures holds { (given : LoadSettings) (uuid : List ℕ) (k : ℕ) (texts : Texts) → Holds given uuid k texts sources.old
         → Holds given uuid k (end_step source texts) sources.new }
-    ensures told { (told : Option Verdict) × TellsAll rounds sources.new told × (result ≡ unwrap_or told running) }
+    ensures told { (found : Option Verdict) × TellsAll rounds sources.new found × (result ≡ unwrap_or found running) }
     ensures counts { counts_of sources.new ≡ with_end (counts_of sources.old) source }
     ensures places { (given : LoadSettings) (uuid : List ℕ) (k : ℕ) (texts : Texts) → Holds given uuid k texts sources.old
         → HavePlaces given uuid texts places.old → HavePlaces given uuid (end_step source texts) places.new }
 {
     sources.end(source);
     note(sources, source, places);
-    sources.told(rounds).unwrap_or(Verdict::Running)
+    sources.sources_verdict(rounds).unwrap_or(Verdict::Running)
 }
 
 // Drops the sources if the load has its verdict.
@@ -305,7 +305,7 @@ impl<A: Allocator + Copy> Session<A> {
         ensures stands { IfOk result (λ s. StandsFor (ram_settings page_size limit) uuid.now (no_texts channels) s) }
         ensures counts { IfOk result (λ s. s.counts ≡ record { main = no_count; channels = replicate channels no_count }) }
     {
-        Session::new_in(alloc, LoadSettings::new(page_size, limit), uuid, channels)
+        Session::new_with(alloc, LoadSettings::new(page_size, limit), uuid, channels)
     }
 
     /// Creates a session that was fed nothing, of `channels` channels under `uuid`. Its main stream
@@ -314,7 +314,7 @@ impl<A: Allocator + Copy> Session<A> {
     /// # Errors
     ///
     /// `NoMemory`: an allocation was refused.
-    pub fn new_in(
+    pub fn new_with(
         alloc: A,
         settings: LoadSettings,
         uuid: &Uuid,
@@ -555,9 +555,9 @@ impl<A: Allocator> Session<A> {
         self.target.as_ref().map(|target| target.memory())
     }
 
-    /// Returns how many pages of the guest no record and no packet of the rounds in the memory named:
-    /// these are zeros, as the memory was at first. None before the size list is complete, and after
-    /// a refused allocation.
+    /// Returns how many pages of the guest no record and no packet of the rounds in the memory
+    /// named: these are zeros, as the memory was at first. None before the size list is complete,
+    /// and after a refused allocation.
     ///
     /// At `Verdict::Done` the streams don't have these pages. A load of a whole guest lacks none; a
     /// load of changes alone lacks many.

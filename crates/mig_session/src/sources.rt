@@ -19,7 +19,7 @@ use crate::Source;
 use crate::channel_source::ChannelSource;
 use crate::main_source::MainSource;
 use crate::places::SourcePlaces;
-use mig_answer::{Status, Verdict, put, repeated_id, verdict_told};
+use mig_answer::{Status, Verdict, apply, repeated_id, sources_verdict};
 use mig_assemble::{Gathered, Target};
 use mig_mem::{NoMemory, Table};
 use mig_single_load::{LoadFault, LoadSettings, no_memory};
@@ -94,7 +94,7 @@ fn look_at_hellos<A: Allocator>(channels: &[ChannelSource<A>], hellos: &mut Vec<
 
 // Returns whether each channel has the rounds that were judged and no further one, and no fault.
 fn have_only<A: Allocator>(channels: &[ChannelSource<A>]) -> bool
-    ensures { (told : List Bool) × AllZip TellsOnly channels.now told × (result ≡ list_all (λ t. t) told) }
+    ensures { (found : List Bool) × AllZip TellsOnly channels.now found × (result ≡ list_all (λ t. t) found) }
 {
     let mut all = true;
     for channel in channels {
@@ -185,7 +185,7 @@ impl<A: Allocator + Copy> Sources<A> {
             return no_memory(target.rounds());
         };
         match self.main.round() {
-            Some(round) => put(target, round, &gathered),
+            Some(round) => apply(target, round, &gathered),
             None => unreachable!(),
         }
     }
@@ -221,18 +221,18 @@ impl<A: Allocator> Sources<A> {
 
     /// Returns the sources' verdict at round `round`, up to which all were judged. If all have it,
     /// and no hello is repeated, returns None.
-    pub(crate) fn told(&mut self, round: u64) -> Option<Verdict>
+    pub(crate) fn sources_verdict(&mut self, round: u64) -> Option<Verdict>
         ensures told { TellsAll round self.old result }
         ensures same { self.new ≡ self.old }
     {
         let main = self.main.status();
         look_at_statuses(&self.channels, &mut self.statuses);
         look_at_hellos(&self.channels, &mut self.hellos);
-        verdict_told(round, main, &self.statuses, repeated_id(&self.hellos))
+        sources_verdict(round, main, &self.statuses, repeated_id(&self.hellos))
     }
 
-    /// Returns whether the main stream is closed after the rounds that were judged, and each channel
-    /// has them and no further one, and no fault.
+    /// Returns whether the main stream is closed after the rounds that were judged, and each
+    /// channel has them and no further one, and no fault.
     pub(crate) fn all_in(&self) -> bool
         ensures { TellAllIn self.now result }
     {

@@ -27,7 +27,7 @@ fn has_fault(session: &Session, fault: Option<Fault>) -> bool {
 
 // Ends the channel before its last byte, and feeds a part of the main stream. Returns whether the
 // channel's fault is reported, though the load runs.
-fn is_told_while_main_goes_on(rt: &(impl AllocGlobal + Abort)) -> bool {
+fn is_reported_while_main_goes_on(rt: &(impl AllocGlobal + Abort)) -> bool {
     let sent = nines(rt);
     let mut session = new_session(rt, rt.alloc(), 4096, 1);
     has_channel(&mut session, &sent, 0, 6847)
@@ -45,7 +45,7 @@ fn is_told_while_main_goes_on(rt: &(impl AllocGlobal + Abort)) -> bool {
 
 #[test]
 fn channel_that_is_cut(rt: HostRuntime) {
-    assert!(rt; is_told_while_main_goes_on(&rt));
+    assert!(rt; is_reported_while_main_goes_on(&rt));
 }
 
 // Feeds all but the end of the channel. Returns whether all rounds are in with the last byte, and

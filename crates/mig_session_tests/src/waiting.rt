@@ -2,29 +2,20 @@
 
 use crate::feeding::LIMIT;
 use crate::texts::{Part, main_of, one};
-use mig_relay::multi_valid_up_to;
+use mig_relay::channel_valid_up_to;
 use mig_send::Sent;
-use mig_single_load::{LoadSettings, Origin};
+use mig_single_load::LoadSettings;
 use std::alloc::AllocGlobal;
 use std::process::Abort;
 use uuid::Uuid;
 
 // Returns whether the channel is valid up to byte `at`, if `most` may wait.
 fn is_valid_up_to(rt: &(impl AllocGlobal + Abort), sent: &Sent, most: u64, at: u64) -> bool {
-    let channels = sent.channels.as_slice();
-    if channels.len() != 1 {
+    let Some(channel) = sent.channels.first() else {
         return false;
-    }
+    };
     let settings = LoadSettings::new(4096, LIMIT).with_waiting(Some(most));
-    let found = multi_valid_up_to(
-        rt.alloc(),
-        settings,
-        &Uuid::nil(),
-        &sent.main,
-        channels,
-        Origin::Channel(0),
-    );
-    found == Ok(Some(at))
+    channel_valid_up_to(rt.alloc(), settings, &Uuid::nil(), 1, channel) == Ok(at)
 }
 
 // Two rounds of one channel: a SYNC packet, which counts 1, and then a packet of one page, which

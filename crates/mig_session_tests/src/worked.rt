@@ -94,7 +94,7 @@ fn machines_main(rt: &(impl AllocGlobal + Abort), ram: &[u8]) -> Vec<u8> {
 
 fn machines_session(rt: &(impl AllocGlobal + Abort)) -> Session {
     let settings = LoadSettings::new(4096, LIMIT).with_frame(Frame::Machine);
-    Session::new_in(rt.alloc(), settings, &Uuid::nil(), 1).expect(rt, "a session")
+    Session::new_with(rt.alloc(), settings, &Uuid::nil(), 1).expect(rt, "a session")
 }
 
 // Loads a machine's main stream in pieces of `len` bytes. It is closed after 117 bytes, by END's

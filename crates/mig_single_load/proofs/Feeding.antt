@@ -1,5 +1,5 @@
 -- A loader that is fed in pieces.
-use Rattle.std.proofs.Common.{ℕ, ◌≡◌, ◌≤◌, ◌<◌, ◌+◌, ◌^◌, List, [], ◌++◌, length, take, refl, sym, ap, ◌∙◌, inl, inr, Bool, true, false, Option, Some, None, subst, arith}
+use Rattle.std.proofs.Common.{ℕ, ◌≡◌, ◌≤◌, ◌<◌, ◌+◌, ◌^◌, List, [], ◌++◌, length, take, refl, sym, ap, ◌∙◌, inl, inr, Bool, false, Option, Some, None, subst, arith}
 use Rattle.std.specs.Prelude.{⊤, IsOk, OnOk, OnErr, Result, Ok, Err}
 use Rattle.std.proofs.lemmas.List.{take-append-le, length-append}
 use Rattle.mig_mem.specs.PageSize.{IsPageSize}
@@ -8,7 +8,7 @@ use Rattle.mig_stream.specs.PageRecord.{PageRecord}
 use Rattle.mig_stream.specs.declared.item.StreamState.TheVariants.{Reading}
 use Rattle.mig_stream.specs.Progress.{StreamProgress, start}
 use Rattle.mig_stream.specs.Reading.{StreamReading}
-use Rattle.mig_stream.specs.Reader.{Reader, Stands, StepsOn, nothing_yet, with_piece, over}
+use Rattle.mig_stream.specs.Reader.{Reader, Stands, StepsOn, nothing_yet, with_piece}
 use Rattle.mig_stream.specs.Law.{StaysRead}
 use Rattle.mig_stream.proofs.Exists.{one_reading_law}
 use Rattle.mig_stream.proofs.Feeding.{reads_short}
@@ -19,7 +19,7 @@ use Rattle.mig_assemble.specs.NamedPlaces.{named_by}
 use Rattle.mig_assemble.specs.Target.{LoadTarget}
 use Rattle.mig_single_load.specs.Settings.{single_of}
 use Rattle.mig_single_load.specs.declared.settings.LoadSettings.{LoadSettings}
-use Rattle.mig_single_load.specs.Loader.{loader, sections_loaded, put_so_far, HasAllSections, Waits, Loads, HasFirst, WasFed, LoadsSome, WasFedSome}
+use Rattle.mig_single_load.specs.Loader.{loader, put_so_far, HasAllSections, Waits, Loads, HasFirst, WasFed, LoadsSome, WasFedSome}
 use Rattle.mig_single_load.proofs.Sections.{pages_in, same_reading, are_given, none_there, fed_of}
 
 -- what is in the memory stays the front of the stream, if more bytes follow
@@ -38,13 +38,15 @@ first_stays given first text piece ended r t size stands has =
           let one : reading ≡ now.0 = same_reading given (text ++ piece) reading now.0 size is now.1 in
           let rounds : reading.rounds ≡ before.rounds ++ stays.more_rounds = ap (λ (x : StreamReading). x.rounds) one ∙ stays.has_rounds in
           has.has_memory before is_before
-          ∙ ap (λ (l : List (List PageRecord)). with_rounds first (pages_in given.page_size l)) (sym (take-append-le t.rounds before.rounds stays.more_rounds few))
+          ∙ ap (λ (l : List (List PageRecord)). with_rounds first (pages_in given.page_size l))
+          (sym (take-append-le t.rounds before.rounds stays.more_rounds few))
           ∙ ap (λ (l : List (List PageRecord)). with_rounds first (pages_in given.page_size (take t.rounds l))) (sym rounds);
       has_named = λ reading is.
           let one : reading ≡ now.0 = same_reading given (text ++ piece) reading now.0 size is now.1 in
           let rounds : reading.rounds ≡ before.rounds ++ stays.more_rounds = ap (λ (x : StreamReading). x.rounds) one ∙ stays.has_rounds in
           has.has_named before is_before
-          ∙ ap (λ (l : List (List PageRecord)). named_by first.table (pages_in given.page_size l)) (sym (take-append-le t.rounds before.rounds stays.more_rounds few))
+          ∙ ap (λ (l : List (List PageRecord)). named_by first.table (pages_in given.page_size l))
+          (sym (take-append-le t.rounds before.rounds stays.more_rounds few))
           ∙ ap (λ (l : List (List PageRecord)). named_by first.table (pages_in given.page_size (take t.rounds l))) (sym rounds);
     }
 
@@ -73,7 +75,8 @@ fed_some r o some = record {
 }
 
 -- and with a piece more
-pub fed_piece : (r s : Reader) (o : Option LoadTarget) (piece : List ℕ) → StepsOn (with_piece piece) r s → LoadsSome (loader r o) → r.fed + length piece < 2 ^ 63 → WasFedSome (loader s o)
+pub fed_piece : (r s : Reader) (o : Option LoadTarget) (piece : List ℕ) → StepsOn (with_piece piece) r s → LoadsSome (loader r o)
+    → r.fed + length piece < 2 ^ 63 → WasFedSome (loader s o)
 fed_piece r s o piece step some room =
     let before = fed_of some.given r o some.text some.ended some.loads in
     let fed = before.stands.has_fed in
@@ -85,34 +88,30 @@ fed_piece r s o piece step some room =
       has_fed = fed_longer some.given r s o some.text piece some.ended step before;
     }
 
--- what the reader does alone changes no section
-all_stays : (given : LoadSettings) (r s : Reader) (o : Option LoadTarget) (text : List ℕ) → HasAllSections given (loader r o) text → HasAllSections given (loader s o) text
-all_stays given r s o text all = record { reading = all.reading; is_reading = all.is_reading; has_memory = all.has_memory; has_named = all.has_named; has_rounds = all.has_rounds }
-
-waits_stays : (given : LoadSettings) (r s : Reader) (o : Option LoadTarget) (text : List ℕ) → Waits given (loader r o) text → Waits given (loader s o) text
-waits_stays given r s o text waits = record { table = waits.table; has_table = waits.has_table; has_no_memory = waits.has_no_memory }
-
--- the stream has ended
-pub loads_over : (given : LoadSettings) (r s : Reader) (o : Option LoadTarget) (text : List ℕ) (ended : Bool) → StepsOn over r s → Loads given (loader r o) text ended → Loads given (loader s o) text true
-loads_over given r s o text ended step loads = record {
-  is_page_size = loads.is_page_size;
-  stands = step (single_of given) (put_so_far text ended (sections_loaded (loader r o))) loads.stands;
-  has_sections = elim loads.has_sections [
-    | inl all ↦ inl (all_stays given r s o text all)
-    | inr waits ↦ inr (waits_stays given r s o text waits)
-  ];
-}
-
 -- before the first piece
 pub none_yet : (given : LoadSettings) (r : Reader) → IsPageSize given.page_size → HasAllSections given (loader r None) []
 none_yet given r size =
     let begin : StreamProgress = start given.frame Single given.page_size given.limit given.waiting in
     let reading : StreamReading = record { table = None; rounds = []; state = Reading } in
-    none_there given [] r size (reading, record { to = begin; rest = []; reads = reads_short begin [] (omega arith); has_table = refl; has_rounds = refl }, refl)
+    none_there given [] r size (
+      reading,
+      record {
+        to = begin;
+        rest = [];
+        reads = reads_short begin [] (omega arith);
+        has_table = refl;
+        has_rounds = refl;
+      },
+      refl,
+    )
 
-pub loads_nothing : (given : LoadSettings) (r : Reader) → IsPageSize given.page_size → Stands (single_of given) nothing_yet r → Loads given (loader r None) [] false
+-- before the first byte a loader has loaded nothing
+pub loads_nothing : (given : LoadSettings) (r : Reader) → IsPageSize given.page_size → Stands (single_of given) nothing_yet r
+    → Loads given (loader r None) [] false
 loads_nothing given r size stands = record { is_page_size = size; stands = stands; has_sections = inl (none_yet given r size) }
 
+-- a loader without a memory, whose reader was fed nothing, represents some stream of fewer than
+-- 2^63 bytes
 pub nothing_some : (given : LoadSettings) (r : Reader) → IsPageSize given.page_size → Stands (single_of given) nothing_yet r → LoadsSome (loader r None)
 nothing_some given r size stands = record {
   given = given;
@@ -123,7 +122,8 @@ nothing_some given r size stands = record {
 }
 
 -- its sections wait, and nothing has changed
-pub waits_now : (given : LoadSettings) (r s : Reader) (o u : Option LoadTarget) (text : List ℕ) (ended : Bool) → WasFed given (loader r o) text ended → Waits given (loader r o) text
+pub waits_now : (given : LoadSettings) (r s : Reader) (o u : Option LoadTarget) (text : List ℕ) (ended : Bool)
+    → WasFed given (loader r o) text ended → Waits given (loader r o) text
     → (s ≡ r) × (u ≡ o) → Loads given (loader s u) text ended × Waits given (loader s u) text
 waits_now given r s o u text ended fed wait same =
     subst (λ (x : Reader). Loads given (loader x u) text ended × Waits given (loader x u) text) (sym same.0)
@@ -132,7 +132,8 @@ waits_now given r s o u text ended fed wait same =
 
 -- some stream that it represents, after its sections were applied or couldn't be
 pub settled_some : {E : Type 0} (result : Result ⊤ E) (r s : Reader) (o u : Option LoadTarget) → WasFedSome (loader r o)
-    → OnOk result ((given : LoadSettings) (text : List ℕ) (ended : Bool) → WasFed given (loader r o) text ended → Loads given (loader s u) text ended × HasAllSections given (loader s u) text)
+    → OnOk result ((given : LoadSettings) (text : List ℕ) (ended : Bool) → WasFed given (loader r o) text ended
+    → Loads given (loader s u) text ended × HasAllSections given (loader s u) text)
     → OnErr result ((given : LoadSettings) (text : List ℕ) (ended : Bool) → WasFed given (loader r o) text ended → Waits given (loader r o) text)
     → OnErr result ((s ≡ r) × (u ≡ o)) → LoadsSome (loader s u)
 settled_some (Ok x) r s o u some ok waits same = record {
@@ -152,6 +153,7 @@ settled_some (Err e) r s o u some ok waits same =
       loads = (waits_now some.given r s o u some.text some.ended some.has_fed wait same).0;
     }
 
+-- what holds of an error may be weakened
 pub on_err_so : {R E : Type 0} (result : Result R E) (P Q : Type 0) → OnErr result P → (P → Q) → OnErr result Q
 on_err_so (Ok x) P Q p f = tt
 on_err_so (Err e) P Q p f = f p

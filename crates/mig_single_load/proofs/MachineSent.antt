@@ -26,11 +26,11 @@ use Rattle.mig_single_load.specs.declared.settings.LoadSettings.{LoadSettings}
 use Rattle.mig_single_load.specs.declared.loaded.Loaded.{Loaded}
 use Rattle.mig_single_load.specs.declared.fault.LoadFault.{LoadFault}
 use Rattle.mig_single_load.specs.Settings.{single_of, ram_settings, for_table, LetsThrough}
-use Rattle.mig_single_load.specs.SingleLoad.{IsSingleAnswer, IsSingleWithoutMemory, loaded, unloaded, verdict_of}
-use Rattle.mig_single_load.specs.Loader.{Loader, Loads, Answers}
+use Rattle.mig_single_load.specs.SingleLoad.{IsSingleAnswer, IsSingleWithoutMemory, HasLoadedRounds, unloaded, verdict_of}
+use Rattle.mig_single_load.specs.Loader.{Loader, Answers}
 use Rattle.mig_single_load.specs.InPlace.{settings_of, IsOfOwnTable, HasRecordsOnto, HasSectionsOnto, HasVerdictOnto}
 use Rattle.mig_single_load.specs.MachineSent.{IsSent, IsMachineSent, SentIsLoadedWithin, MachineSentIsLoadedInPlace}
-use Rattle.mig_single_load.proofs.Sections.{same_reading, sent_answer_is}
+use Rattle.mig_single_load.proofs.Sections.{same_reading, closed_answer_is, sent_answer_is}
 use Rattle.mig_single_load.proofs.Onto.{sent_sections}
 use Rattle.mig_single_load.proofs.LoadsInPlace.{closed_by_sections}
 
@@ -43,7 +43,8 @@ sections_of rounds = [] ∷ map (map written_record) rounds ++ [] ∷ []
 abbrev IsFew : ℕ → List PageRecord → Type 0
 IsFew limit round = length round ≤ limit
 
-few_rounds : (limit : ℕ) (rounds : List (List Page)) → All (λ (round : List Page). length round ≤ limit) rounds → All (IsFew limit) (map (map written_record) rounds)
+few_rounds : (limit : ℕ) (rounds : List (List Page)) → All (λ (round : List Page). length round ≤ limit) rounds
+    → All (IsFew limit) (map (map written_record) rounds)
 few_rounds limit [] all = All-nil (IsFew limit)
 few_rounds limit (round ∷ rounds) all =
     All-cons (IsFew limit) (map written_record round) (map (map written_record) rounds)
@@ -54,44 +55,55 @@ few_sections : (limit : ℕ) (rounds : List (List Page)) → All (λ (round : Li
 few_sections limit rounds all =
     let none : IsFew limit [] = omega arith in
     All-cons (IsFew limit) [] (map (map written_record) rounds ++ [] ∷ []) none
-    (All-append (IsFew limit) (map (map written_record) rounds) ([] ∷ []) (few_rounds limit rounds all) (All-cons (IsFew limit) [] [] none (All-nil (IsFew limit))))
+    (All-append (IsFew limit) (map (map written_record) rounds) ([] ∷ []) (few_rounds limit rounds all)
+    (All-cons (IsFew limit) [] [] none (All-nil (IsFew limit))))
 
 -- what is read without a limit is read within one that lets the rounds through
 within : (given : LoadSettings) (table : RamTable) (rounds : List (List Page)) (text : List ℕ) → LetsThrough given.waiting rounds
-    → IsReading (in_frame given.frame (settings Single given.page_size given.limit)) text (closed table (sections_of rounds)) → IsReading (single_of given) text (closed table (sections_of rounds))
+    → IsReading (in_frame given.frame (settings Single given.page_size given.limit)) text (closed table (sections_of rounds))
+    → IsReading (single_of given) text (closed table (sections_of rounds))
 within given table rounds text lets read = by_limit given.waiting refl
   where
     by_limit : (w : Option ℕ) → given.waiting ≡ w → IsReading (single_of given) text (closed table (sections_of rounds))
     by_limit None e =
-        subst (λ (w : Option ℕ). IsReading (with_waiting w (in_frame given.frame (settings Single given.page_size given.limit))) text (closed table (sections_of rounds))) (sym e) read
-    by_limit (Some limit) e = through_law (single_of given) limit text (closed table (sections_of rounds)) e read refl (few_sections limit rounds (subst (λ (w : Option ℕ). LetsThrough w rounds) e lets))
+        subst (λ (w : Option ℕ). IsReading (with_waiting w (in_frame given.frame (settings Single given.page_size given.limit)))
+        text (closed table (sections_of rounds))) (sym e) read
+    by_limit (Some limit) e = through_law (single_of given) limit text (closed table (sections_of rounds)) e read refl
+        (few_sections limit rounds (subst (λ (w : Option ℕ). LetsThrough w rounds) e lets))
 
 -- ---- the readings
 
 -- of these bytes in a frame, with the page size and the limit of a load
-framed : (given : LoadSettings) (f : Frame) (table : RamTable) (rounds : List (List Page)) (text bytes : List ℕ) → given.frame ≡ f → table.page_size ≡ given.page_size → text ≡ bytes
-    → IsReading (in_frame f (settings Single table.page_size given.limit)) bytes (closed table (sections_of rounds)) → IsReading (in_frame given.frame (settings Single given.page_size given.limit)) text (closed table (sections_of rounds))
+framed : (given : LoadSettings) (f : Frame) (table : RamTable) (rounds : List (List Page)) (text bytes : List ℕ) → given.frame ≡ f
+    → table.page_size ≡ given.page_size → text ≡ bytes
+    → IsReading (in_frame f (settings Single table.page_size given.limit)) bytes (closed table (sections_of rounds))
+    → IsReading (in_frame given.frame (settings Single given.page_size given.limit)) text (closed table (sections_of rounds))
 framed given f table rounds text bytes frame same is read =
     let reading : StreamReading = closed table (sections_of rounds) in
     subst (λ (x : List ℕ). IsReading (in_frame given.frame (settings Single given.page_size given.limit)) x reading) (sym is)
     (subst (λ (g : Frame). IsReading (in_frame g (settings Single given.page_size given.limit)) bytes reading) (sym frame)
     (subst (λ (n : ℕ). IsReading (in_frame f (settings Single n given.limit)) bytes reading) same read))
 
-ram_read : (given : LoadSettings) (table : RamTable) (rounds : List (List Page)) (text : List ℕ) → given.frame ≡ Ram → LetsThrough given.waiting rounds → table.page_size ≡ given.page_size
+ram_read : (given : LoadSettings) (table : RamTable) (rounds : List (List Page)) (text : List ℕ) → given.frame ≡ Ram
+    → LetsThrough given.waiting rounds → table.page_size ≡ given.page_size
     → IsSent given.limit table rounds text → IsReading (single_of given) text (closed table (sections_of rounds))
 ram_read given table rounds text frame lets same sent =
     within given table rounds text lets (framed given Ram table rounds text (single table rounds ++ sent.behind) frame same sent.is_text
-    (spelled_law Single given.limit (single table rounds) sent.behind table (sections_of rounds) (written_single table rounds given.limit sent.is_table sent.has_limit sent.are_rounds)))
+    (spelled_law Single given.limit (single table rounds) sent.behind table (sections_of rounds)
+    (written_single table rounds given.limit sent.is_table sent.has_limit sent.are_rounds)))
 
-machine_read : (given : LoadSettings) (table : RamTable) (rounds : List (List Page)) (text : List ℕ) → given.frame ≡ Machine → LetsThrough given.waiting rounds → table.page_size ≡ given.page_size
+machine_read : (given : LoadSettings) (table : RamTable) (rounds : List (List Page)) (text : List ℕ) → given.frame ≡ Machine
+    → LetsThrough given.waiting rounds → table.page_size ≡ given.page_size
     → IsMachineSent given.limit table rounds text → IsReading (single_of given) text (closed table (sections_of rounds))
 machine_read given table rounds text frame lets same sent =
     let written : List ℕ = machine_written sent.name table (map RoundPart rounds) in
     within given table rounds text lets (framed given Machine table rounds text (written ++ sent.behind) frame same sent.is_text
-    (machine_is_read Single given.limit written sent.behind table (sections_of rounds) (machine_singles given.limit sent.name table rounds sent.has_name sent.is_table sent.has_limit sent.are_rounds)))
+    (machine_is_read Single given.limit written sent.behind table (sections_of rounds)
+    (machine_singles given.limit sent.name table rounds sent.has_name sent.is_table sent.has_limit sent.are_rounds)))
 
 -- the single stream of the same rounds
-alone_read : (limit : ℕ) (table : RamTable) (rounds : List (List Page)) (p : ℕ) → table.page_size ≡ p → IsTable table → total_bytes table ≤ limit → All (IsRound table) rounds
+alone_read : (limit : ℕ) (table : RamTable) (rounds : List (List Page)) (p : ℕ) → table.page_size ≡ p → IsTable table
+    → total_bytes table ≤ limit → All (IsRound table) rounds
     → IsReading (settings Single p limit) (single table rounds) (closed table (sections_of rounds))
 alone_read limit table rounds p same is room all =
     let alone : List ℕ = single table rounds in
@@ -102,58 +114,67 @@ alone_read limit table rounds p same is room all =
 
 -- ---- the answer
 
-read_answer_is : {A : Type 0} (given : LoadSettings) (text : List ℕ) (a : Loaded A) → IsPageSize given.page_size → IsSingleAnswer given text a → (table : RamTable) (rounds : List (List Page))
-    → table.page_size ≡ given.page_size → IsTable table → total_bytes table ≤ given.limit → All (IsRound table) rounds → IsReading (single_of given) text (closed table (sections_of rounds)) → a ≡ loaded table rounds
-read_answer_is given text a size answer table rounds same is room all read =
-    let reading : StreamReading = closed table (sections_of rounds) in
-    let one : answer.reading ≡ reading = same_reading given text answer.reading reading size answer.is_reading read in
-    let alone : IsSingleAnswer (ram_settings given.page_size given.limit) (single table rounds) a = record {
-      reading = answer.reading;
-      is_reading = subst (λ (r : StreamReading). IsReading (settings Single given.page_size given.limit) (single table rounds) r) (sym one) (alone_read given.limit table rounds given.page_size same is room all);
-      has_memory = answer.has_memory;
-      has_rounds = answer.has_rounds;
-      has_verdict = answer.has_verdict;
-    } in
-    sent_answer_is given.page_size given.limit (single table rounds) a size alone table rounds is same room all refl
-
-pub ram_is_loaded : {A : Type 0} (given : LoadSettings) (text : List ℕ) (a : Loaded A) → IsPageSize given.page_size → IsSingleAnswer given text a ⊎ IsSingleWithoutMemory given text a
-    → (table : RamTable) (rounds : List (List Page)) → given.frame ≡ Ram → LetsThrough given.waiting rounds → table.page_size ≡ given.page_size → IsSent given.limit table rounds text
-    → (a ≡ loaded table rounds) ⊎ IsSingleWithoutMemory given text a
+-- an answer on a stream without a machine, as it was sent, within a limit that lets its rounds
+-- through, has these rounds loaded, unless an allocation was refused
+pub ram_is_loaded : {A : Type 0} (given : LoadSettings) (text : List ℕ) (a : Loaded A) → IsPageSize given.page_size
+    → IsSingleAnswer given text a ⊎ IsSingleWithoutMemory given text a
+    → (table : RamTable) (rounds : List (List Page)) → given.frame ≡ Ram → LetsThrough given.waiting rounds
+    → table.page_size ≡ given.page_size → IsSent given.limit table rounds text
+    → HasLoadedRounds table rounds a ⊎ IsSingleWithoutMemory given text a
 ram_is_loaded given text a size (inr want) table rounds frame lets same sent = inr want
 ram_is_loaded given text a size (inl answer) table rounds frame lets same sent =
-    inl (read_answer_is given text a size answer table rounds same sent.is_table sent.has_limit sent.are_rounds (ram_read given table rounds text frame lets same sent))
+    inl (closed_answer_is given text a size answer table rounds same sent.are_rounds (ram_read given table rounds text frame lets same sent))
 
-pub machine_is_loaded : {A : Type 0} (given : LoadSettings) (text : List ℕ) (a : Loaded A) → IsPageSize given.page_size → IsSingleAnswer given text a ⊎ IsSingleWithoutMemory given text a
-    → (table : RamTable) (rounds : List (List Page)) → given.frame ≡ Machine → LetsThrough given.waiting rounds → table.page_size ≡ given.page_size → IsMachineSent given.limit table rounds text
-    → (a ≡ loaded table rounds) ⊎ IsSingleWithoutMemory given text a
+-- an answer on a machine's stream, as it was sent, within a limit that lets its rounds through,
+-- has these rounds loaded, unless an allocation was refused
+pub machine_is_loaded : {A : Type 0} (given : LoadSettings) (text : List ℕ) (a : Loaded A) → IsPageSize given.page_size
+    → IsSingleAnswer given text a ⊎ IsSingleWithoutMemory given text a
+    → (table : RamTable) (rounds : List (List Page)) → given.frame ≡ Machine → LetsThrough given.waiting rounds
+    → table.page_size ≡ given.page_size → IsMachineSent given.limit table rounds text
+    → HasLoadedRounds table rounds a ⊎ IsSingleWithoutMemory given text a
 machine_is_loaded given text a size (inr want) table rounds frame lets same sent = inr want
 machine_is_loaded given text a size (inl answer) table rounds frame lets same sent =
-    inl (read_answer_is given text a size answer table rounds same sent.is_table sent.has_limit sent.are_rounds (machine_read given table rounds text frame lets same sent))
+    inl (closed_answer_is given text a size answer table rounds same sent.are_rounds (machine_read given table rounds text frame lets same sent))
 
 -- ---- in pieces
 
-pub sent_is_finished : {A : Type 0} (limit : ℕ) (l : Loader) (a : Loaded A) (table : RamTable) (rounds : List (List Page)) → IsTable table → total_bytes table ≤ limit → All (IsRound table) rounds
-    → Answers (ram_settings table.page_size limit) l (single table rounds) a → (a ≡ loaded table rounds) ⊎ (a ≡ unloaded)
-sent_is_finished limit l a table rounds is room all (inl answer) = inl (sent_answer_is table.page_size limit (single table rounds) a is.has_page_size answer.1 table rounds is refl room all refl)
+-- a loader that was fed the single stream of some rounds answers with these rounds loaded, or
+-- NoMemory, with nothing loaded
+pub sent_is_finished : {A : Type 0} (limit : ℕ) (l : Loader) (a : Loaded A) (table : RamTable) (rounds : List (List Page))
+    → IsTable table → total_bytes table ≤ limit → All (IsRound table) rounds
+    → Answers (ram_settings table.page_size limit) l (single table rounds) a → HasLoadedRounds table rounds a ⊎ (a ≡ unloaded)
+sent_is_finished limit l a table rounds is room all (inl answer) =
+    inl (sent_answer_is table.page_size limit (single table rounds) a is.has_page_size answer.1 table rounds is refl room all refl)
 sent_is_finished limit l a table rounds is room all (inr waits) = inr waits.1
 
-pub ram_is_finished : {A : Type 0} (given : LoadSettings) (l : Loader) (text : List ℕ) (a : Loaded A) (table : RamTable) (rounds : List (List Page)) → IsPageSize given.page_size → given.frame ≡ Ram
-    → LetsThrough given.waiting rounds → table.page_size ≡ given.page_size → IsSent given.limit table rounds text → Answers given l text a → (a ≡ loaded table rounds) ⊎ (a ≡ unloaded)
+-- a loader that was fed a stream without a machine, as it was sent, within a limit that lets its
+-- rounds through, answers with these rounds loaded, or NoMemory
+pub ram_is_finished : {A : Type 0} (given : LoadSettings) (l : Loader) (text : List ℕ) (a : Loaded
+    A) (table : RamTable) (rounds : List (List Page)) → IsPageSize given.page_size → given.frame ≡ Ram
+    → LetsThrough given.waiting rounds → table.page_size ≡ given.page_size → IsSent given.limit table rounds text
+    → Answers given l text a → HasLoadedRounds table rounds a ⊎ (a ≡ unloaded)
 ram_is_finished given l text a table rounds size frame lets same sent (inl answer) =
-    inl (read_answer_is given text a size answer.1 table rounds same sent.is_table sent.has_limit sent.are_rounds (ram_read given table rounds text frame lets same sent))
+    inl (closed_answer_is given text a size answer.1 table rounds same sent.are_rounds (ram_read given table rounds text frame lets same sent))
 ram_is_finished given l text a table rounds size frame lets same sent (inr waits) = inr waits.1
 
-pub machine_is_finished : {A : Type 0} (given : LoadSettings) (l : Loader) (text : List ℕ) (a : Loaded A) (table : RamTable) (rounds : List (List Page)) → IsPageSize given.page_size → given.frame ≡ Machine
-    → LetsThrough given.waiting rounds → table.page_size ≡ given.page_size → IsMachineSent given.limit table rounds text → Answers given l text a → (a ≡ loaded table rounds) ⊎ (a ≡ unloaded)
+-- a loader that was fed a machine's stream, as it was sent, within a limit that lets its rounds
+-- through, answers with these rounds loaded, or NoMemory
+pub machine_is_finished : {A : Type 0} (given : LoadSettings) (l : Loader) (text : List ℕ) (a : Loaded
+    A) (table : RamTable) (rounds : List (List Page)) → IsPageSize given.page_size → given.frame ≡ Machine
+    → LetsThrough given.waiting rounds → table.page_size ≡ given.page_size → IsMachineSent given.limit table rounds text
+    → Answers given l text a → HasLoadedRounds table rounds a ⊎ (a ≡ unloaded)
 machine_is_finished given l text a table rounds size frame lets same sent (inl answer) =
-    inl (read_answer_is given text a size answer.1 table rounds same sent.is_table sent.has_limit sent.are_rounds (machine_read given table rounds text frame lets same sent))
+    inl (closed_answer_is given text a size answer.1 table rounds same sent.are_rounds (machine_read given table rounds text frame lets same sent))
 machine_is_finished given l text a table rounds size frame lets same sent (inr waits) = inr waits.1
 
 -- ---- in place
 
-read_in_place : (given : LoadSettings) (first : Image) (rounds : List (List Page)) (text : List ℕ) (memory : Image) (sections : ℕ) (verdict : Result ⊤ LoadFault) → IsImage first → IsTable first.table
-    → total_bytes first.table ≤ given.limit → All (IsRound first.table) rounds → IsReading (settings_of first given) text (closed first.table (sections_of rounds))
-    → HasRecordsOnto given first text memory sections → HasVerdictOnto given first text verdict → (memory ≡ with_rounds first rounds) × (sections ≡ length rounds + 2) × (verdict ≡ Ok _)
+read_in_place : (given : LoadSettings) (first : Image) (rounds : List
+    (List Page)) (text : List ℕ) (memory : Image) (sections : ℕ) (verdict : Result ⊤ LoadFault) → IsImage first → IsTable first.table
+    → total_bytes first.table ≤ given.limit → All (IsRound first.table) rounds
+    → IsReading (settings_of first given) text (closed first.table (sections_of rounds))
+    → HasRecordsOnto given first text memory sections → HasVerdictOnto given first text verdict
+    → (memory ≡ with_rounds first rounds) × (sections ≡ length rounds + 2) × (verdict ≡ Ok _)
 read_in_place given first rounds text memory sections verdict is_image is room all read has v =
     let table : RamTable = first.table in
     let load : LoadSettings = for_table table given in
@@ -167,7 +188,8 @@ read_in_place given first rounds text memory sections verdict is_image is room a
     let here : whole.reading ≡ reading = same_reading load text whole.reading reading size whole.is_reading read in
     let alone : HasSectionsOnto (ram_settings table.page_size given.limit) first (single table rounds) memory sections = record {
       reading = whole.reading;
-      is_reading = subst (λ (r : StreamReading). IsReading (settings Single table.page_size given.limit) (single table rounds) r) (sym here) (alone_read given.limit table rounds table.page_size refl is room all);
+      is_reading = subst (λ (r : StreamReading). IsReading (settings Single table.page_size given.limit) (single table rounds) r)
+          (sym here) (alone_read given.limit table rounds table.page_size refl is room all);
       same_table = whole.same_table;
       own = whole.own;
       other = whole.other;
@@ -175,11 +197,13 @@ read_in_place given first rounds text memory sections verdict is_image is room a
     let both = sent_sections given.limit first rounds memory sections is room all alone in
     (both.0, both.1, ok)
 
+-- RAM that was sent is loaded in place as it was sent
 pub ram_in_place : SentIsLoadedWithin
 ram_in_place = λ given first rounds text memory sections verdict is_image frame lets sent has v.
     read_in_place given first rounds text memory sections verdict is_image sent.is_table sent.has_limit sent.are_rounds
     (ram_read (for_table first.table given) first.table rounds text frame lets refl sent) has v
 
+-- a machine's stream that was sent is loaded in place as it was sent
 pub machine_in_place : MachineSentIsLoadedInPlace
 machine_in_place = λ given first rounds text memory sections verdict is_image frame lets sent has v.
     read_in_place given first rounds text memory sections verdict is_image sent.is_table sent.has_limit sent.are_rounds

@@ -30,8 +30,10 @@ apart first reading (inr own) other = other.2 (let both : Some other.0 ≡ Some 
 -- ---- the stream of a sender
 
 -- what it reads as
-sent_reading : (limit : ℕ) (first : Image) (rounds : List (List Page)) (reading : StreamReading) → IsTable first.table → total_bytes first.table ≤ limit → All (IsRound first.table) rounds
-    → IsReading (settings_of first (ram_settings first.table.page_size limit)) (single first.table rounds) reading → reading ≡ closed first.table ([] ∷ map (map written_record) rounds ++ [] ∷ [])
+sent_reading : (limit : ℕ) (first : Image) (rounds : List (List Page)) (reading : StreamReading) → IsTable first.table
+    → total_bytes first.table ≤ limit → All (IsRound first.table) rounds
+    → IsReading (settings_of first (ram_settings first.table.page_size limit)) (single first.table rounds) reading
+    → reading ≡ closed first.table ([] ∷ map (map written_record) rounds ++ [] ∷ [])
 sent_reading limit first rounds reading is room all is_reading =
     let table : RamTable = first.table in
     let load : LoadSettings = ram_settings table.page_size limit in
@@ -39,19 +41,23 @@ sent_reading limit first rounds reading is room all is_reading =
     let text : List ℕ = single table rounds in
     let sections : List (List PageRecord) = [] ∷ map (map written_record) rounds ++ [] ∷ [] in
     let read : IsReading given text (closed table sections) =
-    subst (λ x. IsReading given x (closed table sections)) (append-nil text) (spelled_law Single limit text [] table sections (written_single table rounds limit is room all)) in
+    subst (λ x. IsReading given x (closed table sections)) (append-nil text)
+    (spelled_law Single limit text [] table sections (written_single table rounds limit is room all)) in
     same_reading load text reading (closed table sections) is.has_page_size is_reading read
 
 -- the verdict on it
-pub sent_verdict : (limit : ℕ) (first : Image) (rounds : List (List Page)) (verdict : Result ⊤ LoadFault) → IsTable first.table → total_bytes first.table ≤ limit → All (IsRound first.table) rounds
+pub sent_verdict : (limit : ℕ) (first : Image) (rounds : List (List Page)) (verdict : Result ⊤ LoadFault) → IsTable first.table
+    → total_bytes first.table ≤ limit → All (IsRound first.table) rounds
     → HasVerdictOnto (ram_settings first.table.page_size limit) first (single first.table rounds) verdict → verdict ≡ Ok _
 sent_verdict limit first rounds verdict is room all v =
     let one = sent_reading limit first rounds v.reading is room all v.is_reading in
     v.own (inr (ap (λ (x : StreamReading). x.table) one)) ∙ ap (λ (x : StreamReading). verdict_of (length x.rounds) x.state) one
 
 -- its complete sections in a memory
-pub sent_sections : (limit : ℕ) (first : Image) (rounds : List (List Page)) (memory : Image) (sections : ℕ) → IsTable first.table → total_bytes first.table ≤ limit → All (IsRound first.table) rounds
-    → HasSectionsOnto (ram_settings first.table.page_size limit) first (single first.table rounds) memory sections → (memory ≡ with_rounds first rounds) × (sections ≡ length rounds + 2)
+pub sent_sections : (limit : ℕ) (first : Image) (rounds : List (List Page)) (memory : Image) (sections : ℕ) → IsTable first.table
+    → total_bytes first.table ≤ limit → All (IsRound first.table) rounds
+    → HasSectionsOnto (ram_settings first.table.page_size limit) first (single first.table rounds) memory sections
+    → (memory ≡ with_rounds first rounds) × (sections ≡ length rounds + 2)
 sent_sections limit first rounds memory sections is room all onto =
     let table : RamTable = first.table in
     let p : ℕ = table.page_size in

@@ -1,15 +1,17 @@
 -- The sections of a stream that are applied to a memory, one after another, and the answer that
 -- they make.
-use Rattle.std.proofs.Common.{ℕ, ◌≡◌, ◌+◌, ◌<◌, ◌≤◌, Bool, true, false, List, [], ◌∷◌, ◌++◌, length, map, take, refl, sym, ap, ◌∙◌, inl, inr, Option, Some, None, arith, rules, subst, not}
-use Rattle.std.specs.Prelude.{◌⊎◌, ⊤, IfSome, IfNone, IfOk, IsOk, OnErr, Result, Ok, Err, slice_index_or}
+use Rattle.std.proofs.Common.{ℕ, ◌≡◌, ◌+◌, ◌<◌, ◌≤◌, Bool, true, false, List, [], ◌∷◌, ◌++◌, length, map, take, refl, sym, ap, ◌∙◌, inl, inr, Option, Some, None, arith, subst, not}
+use Rattle.std.specs.Prelude.{◌⊎◌, ⊤, IfSome, IfNone, IfOk, IsOk, Result, Ok, Err, slice_index_or}
 use Rattle.std.specs.List.{All}
 use Rattle.std.proofs.lemmas.List.{map-append, take_more, take_all, append-nil, length-append, length-map}
 use Rattle.std.proofs.lemmas.Bool.{cases_lt}
+use Rattle.std.proofs.lemmas.List.Concat.{flat_map-append}
 use Rattle.mig_mem.specs.PageSize.{IsPageSize}
 use Rattle.mig_mem.specs.RamTable.{RamTable, IsTable}
+use Rattle.mig_mem.specs.declared.place.Place.{Place}
 use Rattle.mig_mem.specs.Place.{IsPlace, has_place}
 use Rattle.mig_mem.specs.PlaceSet.{PlaceSet, places_where}
-use Rattle.std.specs.Option.{option_map_or}
+use Rattle.std.specs.Option.{option_map_or, IsSomeAnd}
 use Rattle.std.proofs.lemmas.List.Elements.{All-head, All-tail}
 use Rattle.mig_mem.specs.Image.{Page, Image, image_of, zero_page, zero_image}
 use Rattle.mig_mem.specs.Round.{after, with_round, with_rounds, last_at, all_pages, IsRound}
@@ -21,7 +23,7 @@ use Rattle.mig_stream.specs.declared.item.StreamState.TheVariants.{Closed}
 use Rattle.mig_stream.specs.PageRecord.{PageRecord, page_of}
 use Rattle.mig_stream.specs.Reading.{settings, StreamReading, IsReading, state_at}
 use Rattle.mig_stream.specs.Progress.{StreamProgress, whole_table}
-use Rattle.mig_stream.specs.Reader.{Reader, Stands, with_taken, HasTable, HasRound, HasState}
+use Rattle.mig_stream.specs.Reader.{Reader, Stands, with_taken, HasTable, HasRound, HasState, HasClosedAt, IsValidUpTo}
 use Rattle.mig_stream.specs.Round.{RoundOfRecords}
 use Rattle.mig_stream.specs.Text.{IsText, total_bytes}
 use Rattle.mig_stream.specs.Written.{written_record, single}
@@ -32,14 +34,14 @@ use Rattle.mig_stream.proofs.SpelledText.{spelled_law}
 use Rattle.mig_stream.proofs.WrittenText.{written_single}
 use Rattle.mig_stream.proofs.WrittenPages.{written_pages}
 use Rattle.mig_assemble.specs.Judging.{places_of}
-use Rattle.mig_assemble.specs.NamedPlaces.{places_in, named_by, with_places}
+use Rattle.mig_assemble.specs.NamedPlaces.{places_in, named_by, left_out, missing_of, with_places}
 use Rattle.mig_assemble.specs.Target.{LoadTarget, new_target, pages_of_round, FitsTable}
 use Rattle.mig_assemble.proofs.Naming.{named_by-nil, named_by-push, missing_is}
 use Rattle.mig_single_load.specs.Settings.{single_of, ram_settings}
 use Rattle.mig_single_load.specs.declared.settings.LoadSettings.{LoadSettings}
 use Rattle.mig_single_load.specs.declared.loaded.Loaded.{Loaded}
 use Rattle.mig_single_load.specs.declared.fault.LoadFault.{LoadFault}
-use Rattle.mig_single_load.specs.SingleLoad.{memory_after, named_after, missing_after, verdict_of, IsSingleAnswer, IsSingleWithoutMemory, loaded, unloaded}
+use Rattle.mig_single_load.specs.SingleLoad.{memory_after, named_after, missing_after, verdict_of, IsSingleAnswer, IsSingleWithoutMemory, HasLoadedRounds, unloaded}
 use Rattle.mig_single_load.specs.Loader.{Loader, loader, memory_of, sections_loaded, HasAllSections, Waits, put_so_far, Loads, HasVerdict, Judges, TellsMissing, Answers, HasFirst, HasPutSections, HasPutAllSections, WasFed}
 
 -- the pages of some sections
@@ -48,7 +50,9 @@ pages_in page_size sections = map (map (page_of page_size)) sections
 
 -- ---- one reading
 
-pub same_reading : (given : LoadSettings) (text : List ℕ) (a b : StreamReading) → IsPageSize given.page_size → IsReading (single_of given) text a → IsReading (single_of given) text b → a ≡ b
+-- a single stream has one reading alone
+pub same_reading : (given : LoadSettings) (text : List ℕ) (a b : StreamReading) → IsPageSize given.page_size
+    → IsReading (single_of given) text a → IsReading (single_of given) text b → a ≡ b
 same_reading given text a b size is_a is_b =
     let one = one_reading_law (single_of given) text size in
     one.2 a is_a ∙ sym (one.2 b is_b)
@@ -65,10 +69,13 @@ put_new given text ended r table t fed has is = rw is record {
 }
 
 -- the page size of the table, and that a round that is still to come isn't the 2^63rd
-pub size_is : (given : LoadSettings) (text : List ℕ) (table : RamTable) → IsPageSize given.page_size → HasTable (single_of given) text (Some table) → table.page_size ≡ given.page_size
+pub size_is : (given : LoadSettings) (text : List ℕ) (table : RamTable) → IsPageSize given.page_size
+    → HasTable (single_of given) text (Some table) → table.page_size ≡ given.page_size
 size_is given text table size has = (limits_law (single_of given) text has.0 size has.1).has_page_size table (sym has.2)
 
-pub is_few : (given : LoadSettings) (i : ℕ) (text : List ℕ) (records : List PageRecord) → IsPageSize given.page_size → HasRound (single_of given) text i records → i < length text
+-- a stream has no more rounds than bytes
+pub is_few : (given : LoadSettings) (i : ℕ) (text : List ℕ) (records : List PageRecord) → IsPageSize given.page_size
+    → HasRound (single_of given) text i records → i < length text
 is_few given i text records size has =
     let few = (limits_law (single_of given) text has.0 size has.1).has_few in
     let lt = has.2 in
@@ -78,7 +85,9 @@ is_few given i text records size has =
 pub put_table : (given : LoadSettings) (first : Image) (text : List ℕ) (t : LoadTarget) → HasFirst given first text t → t.memory.table ≡ first.table
 put_table given first text t has = ap (λ (m : Image). m.table) (has.has_memory has.has_table.0 has.has_table.1)
 
-pub fits_is : (given : LoadSettings) (first : Image) (text : List ℕ) (ended : Bool) (r : Reader) (t : LoadTarget) (round : RoundOfRecords) → HasPutSections given first text ended r t
+-- a round whose pages lie in the first table fits the load's memory
+pub fits_is : (given : LoadSettings) (first : Image) (text : List
+    ℕ) (ended : Bool) (r : Reader) (t : LoadTarget) (round : RoundOfRecords) → HasPutSections given first text ended r t
     → round.page_size ≡ given.page_size → All (λ x. IsPlace first.table x.place) round.records → FitsTable t.memory.table round
 fits_is given first text ended r t round put is places =
     rw (put_table given first text t put.has_first) (record {
@@ -87,8 +96,10 @@ fits_is given first text ended r t round put is places =
     })
 
 -- one section more
-pub put_more : (given : LoadSettings) (first : Image) (text : List ℕ) (ended : Bool) (r s : Reader) (t u : LoadTarget) (round : RoundOfRecords) → HasPutSections given first text ended r t
-    → round.page_size ≡ given.page_size → HasRound (single_of given) text t.rounds round.records → Stands (single_of given) (put_so_far text ended (t.rounds + 1)) s
+pub put_more : (given : LoadSettings) (first : Image) (text : List ℕ) (ended : Bool) (r s : Reader)
+    (t u : LoadTarget) (round : RoundOfRecords) → HasPutSections given first text ended r t
+    → round.page_size ≡ given.page_size → HasRound (single_of given) text t.rounds round.records
+    → Stands (single_of given) (put_so_far text ended (t.rounds + 1)) s
     → u.memory ≡ with_round t.memory (pages_of_round round) → u.named ≡ with_places t.named (places_of (pages_of_round round)) → u.rounds ≡ t.rounds + 1
     → HasPutSections given first text ended s u
 put_more given first text ended r s t u round put is_size is_round stands memory named rounds =
@@ -108,14 +119,16 @@ put_more given first text ended r s t u round put is_size is_round stands memory
         has_named = λ reading is.
             named
             ∙ ap (λ (n : ℕ). with_places t.named (places_of (map (page_of n) round.records))) is_size
-            ∙ named_by-push first.table (pages_in given.page_size (take t.rounds reading.rounds)) (map (page_of given.page_size) round.records) t.named (has.has_named reading is)
+            ∙ named_by-push first.table (pages_in given.page_size (take t.rounds reading.rounds))
+            (map (page_of given.page_size) round.records) t.named (has.has_named reading is)
             ∙ ap (λ (l : List (List Page)). named_by first.table l) (sections_more reading is);
       };
     }
   where
     -- the sections before it, and it, are one section more of the stream
     sections_more : (reading : StreamReading) → IsReading (single_of given) text reading
-        → pages_in given.page_size (take t.rounds reading.rounds) ++ map (page_of given.page_size) round.records ∷ [] ≡ pages_in given.page_size (take u.rounds reading.rounds)
+        → pages_in given.page_size (take t.rounds reading.rounds) ++ map
+        (page_of given.page_size) round.records ∷ [] ≡ pages_in given.page_size (take u.rounds reading.rounds)
     sections_more reading is =
         let one : is_round.0 ≡ reading = same_reading given text is_round.0 reading put.is_page_size is_round.1 is in
         let few : t.rounds < length reading.rounds = subst (λ (x : StreamReading). t.rounds < length x.rounds) one is_round.2 in
@@ -137,7 +150,8 @@ not_more given text reading n is last = elim (cases_lt n (length reading.rounds)
 ]
 
 -- those that were given are the stream's
-pub are_given : (given : LoadSettings) (text : List ℕ) (ended : Bool) (r : Reader) (n : ℕ) (reading : StreamReading) → IsPageSize given.page_size → IsReading (single_of given) text reading
+pub are_given : (given : LoadSettings) (text : List ℕ) (ended : Bool) (r : Reader) (n : ℕ) (reading : StreamReading)
+    → IsPageSize given.page_size → IsReading (single_of given) text reading
     → Stands (single_of given) (put_so_far text ended n) r → n ≤ length reading.rounds
 are_given given text ended r n reading size is stands =
     let to : StreamProgress = with_taken stands.rounds r.progress in
@@ -164,8 +178,10 @@ all_put given first text ended r t put last =
     record {
       reading = reading;
       is_reading = is_reading;
-      has_memory = has.has_memory reading is_reading ∙ ap (λ (l : List (List PageRecord)). with_rounds first (pages_in given.page_size l)) (take_all t.rounds sections most);
-      has_named = has.has_named reading is_reading ∙ ap (λ (l : List (List PageRecord)). named_by first.table (pages_in given.page_size l)) (take_all t.rounds sections most);
+      has_memory = has.has_memory reading is_reading
+          ∙ ap (λ (l : List (List PageRecord)). with_rounds first (pages_in given.page_size l)) (take_all t.rounds sections most);
+      has_named = has.has_named reading is_reading
+          ∙ ap (λ (l : List (List PageRecord)). named_by first.table (pages_in given.page_size l)) (take_all t.rounds sections most);
       has_rounds = omega (arith, most, least);
     }
 
@@ -175,11 +191,13 @@ pub put_of : (given : LoadSettings) (text : List ℕ) (ended : Bool) (r : Reader
 put_of given text ended r t fed = record { is_page_size = fed.is_page_size; stands = fed.stands; has_first = fed.has_first }
 
 -- all that was put into zeros
-pub loads_put : (given : LoadSettings) (text : List ℕ) (ended : Bool) (r : Reader) (table : RamTable) (t : LoadTarget) → HasPutSections given (zero_image table) text ended r t
+pub loads_put : (given : LoadSettings) (text : List ℕ) (ended : Bool) (r : Reader) (table : RamTable) (t : LoadTarget)
+    → HasPutSections given (zero_image table) text ended r t
     → HasPutAllSections given (zero_image table) text t → Loads given (loader r (Some t)) text ended × HasAllSections given (loader r (Some t)) text
 loads_put given text ended r table t put all =
     let reading : StreamReading = all.reading in
-    let one : put.has_first.has_table.0 ≡ reading = same_reading given text put.has_first.has_table.0 reading put.is_page_size put.has_first.has_table.1 all.is_reading in
+    let one : put.has_first.has_table.0 ≡ reading =
+    same_reading given text put.has_first.has_table.0 reading put.is_page_size put.has_first.has_table.1 all.is_reading in
     let is_table : Some table ≡ reading.table = put.has_first.has_table.2 ∙ ap (λ (x : StreamReading). x.table) one in
     let has : HasAllSections given (loader r (Some t)) text = record {
       reading = reading;
@@ -192,7 +210,8 @@ loads_put given text ended r table t put all =
     (record { is_page_size = put.is_page_size; stands = put.stands; has_sections = inl has }, has)
 
 -- a stream without a table has no section
-pub none_there : (given : LoadSettings) (text : List ℕ) (r : Reader) → IsPageSize given.page_size → HasTable (single_of given) text None → HasAllSections given (loader r None) text
+pub none_there : (given : LoadSettings) (text : List ℕ) (r : Reader) → IsPageSize given.page_size
+    → HasTable (single_of given) text None → HasAllSections given (loader r None) text
 none_there given text r size has =
     let reading : StreamReading = has.0 in
     let none : reading.rounds ≡ [] = (limits_law (single_of given) text reading size has.1).has_table_first (sym has.2) in
@@ -204,7 +223,9 @@ none_there given text r size has =
       has_rounds = sym (ap (λ (x : List (List PageRecord)). length x) none);
     }
 
-pub loads_all : (given : LoadSettings) (l : Loader) (text : List ℕ) (ended : Bool) → WasFed given l text ended → HasAllSections given l text → Loads given l text ended × HasAllSections given l text
+-- a loader that was fed a stream, and has all its sections in memory, loads that stream
+pub loads_all : (given : LoadSettings) (l : Loader) (text : List ℕ) (ended : Bool) → WasFed given l text ended
+    → HasAllSections given l text → Loads given l text ended × HasAllSections given l text
 loads_all given l text ended fed all = (record { is_page_size = fed.is_page_size; stands = fed.stands; has_sections = inl all }, all)
 
 -- ---- what a loader represents
@@ -241,7 +262,8 @@ first_of_all given text r t size all =
     }
 
 -- a loader that represents a stream was fed it
-pub fed_of : (given : LoadSettings) (r : Reader) (o : Option LoadTarget) (text : List ℕ) (ended : Bool) → Loads given (loader r o) text ended → WasFed given (loader r o) text ended
+pub fed_of : (given : LoadSettings) (r : Reader) (o : Option LoadTarget) (text : List ℕ) (ended : Bool)
+    → Loads given (loader r o) text ended → WasFed given (loader r o) text ended
 fed_of given r None text ended loads = record { is_page_size = loads.is_page_size; stands = loads.stands; has_first = tt }
 fed_of given r (Some t) text ended loads = record {
   is_page_size = loads.is_page_size;
@@ -253,7 +275,8 @@ fed_of given r (Some t) text ended loads = record {
 }
 
 -- if there is a memory no section waits
-pub all_there : (given : LoadSettings) (r : Reader) (o : Option LoadTarget) (t : LoadTarget) (text : List ℕ) (ended : Bool) → o ≡ Some t → Loads given (loader r o) text ended
+pub all_there : (given : LoadSettings) (r : Reader) (o : Option LoadTarget) (t : LoadTarget) (text : List ℕ) (ended : Bool)
+    → o ≡ Some t → Loads given (loader r o) text ended
     → HasAllSections given (loader r o) text
 all_there given r o t text ended is loads = elim loads.has_sections [
   | inl all ↦ all
@@ -270,7 +293,8 @@ verdict_over true n Closed = refl
 verdict_over true n (state.Bad f) = refl
 
 -- of a loader that has all sections
-pub judged : (given : LoadSettings) (l : Loader) (text : List ℕ) (ended : Bool) (state : StreamState) (v : Result ⊤ LoadFault) → IsPageSize given.page_size → HasAllSections given l text
+pub judged : (given : LoadSettings) (l : Loader) (text : List ℕ) (ended : Bool) (state : StreamState) (v : Result ⊤ LoadFault)
+    → IsPageSize given.page_size → HasAllSections given l text
     → HasState (single_of given) text ended state → v ≡ verdict_of (sections_loaded l) state → Judges given l text v
 judged given l text ended state v size all told is =
     let one : told.0 ≡ all.reading = same_reading given text told.0 all.reading size told.1 all.is_reading in
@@ -280,31 +304,35 @@ judged given l text ended state v size all told is =
       record {
         reading = all.reading;
         is_reading = all.is_reading;
-        is_verdict = is ∙ ap (verdict_of (sections_loaded l)) said ∙ verdict_over ended (sections_loaded l) all.reading.state ∙ ap (λ (n : ℕ). verdict_of n all.reading.state) all.has_rounds;
+        is_verdict = is ∙ ap (verdict_of (sections_loaded l)) said ∙ verdict_over ended (sections_loaded l) all.reading.state
+            ∙ ap (λ (n : ℕ). verdict_of n all.reading.state) all.has_rounds;
       },
     )
 
 -- ---- how many pages it lacks
 
-pub counts_missing : (given : LoadSettings) (r : Reader) (t : LoadTarget) (text : List ℕ) (n : ℕ) → HasAllSections given (loader r (Some t)) text
-    → n ≡ length (places_where t.named.table (λ p. not (has_place t.named.marked p))) → TellsMissing given (loader r (Some t)) text (Some n)
-counts_missing given r t text n all is =
+-- the pages that the set of a loader with a memory lacks are those that the stream's sections don't
+-- name
+pub lacks_missing : (given : LoadSettings) (r : Reader) (t : LoadTarget) (text : List ℕ) (n : ℕ) (all : HasAllSections given (loader r (Some t)) text)
+    → n ≡ length (places_where t.named.table (λ p. not (has_place t.named.marked p)))
+    → Some n ≡ missing_after given.page_size all.reading.table all.reading.rounds
+lacks_missing given r t text n all is =
     let there = table_there given.page_size t.memory all.reading.table all.reading.rounds all.has_memory in
     let names : t.named ≡ named_by t.memory.table (pages_in given.page_size all.reading.rounds) =
     let e : Some t.named ≡ Some (named_by t.memory.table (pages_in given.page_size all.reading.rounds)) =
     all.has_named ∙ ap (λ (o : Option RamTable). named_after given.page_size o all.reading.rounds) (sym there.0) in cc in
-    inl (
-      all,
-      record {
-        reading = all.reading;
-        is_reading = all.is_reading;
-        is_count = ap (λ (m : ℕ). Some m) (is ∙ missing_is t.memory.table (places_in (pages_in given.page_size all.reading.rounds)) t.named names)
-            ∙ ap (λ (o : Option RamTable). missing_after given.page_size o all.reading.rounds) there.0;
-      },
-    )
+    ap (λ (m : ℕ). Some m) (is ∙ missing_is t.memory.table (places_in (pages_in given.page_size all.reading.rounds)) t.named names)
+    ∙ ap (λ (o : Option RamTable). missing_after given.page_size o all.reading.rounds) there.0
+
+-- so a loader with a memory counts them
+pub counts_missing : (given : LoadSettings) (r : Reader) (t : LoadTarget) (text : List ℕ) (n : ℕ) → HasAllSections given (loader r (Some t)) text
+    → n ≡ length (places_where t.named.table (λ p. not (has_place t.named.marked p))) → TellsMissing given (loader r (Some t)) text (Some n)
+counts_missing given r t text n all is =
+    inl (all, record { reading = all.reading; is_reading = all.is_reading; is_count = lacks_missing given r t text n all is })
 
 -- without a memory
-pub none_missing : (given : LoadSettings) (r : Reader) (text : List ℕ) → HasAllSections given (loader r None) text ⊎ Waits given (loader r None) text → TellsMissing given (loader r None) text None
+pub none_missing : (given : LoadSettings) (r : Reader) (text : List ℕ)
+    → HasAllSections given (loader r None) text ⊎ Waits given (loader r None) text → TellsMissing given (loader r None) text None
 none_missing given r text (inr waits) = inr (waits, refl)
 none_missing given r text (inl all) = inl (
   all,
@@ -321,15 +349,14 @@ none_missing given r text (inl all) = inl (
 
 -- ---- the answer of both
 
-loaded_is : {A : Type 0} (a b : Loaded A) → a.memory ≡ b.memory → a.rounds ≡ b.rounds → a.verdict ≡ b.verdict → a ≡ b
-loaded_is a b m n v = grind (rules)
-
--- an answer is the memory, the count and the verdict
-pub answered : {A : Type 0} (given : LoadSettings) (l : Loader) (text : List ℕ) (a : Loaded A) → IsPageSize given.page_size → a.memory ≡ memory_of l → a.rounds ≡ sections_loaded l
-    → Judges given l text a.verdict → Answers given l text a
-answered given l text a size memory rounds (inl both) =
-    let all : HasAllSections given l text = both.0 in
-    let v : HasVerdict given text a.verdict = both.1 in
+-- an answer of all sections is their memory, their count, the verdict, and what is known of the
+-- stream
+pub answered : {A : Type 0} (given : LoadSettings) (l : Loader) (text : List ℕ) (a : Loaded A) → IsPageSize given.page_size
+    → (all : HasAllSections given l text)
+    → a.memory ≡ memory_of l → a.rounds ≡ sections_loaded l → HasVerdict given text a.verdict
+    → a.missing ≡ missing_after given.page_size all.reading.table all.reading.rounds
+    → HasClosedAt (single_of given) text a.closed_at → IsSomeAnd a.valid_up_to (IsValidUpTo (single_of given) text) → Answers given l text a
+answered given l text a size all memory rounds v missing closes valid =
     let one : v.reading ≡ all.reading = same_reading given text v.reading all.reading size v.is_reading all.is_reading in
     let count : a.rounds ≡ length all.reading.rounds = rounds ∙ all.has_rounds in
     inl (
@@ -339,16 +366,55 @@ answered given l text a size memory rounds (inl both) =
         is_reading = all.is_reading;
         has_memory = memory ∙ all.has_memory;
         has_rounds = count;
-        has_verdict = v.is_verdict ∙ ap (λ (x : StreamReading). verdict_of (length x.rounds) x.state) one ∙ ap (λ (n : ℕ). verdict_of n all.reading.state) (sym count);
+        has_verdict = v.is_verdict ∙ ap (λ (x : StreamReading). verdict_of (length x.rounds) x.state) one
+            ∙ ap (λ (n : ℕ). verdict_of n all.reading.state) (sym count);
+        has_missing = missing;
+        has_closed_at = closes;
+        has_valid_up_to = valid;
       },
     )
-answered given l text a size memory rounds (inr both) =
+
+-- the verdict of a loader with a memory is that on its stream
+pub judged_there : (given : LoadSettings) (r : Reader) (o : Option LoadTarget) (t : LoadTarget) (text : List ℕ) (v : Result ⊤ LoadFault) → o ≡ Some t
+    → Judges given (loader r o) text v → HasVerdict given text v
+judged_there given r o t text v is (inl both) = both.1
+judged_there given r o t text v is (inr both) = absurd (let none = both.0.has_no_memory in cc)
+
+-- and so is that of a loader whose stream has no table
+pub judged_without_table : (given : LoadSettings) (l : Loader) (text : List ℕ) (v : Result ⊤ LoadFault)
+    → IsPageSize given.page_size → HasTable (single_of given) text None
+    → Judges given l text v → HasVerdict given text v
+judged_without_table given l text v size none (inl both) = both.1
+judged_without_table given l text v size none (inr both) =
     let w : Waits given l text = both.0 in
-    inr (
-      w,
-      loaded_is a unloaded (memory ∙ ap (λ (o : Option LoadTarget). memory_of (loader l.reader o)) w.has_no_memory)
-          (rounds ∙ ap (λ (o : Option LoadTarget). sections_loaded (loader l.reader o)) w.has_no_memory) both.1,
-    )
+    let one : none.0 ≡ w.has_table.0 = same_reading given text none.0 w.has_table.0 size none.1 w.has_table.1 in
+    let is : None ≡ Some w.table = none.2 ∙ ap (λ (x : StreamReading). x.table) one ∙ sym w.has_table.2 in
+    absurd cc
+
+-- so is the answer of a loader with a memory
+pub answered_there : {A : Type 0} (given : LoadSettings) (r : Reader) (o : Option LoadTarget) (t : LoadTarget) (text : List
+    ℕ) (ended : Bool) (a : Loaded A) (n : ℕ) → o ≡ Some t
+    → Loads given (loader r o) text ended → Judges given (loader r o) text a.verdict → a.memory ≡ Some t.memory → a.rounds ≡ t.rounds → a.missing ≡ Some n
+    → n ≡ length (places_where t.named.table (λ p. not (has_place t.named.marked p))) → HasClosedAt (single_of given) text a.closed_at
+    → IsSomeAnd a.valid_up_to (IsValidUpTo (single_of given) text) → Answers given (loader r o) text a
+answered_there given r o t text ended a n is loads v memory rounds missing count closes valid =
+    let all : HasAllSections given (loader r (Some t)) text =
+    subst (λ x. HasAllSections given (loader r x) text) is (all_there given r o t text ended is loads) in
+    subst (λ x. Answers given (loader r x) text a) (sym is)
+    (answered given (loader r (Some t)) text a loads.is_page_size all memory rounds (judged_there given r o t text a.verdict is v)
+    (missing ∙ lacks_missing given r t text n all count) closes valid)
+
+-- and that of a loader whose stream has no table
+pub answered_without_table : {A : Type 0} (given : LoadSettings) (r : Reader) (o : Option LoadTarget) (text : List ℕ) (a : Loaded
+    A) → o ≡ None → IsPageSize given.page_size
+    → HasTable (single_of given) text None → Judges given (loader r o) text a.verdict → a.memory ≡ None → a.rounds ≡ 0 → a.missing ≡ None
+    → HasClosedAt (single_of given) text a.closed_at → IsSomeAnd a.valid_up_to (IsValidUpTo (single_of given) text) → Answers given (loader r o) text a
+unfolding none_there
+answered_without_table given r o text a is size has v memory rounds missing closes valid =
+    let all : HasAllSections given (loader r None) text = none_there given text r size has in
+    subst (λ x. Answers given (loader r x) text a) (sym is)
+    (answered given (loader r None) text a size all memory rounds (judged_without_table given (loader r o) text a.verdict size has v)
+    (missing ∙ ap (λ (t : Option RamTable). missing_after given.page_size t all.reading.rounds) has.2) closes valid)
 
 -- if an allocation was refused before any section
 pub none_put : {A : Type 0} (given : LoadSettings) (text : List ℕ) → IsPageSize given.page_size → IsSingleWithoutMemory given text (unloaded {A = A})
@@ -359,6 +425,7 @@ none_put given text size =
       has_verdict = refl;
       has_rounds = omega arith;
       has_memory = inr (refl, refl);
+      has_no_more = (refl, refl, refl);
     }
 
 -- what a loader answers is what a load answers
@@ -374,10 +441,12 @@ pub empty_ends : (rounds : List (List Page)) → all_pages ([] ∷ rounds ++ [] 
 empty_ends rounds = all_pages-push ([] ∷ rounds) [] ∙ append-nil (all_pages rounds)
 
 -- the records of the rounds represent their pages
-pub pages_sent : (table : RamTable) (rounds : List (List Page)) → All (IsRound table) rounds → pages_in table.page_size (map (map written_record) rounds) ≡ rounds
+pub pages_sent : (table : RamTable) (rounds : List (List Page)) → All (IsRound table) rounds
+    → pages_in table.page_size (map (map written_record) rounds) ≡ rounds
 pages_sent table [] all = refl
 pages_sent table (round ∷ rounds) all =
-    ap (λ (x : List Page). x ∷ pages_in table.page_size (map (map written_record) rounds)) (written_pages table round (All-head (IsRound table) round rounds all))
+    ap (λ (x : List Page). x ∷ pages_in table.page_size (map (map written_record) rounds))
+    (written_pages table round (All-head (IsRound table) round rounds all))
     ∙ ap (λ (x : List (List Page)). round ∷ x) (pages_sent table rounds (All-tail (IsRound table) round rounds all))
 
 -- only the pages of the rounds matter
@@ -392,48 +461,69 @@ sections_sent table rounds all =
     ∙ ap (λ (l : List (List Page)). after table ([] ∷ l ++ [] ∷ [])) (pages_sent table rounds all)
     ∙ after_same table ([] ∷ rounds ++ [] ∷ []) rounds (empty_ends rounds)
 
+-- a stream of rounds has two sections more than rounds
 pub counted : (rounds : List (List Page)) → length ([] ∷ map (map written_record) rounds ++ [] ∷ []) ≡ length rounds + 2
 counted rounds =
     let both = length-append ([] ∷ map (map written_record) rounds) ([] ∷ []) in
     let same = length-map rounds (map written_record) in
     omega (arith, both, same)
 
+missing_sent : (table : RamTable) (rounds : List (List Page)) → All (IsRound table) rounds
+    → missing_of table (pages_in table.page_size ([] ∷ map (map written_record) rounds ++ [] ∷ [])) ≡ missing_of table rounds
+missing_sent table rounds all =
+    let records : List (List PageRecord) = map (map written_record) rounds in
+    ap (λ (l : List (List Page)). missing_of table l) (map-append (map (page_of table.page_size)) ([] ∷ records) ([] ∷ []))
+    ∙ ap (λ (l : List (List Page)). missing_of table ([] ∷ l ++ [] ∷ [])) (pages_sent table rounds all)
+    ∙ ap (λ (l : List Place). left_out table l) (flat_map-append places_of ([] ∷ rounds) ([] ∷ []) ∙ append-nil (places_in ([] ∷ rounds)))
+
+-- a stream that reads as what a sender wrote is loaded completely
+pub closed_answer_is : {A : Type 0} (given : LoadSettings) (text : List ℕ) (a : Loaded A) → IsPageSize given.page_size → IsSingleAnswer given text a
+    → (table : RamTable) (rounds : List (List Page)) → table.page_size ≡ given.page_size → All (IsRound table) rounds
+    → IsReading (single_of given) text (closed table ([] ∷ map (map written_record) rounds ++ [] ∷ [])) → HasLoadedRounds table rounds a
+closed_answer_is given text a size answer table rounds same all read =
+    let sections : List (List PageRecord) = [] ∷ map (map written_record) rounds ++ [] ∷ [] in
+    let one : answer.reading ≡ closed table sections = same_reading given text answer.reading (closed table sections) size answer.is_reading read in
+    record {
+      has_memory = answer.has_memory ∙ ap (λ (x : StreamReading). memory_after given.page_size x.table x.rounds) one
+          ∙ ap (λ (n : ℕ). memory_after n (Some table) sections) (sym same) ∙ ap (λ (m : Image). Some m) (sections_sent table rounds all);
+      has_rounds = answer.has_rounds ∙ ap (λ (x : StreamReading). length x.rounds) one ∙ counted rounds;
+      has_verdict = answer.has_verdict ∙ ap (λ (x : StreamReading). verdict_of a.rounds x.state) one;
+      has_missing = answer.has_missing ∙ ap (λ (x : StreamReading). missing_after given.page_size x.table x.rounds) one
+          ∙ ap (λ (n : ℕ). missing_after n (Some table) sections) (sym same) ∙ ap (λ (n : ℕ). Some n) (missing_sent table rounds all);
+    }
+
 -- THE STREAM OF A SENDER is loaded completely.
 pub sent_answer_is : {A : Type 0} (p limit : ℕ) (text : List ℕ) (a : Loaded A) → IsPageSize p → IsSingleAnswer (ram_settings p limit) text a
     → (table : RamTable) (rounds : List (List Page)) → IsTable table → table.page_size ≡ p → total_bytes table ≤ limit
-    → All (IsRound table) rounds → text ≡ single table rounds → a ≡ loaded table rounds
+    → All (IsRound table) rounds → text ≡ single table rounds → HasLoadedRounds table rounds a
 sent_answer_is p limit text a size answer table rounds is same room all sent =
     let sections : List (List PageRecord) = [] ∷ map (map written_record) rounds ++ [] ∷ [] in
     let spelled : IsReading (settings Single table.page_size limit) (text ++ []) (closed table sections) =
-    spelled_law Single limit text [] table sections (subst (λ x. IsText Single limit x table sections) (sym sent) (written_single table rounds limit is room all)) in
+    spelled_law Single limit text [] table sections
+    (subst (λ x. IsText Single limit x table sections) (sym sent) (written_single table rounds limit is room all)) in
     let read : IsReading (settings Single p limit) text (closed table sections) =
-    subst (λ x. IsReading (settings Single p limit) x (closed table sections)) (append-nil text) (subst (λ x. IsReading (settings Single x limit) (text ++ []) (closed table sections)) same spelled) in
-    let one : answer.reading ≡ closed table sections = same_reading (ram_settings p limit) text answer.reading (closed table sections) size answer.is_reading read in
-    let count : length sections ≡ length rounds + 2 = counted rounds in
-    let n : a.rounds ≡ length rounds + 2 = answer.has_rounds ∙ ap (λ (x : StreamReading). length x.rounds) one ∙ count in
-    loaded_is a (loaded table rounds)
-    (answer.has_memory ∙ ap (λ (x : StreamReading). memory_after p x.table x.rounds) one ∙ ap (λ (n : ℕ). memory_after n (Some table) sections) (sym same)
-    ∙ ap (λ (m : Image). Some m) (sections_sent table rounds all))
-    n
-    (answer.has_verdict ∙ ap (λ (x : StreamReading). verdict_of a.rounds x.state) one)
+    subst (λ x. IsReading (settings Single p limit) x (closed table sections)) (append-nil text)
+    (subst (λ x. IsReading (settings Single x limit) (text ++ []) (closed table sections)) same spelled) in
+    closed_answer_is (ram_settings p limit) text a size answer table rounds same all read
 
-pub sent_is_loaded : {A : Type 0} (p limit : ℕ) (text : List ℕ) (a : Loaded A) → IsPageSize p → IsSingleAnswer (ram_settings p limit) text a ⊎ IsSingleWithoutMemory (ram_settings p limit) text a
+-- a stream that was sent is loaded as it was sent, or memory was refused
+pub sent_is_loaded : {A : Type 0} (p limit : ℕ) (text : List ℕ) (a : Loaded A) → IsPageSize p
+    → IsSingleAnswer (ram_settings p limit) text a ⊎ IsSingleWithoutMemory (ram_settings p limit) text a
     → (table : RamTable) (rounds : List (List Page)) → IsTable table → table.page_size ≡ p → total_bytes table ≤ limit
-    → All (IsRound table) rounds → text ≡ single table rounds → (a ≡ loaded table rounds) ⊎ IsSingleWithoutMemory (ram_settings p limit) text a
+    → All (IsRound table) rounds → text ≡ single table rounds → HasLoadedRounds table rounds a ⊎ IsSingleWithoutMemory (ram_settings p limit) text a
 sent_is_loaded p limit text a size (inr want) table rounds is same room all sent = inr want
 sent_is_loaded p limit text a size (inl answer) table rounds is same room all sent =
     inl (sent_answer_is p limit text a size answer table rounds is same room all sent)
 
 -- ---- what is given
 
+-- what holds of an answer if there is one holds of the answer that there is
 pub of_some : {R : Type 0} (P : R → Type 0) (o : Option R) (r : R) → o ≡ Some r → IfSome o P → P r
 of_some P o r is h = subst (λ x. IfSome x P) is h
 
-pub of_none : {R E : Type 0} (X : Type 0) (result : Result (Option R) E) → IsOk result → ((r : R) → result ≡ Ok (Some r) → ⊥) → IfOk result (λ o. IfNone o X) → X
+-- a call that succeeds without an answer leaves what holds of none
+pub of_none : {R E : Type 0} (X : Type 0) (result : Result (Option R) E) → IsOk result → ((r : R) → result ≡ Ok (Some r) → ⊥)
+    → IfOk result (λ o. IfNone o X) → X
 of_none X (Ok None) ok other h = h
 of_none X (Ok (Some r)) ok other h = absurd (other r refl)
 of_none X (Err e) ok other h = absurd cc
-
-pub on_err : {R E : Type 0} (result : Result R E) (P : Type 0) → P → OnErr result P
-on_err (Ok r) P p = tt
-on_err (Err e) P p = p

@@ -9,8 +9,8 @@ use Rattle.mig_mem.specs.Image.{Image, Page, IsImage, content_at}
 use Rattle.mig_mem.specs.Round.{IsRound, with_round, with_rounds, all_pages}
 use Rattle.mig_stream.specs.declared.item.StreamState.{StreamState}
 use Rattle.mig_stream.specs.declared.item.StreamState.TheVariants as state
-use Rattle.mig_stream.specs.declared.giving.Given.{Given}
-use Rattle.mig_stream.specs.declared.giving.Given.TheVariants as gave
+use Rattle.mig_stream.specs.declared.record_reader.RecordEvent.{RecordEvent}
+use Rattle.mig_stream.specs.declared.record_reader.RecordEvent.TheVariants as gave
 use Rattle.mig_stream.specs.Reading.{Settings, StreamReading, IsReading}
 use Rattle.mig_stream.specs.Reader.{HasTable, IsValidUpTo, HasClosedAt}
 use Rattle.mig_stream.specs.Text.{total_bytes}
@@ -207,12 +207,12 @@ LacksOnto given first l text ended = LacksMemory l.memory given first l.load tex
 -- ---- in the midst of a call
 
 -- the reader has no more records
-abbrev pub IsEnd : Given → Type 0
+abbrev pub IsEnd : RecordEvent → Type 0
 IsEnd (gave.End found) = ⊤
 IsEnd other = ⊥
 
 -- A reader gave this last, after `so_far`.
-pub record GaveNext (given : LoadSettings) (table : RamTable) (text : List ℕ) (so_far : GivenSoFar) (gave : Given) (r : Giver) : Type 0 where
+pub record GaveNext (given : LoadSettings) (table : RamTable) (text : List ℕ) (so_far : GivenSoFar) (gave : RecordEvent) (r : Giver) : Type 0 where
   pub gives : Gives (settings_for table given) text (with_given gave r.given.records so_far) r
   pub is_size : r.given.page_size ≡ table.page_size
   pub has_places : HasTable (settings_for table given) text (Some table) → All (λ x. IsPlace table x.place) r.given.records
@@ -221,13 +221,13 @@ pub record GaveNext (given : LoadSettings) (table : RamTable) (text : List ℕ) 
 
 -- In addition the sections before are counted, and the stream has this table, so the records fit a
 -- memory.
-pub record PutsNext (given : LoadSettings) (table : RamTable) (text : List ℕ) (so_far : GivenSoFar) (gave : Given) (r : Giver) (sections : ℕ) : Type 0 where
+pub record PutsNext (given : LoadSettings) (table : RamTable) (text : List ℕ) (so_far : GivenSoFar) (gave : RecordEvent) (r : Giver) (sections : ℕ) : Type 0 where
   pub gave_next : GaveNext given table text so_far gave r
   pub has_sections : sections ≡ length so_far.sections
   pub has_table : IsEnd gave ⊎ HasTable (settings_for table given) text (Some table)
 
 -- There is such a stream, of fewer than 2^63 bytes.
-pub record PutsNextSome (table : RamTable) (gave : Given) (r : Giver) (sections : ℕ) : Type 0 where
+pub record PutsNextSome (table : RamTable) (gave : RecordEvent) (r : Giver) (sections : ℕ) : Type 0 where
   pub given : LoadSettings
   pub text : List ℕ
   pub is_short : length text < 2 ^ 63
@@ -242,24 +242,24 @@ pub record GaveAll (given : LoadSettings) (table : RamTable) (text : List ℕ) (
   pub has_sections : sections ≡ length so_far.sections
 
 -- From a reader that gave this last, all records that follow were given.
-abbrev pub GivesAll : Given → Giver → ℕ → StreamState → Giver → ℕ → Type 0
+abbrev pub GivesAll : RecordEvent → Giver → ℕ → StreamState → Giver → ℕ → Type 0
 GivesAll gave r sections found s more = (given : LoadSettings) (table : RamTable) (text : List ℕ) (so_far : GivenSoFar) → PutsNext given table text so_far gave r sections
     → (then : GivenSoFar) × GaveAll given table text then found s more
 
 -- These records were written into a memory that had those before.
-abbrev pub PutsAll : Given → Giver → Image → ℕ → StreamState → Giver → Image → ℕ → Type 0
+abbrev pub PutsAll : RecordEvent → Giver → Image → ℕ → StreamState → Giver → Image → ℕ → Type 0
 PutsAll gave r memory sections found s after more = (given : LoadSettings) (first : Image) (text : List ℕ) (so_far : GivenSoFar) → PutsNext given first.table text so_far gave r sections
     → memory ≡ with_round first (given_pages first so_far)
     → (then : GivenSoFar) × GaveAll given first.table text then found s more × (after ≡ with_round first (given_pages first then))
 
 -- Their places were added to a set that had those of the records before.
-abbrev pub NamesAll : Given → Giver → PlaceSet → ℕ → StreamState → Giver → PlaceSet → ℕ → Type 0
+abbrev pub NamesAll : RecordEvent → Giver → PlaceSet → ℕ → StreamState → Giver → PlaceSet → ℕ → Type 0
 NamesAll gave r named sections found s after more = (given : LoadSettings) (first : Image) (text : List ℕ) (so_far : GivenSoFar) → PutsNext given first.table text so_far gave r sections
     → HasPlaces first.table (given_places first so_far) named
     → (then : GivenSoFar) × GaveAll given first.table text then found s more × HasPlaces first.table (given_places first then) after
 
 -- The first of these records were written: an allocation was refused.
-abbrev pub PutsSome : Given → Giver → Image → ℕ → Image → ℕ → Type 0
+abbrev pub PutsSome : RecordEvent → Giver → Image → ℕ → Image → ℕ → Type 0
 PutsSome gave r memory sections after more = (given : LoadSettings) (first : Image) (text : List ℕ) (so_far : GivenSoFar) → PutsNext given first.table text so_far gave r sections
     → memory ≡ with_round first (given_pages first so_far) → HasSomeOnto given first text after more
 

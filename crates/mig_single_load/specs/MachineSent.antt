@@ -1,5 +1,5 @@
 -- What a sender writes of a table and rounds: RAM's sections alone, or in a machine's stream.
-use Rattle.std.specs.Prelude.{◌≡◌, ◌≤◌, ◌+◌, ◌++◌, ℕ, List, map, length, Option, None, IfSome, All, Result, Ok, ⊤}
+use Rattle.std.specs.Prelude.{◌≡◌, ◌≤◌, ◌+◌, ◌++◌, ℕ, List, map, length, Option, IfSome, All, Result, Ok, ⊤}
 use Rattle.mig_mem.specs.RamTable.{RamTable, IsTable}
 use Rattle.mig_mem.specs.Image.{Image, Page, IsImage}
 use Rattle.mig_mem.specs.Round.{IsRound, with_rounds}

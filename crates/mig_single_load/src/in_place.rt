@@ -3,9 +3,8 @@
 
 ghost use Rattle.std.specs.Prelude.{◌≡◌, ◌≢◌, ◌+◌, ◌<◌, ◌≤◌, ◌^◌, ◌++◌, ℕ, Bool, List, [], length, true, false, IsFalse, IsOk, OnOk, OnErr, IfOk, IfErr};
 ghost use Rattle.mig_mem.specs.Image.{Image};
-ghost use Rattle.mig_stream.specs.Reader.{IsSettled};
+ghost use Rattle.mig_stream.specs.Reader.{IsFinal};
 ghost use Rattle.mig_single_load.specs.declared.settings.LoadSettings.{LoadSettings};
-ghost use Rattle.mig_single_load.specs.Settings.{ram_settings};
 ghost use Rattle.mig_single_load.specs.SingleLoad.{no_memory_at};
 ghost use Rattle.mig_single_load.specs.InPlace.{settings_of, HasMissingOnto, HasVerdictOnto, HasOtherTable};
 ghost use Rattle.mig_single_load.specs.LoadInPlace.{LoadsOnto, LacksOnto, HasClosedAtOnto, IsValidUpToOnto, SentIsLoadedInPlace};
@@ -33,7 +32,8 @@ use std::marker::Model;
 ///
 /// <!-- quoted from crates/mig_tests/src/in_place.rt -->
 /// ```rust
-/// let mut loader = InPlaceLoader::new(alloc, memory, MAX_TOTAL).ok()?;
+/// let settings = LoadSettings::new(memory.table().page_size(), MAX_TOTAL);
+/// let mut loader = InPlaceLoader::new(alloc, settings, memory).ok()?;
 /// send(alloc, guest, dirty, most, &mut loader)?;
 /// loader.end();
 /// Some((loader.rounds(), loader.verdict()))
@@ -63,25 +63,6 @@ impl<A: Allocator, M: GuestTarget> Debug for InPlaceLoader<A, M> {
 }
 
 impl<A: Allocator + Copy, M: GuestTarget> InPlaceLoader<A, M> {
-    /// Creates a loader into `memory`, whose table it copies. No bytes were fed. A stream whose
-    /// blocks have more than `limit` bytes together is refused, so `limit` must be at least the
-    /// memory's own total.
-    ///
-    /// # Errors
-    ///
-    /// The memory, as it was: an allocation was refused.
-    pub fn new(alloc: A, memory: M, limit: u64) -> Result<InPlaceLoader<A, M>, M>
-        requires { limit ≤ 2 ^ 40 }
-        ensures loads { IfOk result (λ l. LoadsOnto (ram_settings (M.image memory).table.page_size limit) (M.image memory) l [] false) }
-        ensures first { IfOk result (λ l. l.memory ≡ M.image memory) }
-        ensures open { IfOk result (λ l. IsFalse l.load.ended) }
-        ensures fed { IfOk result (λ l. l.load.fed ≡ 0) }
-        ensures err { IfErr result (λ m. M.image m ≡ M.image memory) }
-    {
-        let page_size = memory.table().page_size();
-        InPlaceLoader::new_in(alloc, memory, LoadSettings::new(page_size, limit))
-    }
-
     /// Creates a loader into `memory`, whose table it copies, with `settings`. No bytes were fed.
     /// The page size of the settings doesn't count: pages have the size that the memory has. The
     /// limit must be at least the memory's own total.
@@ -89,7 +70,7 @@ impl<A: Allocator + Copy, M: GuestTarget> InPlaceLoader<A, M> {
     /// # Errors
     ///
     /// The memory, as it was: an allocation was refused.
-    pub fn new_in(alloc: A, memory: M, settings: LoadSettings) -> Result<InPlaceLoader<A, M>, M>
+    pub fn new(alloc: A, settings: LoadSettings, memory: M) -> Result<InPlaceLoader<A, M>, M>
         requires { settings.limit ≤ 2 ^ 40 }
         ensures loads { IfOk result (λ l. LoadsOnto settings (M.image memory) l [] false) }
         ensures first { IfOk result (λ l. l.memory ≡ M.image memory) }
@@ -97,7 +78,7 @@ impl<A: Allocator + Copy, M: GuestTarget> InPlaceLoader<A, M> {
         ensures fed { IfOk result (λ l. l.load.fed ≡ 0) }
         ensures err { IfErr result (λ m. M.image m ≡ M.image memory) }
     {
-        let Ok(state) = InPlaceState::new_in(alloc, memory.table(), settings) else {
+        let Ok(state) = InPlaceState::new(alloc, settings, memory.table()) else {
             return Err(memory);
         };
         Ok(InPlaceLoader { state, memory })
@@ -117,7 +98,7 @@ impl<A: Allocator + Copy, M: GuestTarget> InPlaceLoader<A, M> {
         requires room { self.old.load.fed + length piece.now < 2 ^ 63 }
         ensures ok { OnOk result ((given : LoadSettings) (first : Image) (text : List ℕ) → LoadsOnto given first self.old text false
             → LoadsOnto given first self.new (text ++ piece.now) false) }
-        ensures settled { (given : LoadSettings) (first : Image) (text : List ℕ) → LoadsOnto given first self.old text false → IsSettled (settings_of first given) text → IsOk result }
+        ensures settled { (given : LoadSettings) (first : Image) (text : List ℕ) → LoadsOnto given first self.old text false → IsFinal (settings_of first given) text → IsOk result }
         ensures another { (given : LoadSettings) (first : Image) (text : List ℕ) → LoadsOnto given first self.old text false → HasOtherTable given first text → IsOk result }
         ensures failed { OnErr result ((given : LoadSettings) (first : Image) (text : List ℕ) → LoadsOnto given first self.old text false
             → LacksOnto given first self.new (text ++ piece.now) false) }

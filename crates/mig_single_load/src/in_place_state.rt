@@ -7,12 +7,11 @@ ghost use Rattle.mig_mem.specs.RamTable.{RamTable};
 ghost use Rattle.mig_mem.specs.Image.{Image, IsImage, with_page};
 ghost use Rattle.mig_mem.specs.Place.{IsPlace};
 ghost use Rattle.mig_stream.specs.Progress.{whole_table};
-ghost use Rattle.mig_stream.specs.Reader.{IsSettled};
+ghost use Rattle.mig_stream.specs.Reader.{IsFinal};
 ghost use Rattle.mig_stream.specs.Giving.{Giver, GivenSoFar, Gives};
 ghost use Rattle.mig_single_load.specs.declared.fault.InPlaceFault.TheVariants as in_place_fault;
 ghost use Rattle.mig_single_load.specs.declared.in_place_state.LoadState.TheVariants as load_state;
 ghost use Rattle.mig_single_load.specs.declared.settings.LoadSettings.{LoadSettings};
-ghost use Rattle.mig_single_load.specs.Settings.{ram_settings};
 ghost use Rattle.mig_single_load.specs.SingleLoad.{no_memory_at};
 ghost use Rattle.mig_single_load.specs.InPlace.{settings_of, HasMissingOnto, HasVerdictOnto, HasOtherTable};
 ghost use Rattle.mig_single_load.specs.LoadInPlace.{InPlaceKeepsOtherPlaces, InPlaceOkIsWhole, LoadsInPlace, settings_for, GaveNext, PutsNextSome, PutsAll, GivesAll, NamesAll, IsEnd, PausesSome, PausesOnto, StandsOnto, NamesAt, Names, PutsSome, HasSomeOnto, LacksMemory, closed_place, valid_place, HasClosedAtOnto, IsValidUpToOnto};
@@ -23,7 +22,7 @@ use crate::{InPlaceFault, LoadFault, LoadSettings};
 use mig_assemble::{name_records, put_records};
 use mig_marking::lacking;
 use mig_mem::{Dirty, GuestTarget, NoMemory, Table};
-use mig_stream::{Given, Pause, RecordReader, StreamState, Wanted};
+use mig_stream::{Pause, RecordEvent, RecordReader, StreamState, Wanted};
 use std::alloc::{Allocator, Global};
 use std::fmt::{self, Debug, Formatter};
 use std::marker::Model;
@@ -60,7 +59,8 @@ pub(crate) enum LoadState {
 ///
 /// <!-- quoted from crates/mig_load_tests/src/in_place.rt -->
 /// ```rust
-/// let mut state = InPlaceState::new(rt.alloc(), memory.table(), LIMIT).expect(rt, "a load");
+/// let settings = LoadSettings::new(4096, LIMIT);
+/// let mut state = InPlaceState::new(rt.alloc(), settings, memory.table()).expect(rt, "a load");
 /// for piece in text.chunks(len.max(1)) {
 ///     assert!(rt; feed(rt, &mut state, &mut memory, piece) == Ok(()));
 ///     let fed = state.fed();
@@ -102,16 +102,18 @@ impl<A: Allocator> Debug for InPlaceState<A> {
 }
 
 // Reads until the table is known, or to the end of the bytes. Returns what the reader gave last.
-fn find_table<A: Allocator + Copy>(reader: &mut RecordReader<'_, A>) -> Result<Given, NoMemory>
+fn find_table<A: Allocator + Copy>(
+    reader: &mut RecordReader<'_, A>,
+) -> Result<RecordEvent, NoMemory>
     requires { reader.old.given.records ≡ [] }
     ensures gave { IfOk result (λ gave. (given : LoadSettings) (table : RamTable) (text : List ℕ) (so_far : GivenSoFar) → Gives (settings_for table given) text so_far reader.old
         → reader.old.given.page_size ≡ table.page_size → GaveNext given table text so_far gave reader.new) }
     ensures there { IfOk result (λ gave. IsEnd gave ⊎ (whole_table reader.new.progress ≢ None)) }
 {
-    let mut gave = Given::Records;
+    let mut gave = RecordEvent::Records;
     'items: while reader.table().is_none() {
         gave = reader.read_on()?;
-        if let Given::End(_) = gave {
+        if let RecordEvent::End(_) = gave {
             return Ok(gave);
         }
     }
@@ -134,7 +136,7 @@ fn is_of_other_table<A: Allocator, M: GuestTarget>(reader: &RecordReader<'_, A>,
 // the state of the stream.
 fn put_given<A: Allocator + Copy, M: GuestTarget>(
     reader: &mut RecordReader<'_, A>,
-    first: Given,
+    first: RecordEvent,
     memory: &mut M,
     named: &mut Dirty<A>,
     sections: &mut u64,
@@ -151,9 +153,9 @@ fn put_given<A: Allocator + Copy, M: GuestTarget>(
     let mut gave = first;
     'records: loop {
         match gave {
-            Given::Records => {}
-            Given::Section => *sections += 1,
-            Given::End(found) => return Ok(found),
+            RecordEvent::Records => {}
+            RecordEvent::Section => *sections += 1,
+            RecordEvent::End(found) => return Ok(found),
         }
         put_records(memory, reader.given());
         name_records(named, reader.given());
@@ -217,26 +219,6 @@ fn valid_in(state: LoadState) -> Option<u64>
 }
 
 impl<A: Allocator + Copy> InPlaceState<A> {
-    /// Creates a load into a memory of `table`, which it copies. A stream whose blocks have more
-    /// than `limit` bytes together is refused, so `limit` must be at least the table's own total.
-    ///
-    /// # Errors
-    ///
-    /// `NoMemory`: an allocation was refused.
-    pub fn new<B: Allocator>(
-        alloc: A,
-        table: &Table<B>,
-        limit: u64,
-    ) -> Result<InPlaceState<A>, NoMemory>
-        requires { limit ≤ 2 ^ 40 }
-        ensures loads { IfOk result (λ s. (first : Image) → IsImage first → first.table ≡ table.now → LoadsInPlace first (ram_settings table.now.page_size limit) first s [] false) }
-        ensures table { IfOk result (λ s. s.table ≡ table.now) }
-        ensures open { IfOk result (λ s. IsFalse s.ended) }
-        ensures fed { IfOk result (λ s. s.fed ≡ 0) }
-    {
-        InPlaceState::new_in(alloc, table, LoadSettings::new(table.page_size(), limit))
-    }
-
     /// Creates a load into a memory of `table`, which it copies, with `settings`. Their page size
     /// doesn't count: pages have the size that `table` has. The limit must be at least the table's
     /// own total.
@@ -244,10 +226,10 @@ impl<A: Allocator + Copy> InPlaceState<A> {
     /// # Errors
     ///
     /// `NoMemory`: an allocation was refused.
-    pub fn new_in<B: Allocator>(
+    pub fn new<B: Allocator>(
         alloc: A,
-        table: &Table<B>,
         settings: LoadSettings,
+        table: &Table<B>,
     ) -> Result<InPlaceState<A>, NoMemory>
         requires { settings.limit ≤ 2 ^ 40 }
         ensures loads { IfOk result (λ s. (first : Image) → IsImage first → first.table ≡ table.now → LoadsInPlace first settings first s [] false) }
@@ -260,7 +242,7 @@ impl<A: Allocator + Copy> InPlaceState<A> {
         let named = Dirty::none(alloc, table)?;
         let table = table.copy_in(alloc)?;
         Ok(InPlaceState {
-            pause: Some(Pause::new_within(
+            pause: Some(Pause::new(
                 alloc,
                 settings.frame,
                 page_size,
@@ -297,7 +279,7 @@ impl<A: Allocator + Copy> InPlaceState<A> {
             → LacksMemory (M.image memory.new) given first self.new (text ++ piece.now) false }
         ensures lacking { result ≢ Err in_place_fault.OtherTable → (given : LoadSettings) (first : Image) (text : List ℕ) → LacksMemory (M.image memory.old) given first self.old text false
             → LacksMemory (M.image memory.new) given first self.new (text ++ piece.now) false × IsOk result }
-        ensures settled { (given : LoadSettings) (first : Image) (text : List ℕ) → LoadsInPlace (M.image memory.old) given first self.old text false → IsSettled (settings_of first given) text
+        ensures settled { (given : LoadSettings) (first : Image) (text : List ℕ) → LoadsInPlace (M.image memory.old) given first self.old text false → IsFinal (settings_of first given) text
             → result ≢ Err in_place_fault.NoMemory }
         ensures another { (given : LoadSettings) (first : Image) (text : List ℕ) → LoadsInPlace (M.image memory.old) given first self.old text false → HasOtherTable given first text
             → result ≢ Err in_place_fault.NoMemory }
@@ -439,13 +421,14 @@ impl<A: Allocator> InPlaceState<A> {
         &self.table
     }
 
-    /// Returns how many pages of the memory no record of the stream so far named, those of the section
-    /// that isn't complete included. Once the stream is closed these are the pages that it doesn't
-    /// have: the memory holds there what it held before.
+    /// Returns how many pages of the memory no record of the stream so far named, those of the
+    /// section that isn't complete included. Once the stream is closed these are the pages that it
+    /// doesn't have: the memory holds there what it held before.
     ///
     /// A stream can be complete and lack pages: the main stream of a multifd migration without its
-    /// channels, or a stream of changes alone. The verdict is Ok then. A whole guest lacks none. All
-    /// pages lack if the stream has another table. Nothing is promised after a refused allocation.
+    /// channels, or a stream of changes alone. The verdict is Ok then. A whole guest lacks none.
+    /// All pages lack if the stream has another table. Nothing is promised after a refused
+    /// allocation.
     pub fn missing(&self) -> u64
         ensures { (memory : Image) (given : LoadSettings) (first : Image) (text : List ℕ) (ended : Bool) → LoadsInPlace memory given first self.now text ended
             → HasMissingOnto given first text result }

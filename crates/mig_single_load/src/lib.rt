@@ -5,10 +5,10 @@
 //! exception is a refused allocation. `mig_stream` defines the format, and `mig_assemble` how a
 //! section is applied. No sender is needed here.
 //!
-//! `load_single` loads a complete stream. `SingleLoader` loads one that is fed in pieces. Loads in
-//! place write into memory that exists already, each page when its bytes have come: `InPlaceState`,
-//! and `InPlaceLoader`, which keeps the memory too. Each has a constructor for RAM's sections
-//! alone, and one for any settings, whose name ends with `_in`.
+//! `load_single` loads a complete stream of RAM's sections alone, and `load_single_with` one of any
+//! settings. `SingleLoader` loads one that is fed in pieces. Loads in place write into memory that
+//! exists already, each page when its bytes have come: `InPlaceState`, and `InPlaceLoader`, which
+//! keeps the memory too. Each takes the settings of its stream.
 //!
 //! `LoadFault` and `Loaded` are those of every load, also on several channels: those crates use
 //! this one.
@@ -35,4 +35,4 @@ pub use loaded::Loaded;
 pub use loader::SingleLoader;
 pub use settings::{LoadSettings, RoundEnd};
 pub use settle::{no_memory, without_memory};
-pub use single::{load_single, load_single_in, single_closed_at, single_valid_up_to};
+pub use single::{load_single, load_single_with};

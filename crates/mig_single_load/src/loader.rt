@@ -8,13 +8,13 @@ ghost use Rattle.mig_mem.specs.RamTable.{RamTable, IsTable};
 ghost use Rattle.mig_mem.specs.Image.{Page};
 ghost use Rattle.mig_mem.specs.Round.{IsRound};
 ghost use Rattle.mig_stream.specs.declared.item.Frame.TheVariants.{Ram, Machine};
-ghost use Rattle.mig_stream.specs.Reader.{IsSettled, HasClosedAt, IsValidUpTo};
+ghost use Rattle.mig_stream.specs.Reader.{IsFinal, HasClosedAt, IsValidUpTo};
 ghost use Rattle.mig_stream.specs.Text.{total_bytes};
 ghost use Rattle.mig_stream.specs.Written.{single};
 ghost use Rattle.mig_single_load.specs.declared.fault.FeedFault.TheVariants.{NoMemory as fault_no_memory, NoGuestMemory as fault_no_guest_memory};
 ghost use Rattle.mig_single_load.specs.declared.settings.LoadSettings.{LoadSettings};
 ghost use Rattle.mig_single_load.specs.Settings.{ram_settings, single_of, LetsThrough};
-ghost use Rattle.mig_single_load.specs.SingleLoad.{loaded, unloaded};
+ghost use Rattle.mig_single_load.specs.SingleLoad.{HasLoadedRounds, unloaded};
 ghost use Rattle.mig_single_load.specs.MachineSent.{IsSent, IsMachineSent};
 ghost use Rattle.mig_single_load.specs.Loader.{memory_of, sections_loaded, HasAllSections, Waits, Loads, Judges, TellsMissing, Answers};
 
@@ -42,15 +42,14 @@ use std::marker::Model;
 /// <!-- quoted from crates/mig_uses/src/machine.rt -->
 /// ```rust
 /// let settings = LoadSettings::new(PAGE_SIZE_4K, MAX_TOTAL).with_frame(Frame::Machine);
-/// let mut loader = SingleLoader::new_in(alloc, settings);
+/// let mut loader = SingleLoader::new(alloc, settings);
 /// for piece in text.chunks(len.max(1)) {
 ///     if loader.ended() || loader.fed() > MAX_TOTAL || piece.len() as u64 > MAX_TOTAL {
 ///         return Err(Trouble::Input);
 ///     }
 ///     loader.feed(piece).ok().ok_or(Trouble::NoMemory)?;
 /// }
-/// let closed_at = loader.closed_at();
-/// let loaded = loader.finish();
+/// Ok(loader.finish())
 /// ```
 #[derive(Drop)]
 pub struct SingleLoader<A: Allocator = Global> {
@@ -78,21 +77,8 @@ impl<A: Allocator> Debug for SingleLoader<A> {
 }
 
 impl<A: Allocator + Copy> SingleLoader<A> {
-    /// Creates a loader for a stream with pages of `page_size` bytes, whose blocks may have `limit`
-    /// bytes together.
-    pub fn new(alloc: A, page_size: u64, limit: u64) -> SingleLoader<A>
-        requires page_size { IsPageSize page_size }
-        requires limit { limit ≤ 2 ^ 40 }
-        ensures loads { Loads (ram_settings page_size limit) result [] false }
-        ensures sections { HasAllSections (ram_settings page_size limit) result [] }
-        ensures open { IsFalse result.reader.ended }
-        ensures fed { result.reader.fed ≡ 0 }
-    {
-        SingleLoader::new_in(alloc, LoadSettings::new(page_size, limit))
-    }
-
     /// Creates a loader of a stream that is read with `settings`. No bytes were fed.
-    pub fn new_in(alloc: A, settings: LoadSettings) -> SingleLoader<A>
+    pub fn new(alloc: A, settings: LoadSettings) -> SingleLoader<A>
         requires page_size { IsPageSize settings.page_size }
         requires limit { settings.limit ≤ 2 ^ 40 }
         ensures loads { Loads settings result [] false }
@@ -102,7 +88,7 @@ impl<A: Allocator + Copy> SingleLoader<A> {
     {
         SingleLoader {
             alloc,
-            reader: StreamReader::new_within(
+            reader: StreamReader::new_with(
                 alloc,
                 settings.frame,
                 Mode::Single,
@@ -132,7 +118,7 @@ impl<A: Allocator + Copy> SingleLoader<A> {
             → Loads given self.new (text ++ piece.now) false × Waits given self.new (text ++ piece.now)) }
         ensures open { IsFalse self.new.reader.ended }
         ensures settled { IfErr result (λ fault. fault ≡ fault_no_memory → (given : LoadSettings) (text : List ℕ) → Loads given self.old text false
-            → IsSettled (single_of given) text → ⊥) }
+            → IsFinal (single_of given) text → ⊥) }
         ensures fed { OnOk result (self.new.reader.fed ≡ self.old.reader.fed + length piece.now) }
         ensures counted { IfErr result (λ fault. fault ≡ fault_no_guest_memory → self.new.reader.fed ≡ self.old.reader.fed + length piece.now) }
     {
@@ -253,11 +239,11 @@ impl<A: Allocator> SingleLoader<A> {
     pub fn finish(self) -> Loaded<A>
         ensures answers { (given : LoadSettings) (text : List ℕ) (ended : Bool) → Loads given self text ended → Answers given self text result }
         ensures sent { (table : RamTable) (rounds : List (List Page)) (limit : ℕ) (ended : Bool) → IsTable table → total_bytes table ≤ limit → All (IsRound table) rounds
-            → Loads (ram_settings table.page_size limit) self (single table rounds) ended → (result ≡ loaded table rounds) ⊎ (result ≡ unloaded) }
+            → Loads (ram_settings table.page_size limit) self (single table rounds) ended → HasLoadedRounds table rounds result ⊎ (result ≡ unloaded) }
         ensures within { (table : RamTable) (rounds : List (List Page)) (given : LoadSettings) (text : List ℕ) (ended : Bool) → given.frame ≡ Ram → LetsThrough given.waiting rounds
-            → table.page_size ≡ given.page_size → IsSent given.limit table rounds text → Loads given self text ended → (result ≡ loaded table rounds) ⊎ (result ≡ unloaded) }
+            → table.page_size ≡ given.page_size → IsSent given.limit table rounds text → Loads given self text ended → HasLoadedRounds table rounds result ⊎ (result ≡ unloaded) }
         ensures machine { (table : RamTable) (rounds : List (List Page)) (given : LoadSettings) (text : List ℕ) (ended : Bool) → given.frame ≡ Machine → LetsThrough given.waiting rounds
-            → table.page_size ≡ given.page_size → IsMachineSent given.limit table rounds text → Loads given self text ended → (result ≡ loaded table rounds) ⊎ (result ≡ unloaded) }
+            → table.page_size ≡ given.page_size → IsMachineSent given.limit table rounds text → Loads given self text ended → HasLoadedRounds table rounds result ⊎ (result ≡ unloaded) }
     {
         let SingleLoader {
             alloc: _,

@@ -1,5 +1,4 @@
-//! The settings that a caller passes to a load with its streams. The constructors that end with
-//! `_in` take them.
+//! The settings that a caller passes to a load with its streams.
 
 ghost use Rattle.std.specs.Prelude.{◌≡◌};
 ghost use Rattle.mig_single_load.specs.Settings.{ram_settings, mode_of};
@@ -15,9 +14,9 @@ pub enum RoundEnd {
     /// Each EOS of a section, START's and END's too, and each FLUSH record. QEMU writes it so, with
     /// no FLUSH, for machine types of 8.0 and older (`multifd-flush-after-each-section`).
     Eos,
-    /// As the stream shows: `Flush` where START has a FLUSH, or where the first record behind START
+    /// As the stream shows: `Flush` where START has a FLUSH, or where the first record after START
     /// is one, and otherwise `Eos`. So it needs no setting, and nothing waits for it: START's EOS
-    /// ends the first round, and a FLUSH that is the first record behind START ends none.
+    /// ends the first round, and a FLUSH that is the first record after START ends none.
     AsShown,
 }
 
@@ -25,13 +24,12 @@ pub enum RoundEnd {
 ///
 /// # Examples
 ///
-/// A machine's stream is loaded at once. `single_closed_at` finds its end:
+/// A machine's stream is loaded at once. It ends at `closed_at` of what is returned:
 ///
 /// <!-- quoted from crates/mig_uses/src/machine.rt -->
 /// ```rust
 /// let settings = LoadSettings::new(PAGE_SIZE_4K, MAX_TOTAL).with_frame(Frame::Machine);
-/// let loaded = load_single_in(alloc, settings, text);
-/// let closed_at = single_closed_at(alloc, settings, text)?;
+/// load_single_with(alloc, settings, text)
 /// ```
 #[derive(Clone, Copy, Debug, PartialEq, Eq)]
 pub struct LoadSettings {

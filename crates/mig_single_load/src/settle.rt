@@ -11,6 +11,7 @@ ghost use Rattle.mig_single_load.specs.Loader.{loader, HasAllSections, Waits, Lo
 
 use crate::filling::Filling;
 use crate::{Fault, LoadFault, Loaded, Origin};
+use mig_marking::lacking;
 use mig_mem::NoMemory;
 use mig_stream::{StreamFault, StreamReader, StreamState};
 use std::alloc::Allocator;
@@ -119,20 +120,28 @@ pub(crate) fn answer<A: Allocator>(
         → Answers given (loader reader.now target) text result }
 {
     let verdict = verdict(reader, &target);
-    match target {
-        None => Loaded {
-            memory: None,
-            rounds: 0,
-            verdict,
-        },
-        Some(target) => {
+    match (target, reader.table()) {
+        (Some(target), _) => {
             let rounds = target.rounds();
+            let missing = lacking(target.named());
             Loaded {
                 memory: Some(target.into_memory()),
                 rounds,
                 verdict,
+                missing: Some(missing),
+                closed_at: reader.closed_at(),
+                valid_up_to: Some(reader.valid_up_to()),
             }
         }
+        (None, Some(_)) => without_memory(),
+        (None, None) => Loaded {
+            memory: None,
+            rounds: 0,
+            verdict,
+            missing: None,
+            closed_at: reader.closed_at(),
+            valid_up_to: Some(reader.valid_up_to()),
+        },
     }
 }
 
@@ -144,5 +153,8 @@ pub fn without_memory<A: Allocator>() -> Loaded<A>
         memory: None,
         rounds: 0,
         verdict: no_memory(0),
+        missing: None,
+        closed_at: None,
+        valid_up_to: None,
     }
 }

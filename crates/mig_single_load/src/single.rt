@@ -1,6 +1,6 @@
 //! The loader of a complete single stream: for the tool, and for callers that have such a stream.
 
-ghost use Rattle.std.specs.Prelude.{◌≡◌, ◌≤◌, ◌^◌, ◌⊎◌, List, All, IfOk};
+ghost use Rattle.std.specs.Prelude.{◌≡◌, ◌≤◌, ◌^◌, ◌⊎◌, List, All};
 ghost use Rattle.mig_mem.specs.PageSize.{IsPageSize};
 ghost use Rattle.mig_mem.specs.RamTable.{RamTable, IsTable};
 ghost use Rattle.mig_mem.specs.Image.{Page};
@@ -8,15 +8,13 @@ ghost use Rattle.mig_mem.specs.Round.{IsRound};
 ghost use Rattle.mig_stream.specs.declared.item.Frame.TheVariants.{Ram, Machine};
 ghost use Rattle.mig_stream.specs.Text.{total_bytes};
 ghost use Rattle.mig_stream.specs.Written.{single};
-ghost use Rattle.mig_stream.specs.Reader.{HasClosedAt, IsValidUpTo};
-ghost use Rattle.mig_single_load.specs.Settings.{ram_settings, single_of, LetsThrough};
-ghost use Rattle.mig_single_load.specs.SingleLoad.{IsSingleAnswer, IsSingleWithoutMemory, loaded};
+ghost use Rattle.mig_single_load.specs.Settings.{ram_settings, LetsThrough};
+ghost use Rattle.mig_single_load.specs.SingleLoad.{IsSingleAnswer, IsSingleWithoutMemory, HasLoadedRounds};
 ghost use Rattle.mig_single_load.specs.MachineSent.{IsSent, IsMachineSent};
 
 use crate::at_once::load_at_once;
 use crate::settle::{answer, settle, without_memory};
 use crate::{LoadSettings, Loaded};
-use mig_mem::NoMemory;
 use mig_stream::{Mode, StreamReader};
 use std::alloc::Allocator;
 
@@ -38,9 +36,9 @@ pub fn load_single<A: Allocator + Copy>(
     requires limit { limit ≤ 2 ^ 40 }
     ensures answer { IsSingleAnswer (ram_settings page_size limit) text.now result ⊎ IsSingleWithoutMemory (ram_settings page_size limit) text.now result }
     ensures sent { (table : RamTable) (rounds : List (List Page)) → IsTable table → table.page_size ≡ page_size → total_bytes table ≤ limit
-        → All (IsRound table) rounds → text.now ≡ single table rounds → (result ≡ loaded table rounds) ⊎ IsSingleWithoutMemory (ram_settings page_size limit) text.now result }
+        → All (IsRound table) rounds → text.now ≡ single table rounds → HasLoadedRounds table rounds result ⊎ IsSingleWithoutMemory (ram_settings page_size limit) text.now result }
 {
-    load_single_in(alloc, LoadSettings::new(page_size, limit), text)
+    load_single_with(alloc, LoadSettings::new(page_size, limit), text)
 }
 
 /// Loads a guest from the complete single stream `text`, read with `settings`. The bytes after the
@@ -55,7 +53,7 @@ pub fn load_single<A: Allocator + Copy>(
 /// - `Fault::Stream`: a fault of the stream, 11 to 34, in a machine's stream also 46 to 49, and 64
 ///   if a section has more page records than `settings.waiting`.
 /// - `NoMemory`: an allocation was refused.
-pub fn load_single_in<A: Allocator + Copy>(
+pub fn load_single_with<A: Allocator + Copy>(
     alloc: A,
     settings: LoadSettings,
     text: &[u8],
@@ -64,9 +62,9 @@ pub fn load_single_in<A: Allocator + Copy>(
     requires limit { settings.limit ≤ 2 ^ 40 }
     ensures answer { IsSingleAnswer settings text.now result ⊎ IsSingleWithoutMemory settings text.now result }
     ensures sent { (table : RamTable) (rounds : List (List Page)) → settings.frame ≡ Ram → LetsThrough settings.waiting rounds → table.page_size ≡ settings.page_size
-        → IsSent settings.limit table rounds text.now → (result ≡ loaded table rounds) ⊎ IsSingleWithoutMemory settings text.now result }
+        → IsSent settings.limit table rounds text.now → HasLoadedRounds table rounds result ⊎ IsSingleWithoutMemory settings text.now result }
     ensures machine { (table : RamTable) (rounds : List (List Page)) → settings.frame ≡ Machine → LetsThrough settings.waiting rounds → table.page_size ≡ settings.page_size
-        → IsMachineSent settings.limit table rounds text.now → (result ≡ loaded table rounds) ⊎ IsSingleWithoutMemory settings text.now result }
+        → IsMachineSent settings.limit table rounds text.now → HasLoadedRounds table rounds result ⊎ IsSingleWithoutMemory settings text.now result }
 {
     match load_at_once(alloc, settings, text) {
         Ok(Some(loaded)) => loaded,
@@ -75,70 +73,13 @@ pub fn load_single_in<A: Allocator + Copy>(
     }
 }
 
-/// Returns how many bytes of `text` its stream has, read with `settings`: those up to its end byte,
-/// or in a machine's stream up to the footer of RAM's END. None if the stream isn't closed. The
-/// bytes after them are left to the caller. It reads the stream once, and copies no page.
-///
-/// # Errors
-///
-/// `NoMemory`: an allocation was refused.
-pub fn single_closed_at<A: Allocator + Copy>(
-    alloc: A,
-    settings: LoadSettings,
-    text: &[u8],
-) -> Result<Option<u64>, NoMemory>
-    requires page_size { IsPageSize settings.page_size }
-    requires limit { settings.limit ≤ 2 ^ 40 }
-    ensures { IfOk result (HasClosedAt (single_of settings) text.now) }
-{
-    let reader = StreamReader::of_text_within(
-        alloc,
-        settings.frame,
-        Mode::Single,
-        settings.page_size,
-        settings.limit,
-        settings.waiting,
-        text,
-    )?;
-    Ok(reader.closed_at())
-}
-
-/// Returns how many bytes of `text` are complete items without a fault, read with `settings`, from
-/// the first byte on. If `load_single_in` finds a fault of the stream, the item at fault begins
-/// after them: a caller that got a fault asks here for its byte. It reads the stream once, and
-/// copies no page.
-///
-/// # Errors
-///
-/// `NoMemory`: an allocation was refused.
-pub fn single_valid_up_to<A: Allocator + Copy>(
-    alloc: A,
-    settings: LoadSettings,
-    text: &[u8],
-) -> Result<u64, NoMemory>
-    requires page_size { IsPageSize settings.page_size }
-    requires limit { settings.limit ≤ 2 ^ 40 }
-    ensures { IfOk result (IsValidUpTo (single_of settings) text.now) }
-{
-    let reader = StreamReader::of_text_within(
-        alloc,
-        settings.frame,
-        Mode::Single,
-        settings.page_size,
-        settings.limit,
-        settings.waiting,
-        text,
-    )?;
-    Ok(reader.valid_up_to())
-}
-
 // Reads the stream `text`, and applies its sections, each when it is complete.
 fn load<A: Allocator + Copy>(alloc: A, settings: LoadSettings, text: &[u8]) -> Loaded<A>
     requires page_size { IsPageSize settings.page_size }
     requires limit { settings.limit ≤ 2 ^ 40 }
     ensures { IsSingleAnswer settings text.now result ⊎ IsSingleWithoutMemory settings text.now result }
 {
-    let Ok(mut reader) = StreamReader::of_text_within(
+    let Ok(mut reader) = StreamReader::of_text_with(
         alloc,
         settings.frame,
         Mode::Single,

@@ -66,17 +66,20 @@ rounds_left m in_start rounds records = whole_rounds (eos_mode m in_start) (eos_
 abbrev pub mode_behind : Mode → Bool → List PageRecord → List (List Record) → Mode
 mode_behind m in_start before [] = m
 mode_behind m in_start before (rs ∷ sections) =
-    mode_behind (eos_mode (mode_after m in_start before rs) in_start) false (records_left (mode_after m in_start before rs) in_start (records_after before rs)) sections
+    mode_behind (eos_mode (mode_after m in_start before rs) in_start) false
+    (records_left (mode_after m in_start before rs) in_start (records_after before rs)) sections
 
 abbrev pub records_behind : Mode → Bool → List PageRecord → List (List Record) → List PageRecord
 records_behind m in_start before [] = before
 records_behind m in_start before (rs ∷ sections) =
-    records_behind (eos_mode (mode_after m in_start before rs) in_start) false (records_left (mode_after m in_start before rs) in_start (records_after before rs)) sections
+    records_behind (eos_mode (mode_after m in_start before rs) in_start) false
+    (records_left (mode_after m in_start before rs) in_start (records_after before rs)) sections
 
 abbrev pub rounds_behind : Mode → Bool → List PageRecord → List (List PageRecord) → List (List Record) → List (List PageRecord)
 rounds_behind m in_start before rounds [] = rounds
 rounds_behind m in_start before rounds (rs ∷ sections) =
-    rounds_behind (eos_mode (mode_after m in_start before rs) in_start) false (records_left (mode_after m in_start before rs) in_start (records_after before rs))
+    rounds_behind (eos_mode (mode_after m in_start before rs) in_start) false
+    (records_left (mode_after m in_start before rs) in_start (records_after before rs))
     (rounds_left (mode_after m in_start before rs) in_start (rounds_after m in_start before rounds rs) (records_after before rs)) sections
 
 -- no FLUSH stands in these sections, or FLUSH is allowed, as it is where the stream isn't single

@@ -72,7 +72,8 @@ empty_due : (d : Due) (records : List PageRecord) → records ≡ [] → IsEmpty
 empty_due d records e = subst (IsEmpty d) (sym e) (no_records d)
 
 type_byte_empty : (c : StreamProgress) (before : Before) (b : ℕ) → c.records ≡ [] → StaysEmpty (after_type_byte c before b)
-type_byte_empty c before b e = cond_both (is_passed c.frame before b) _ _ StaysEmpty (λ _. empty_due (Passed (passed_by before b)) c.records e) (λ _. type_empty c b e)
+type_byte_empty c before b e = cond_both (is_passed c.frame before b) _ _ StaysEmpty
+    (λ _. empty_due (Passed (passed_by before b)) c.records e) (λ _. type_empty c b e)
 
 -- after the guest address of a block stands another entry, or a record
 passed_empty : (c : StreamProgress) (passed : PassedItem) (item : List ℕ) → IsEmpty (Passed passed) c.records → IsEmpty (behind_passed passed item) c.records
@@ -123,7 +124,8 @@ all_empty c (item ∷ items) single e free =
     all_empty (after c item) items there (item_empty c c.due item single e e) free.2
 
 -- After the end byte no record waits.
-pub closed_is_empty : (frame : Frame) (m : Mode) (p limit : ℕ) (waiting : Option ℕ) (bytes : List ℕ) (to : StreamProgress) → m ≡ Single → Front (start frame m p limit waiting) bytes to → to.due ≡ Nothing → to.records ≡ []
+pub closed_is_empty : (frame : Frame) (m : Mode) (p limit : ℕ) (waiting : Option ℕ) (bytes : List ℕ) (to : StreamProgress)
+    → m ≡ Single → Front (start frame m p limit waiting) bytes to → to.due ≡ Nothing → to.records ≡ []
 closed_is_empty frame m p limit waiting bytes to single f closed =
     let last : StaysEmpty to = subst StaysEmpty (sym f.leads_to) (all_empty (start frame m p limit waiting) f.items single refl f.are_faultless) in
     subst (λ (d : Due). IsEmpty d to.records) closed last

@@ -13,7 +13,8 @@ use Rattle.mig_stream.proofs.Found.{read_law, machine_read_law}
 use Rattle.mig_stream.proofs.SpelledMachine.{machine_is_read}
 
 -- what is read closed, of this table and these rounds, begins with a stream of them
-text_of_closed : ReadIsSpelled → (mode : Mode) (limit : ℕ) (bytes : List ℕ) (table : RamTable) (rounds : List (List PageRecord)) → IsPageSize table.page_size → limit ≤ 2 ^ 40
+text_of_closed : ReadIsSpelled → (mode : Mode) (limit : ℕ) (bytes : List ℕ) (table : RamTable) (rounds : List (List PageRecord))
+    → IsPageSize table.page_size → limit ≤ 2 ^ 40
     → All (λ byte. byte < 2 ^ 8) bytes → IsReading (settings mode table.page_size limit) bytes (closed table rounds) → HasText mode limit bytes table rounds
 text_of_closed law mode limit bytes table rounds size small all is =
     let found = law (settings mode table.page_size limit) bytes (closed table rounds) refl size small all is refl in
@@ -22,7 +23,8 @@ text_of_closed law mode limit bytes table rounds size small all is =
     subst (λ (x : RamTable). HasText mode limit bytes x rounds) same found.3
 
 -- and bytes that begin with a stream are read closed
-closed_of_text : SpelledIsRead → (mode : Mode) (limit : ℕ) (bytes : List ℕ) (table : RamTable) (rounds : List (List PageRecord)) → HasText mode limit bytes table rounds
+closed_of_text : SpelledIsRead → (mode : Mode) (limit : ℕ) (bytes : List ℕ) (table : RamTable) (rounds : List (List PageRecord))
+    → HasText mode limit bytes table rounds
     → IsReading (settings mode table.page_size limit) bytes (closed table rounds)
 closed_of_text law mode limit bytes table rounds is =
     subst (λ (x : List ℕ). IsReading (settings mode table.page_size limit) x (closed table rounds)) (sym is.2) (law mode limit is.0 is.1 table rounds is.3)
@@ -48,4 +50,5 @@ machine_closed_law mode limit bytes table rounds size small all = (to_text, of_t
         subst (λ (x : RamTable). HasMachineText mode limit bytes x rounds) same found.3
 
     of_text : HasMachineText mode limit bytes table rounds → IsReading (in_frame Machine (settings mode table.page_size limit)) bytes (closed table rounds)
-    of_text is = subst (λ (x : List ℕ). IsReading (in_frame Machine (settings mode table.page_size limit)) x (closed table rounds)) (sym is.2) (machine_is_read mode limit is.0 is.1 table rounds is.3)
+    of_text is = subst (λ (x : List ℕ). IsReading (in_frame Machine (settings mode table.page_size limit)) x
+        (closed table rounds)) (sym is.2) (machine_is_read mode limit is.0 is.1 table rounds is.3)

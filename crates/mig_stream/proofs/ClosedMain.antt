@@ -1,7 +1,7 @@
 -- A main stream that is closed has no page record that no FLUSH follows.
 use Rattle.std.proofs.Common.{◌≡◌, ◌≢◌, ℕ, ◌+◌, ◌-◌, ◌==◌, ◌&&◌, ◌||◌, not, Bool, true, false, cond, List, [], ◌∷◌, length, Option, Some, None, refl, sym, ap, subst, ◌∙◌, inl, inr, is_none}
 use Rattle.std.specs.Prelude.{slice_index}
-use Rattle.std.proofs.lemmas.Bool.{cases_Bool, cond-false, eqb-true, or_cases, or_parts}
+use Rattle.std.proofs.lemmas.Bool.{cases_Bool, cond-false, eqb-true, or_cases, or_parts, not-false}
 use Rattle.std.proofs.lemmas.List.{nil_from_length}
 use Rattle.mig_mem.specs.First.{first_of}
 use Rattle.mig_stream.specs.declared.fault.StreamFault.TheVariants as stream_fault
@@ -31,10 +31,6 @@ use Rattle.mig_stream.specs.Reading.{AreFaultless, after_all, Front}
 use Rattle.mig_stream.proofs.Feeding.{front_item}
 use Rattle.mig_stream.proofs.Steps.{passed, IsLater-front}
 
-not_false : (b : Bool) → not b ≡ false → b ≡ true
-not_false true e = refl
-not_false false e = absurd cc
-
 open_nil : (m : Mode) (records : List PageRecord) → records ≡ [] → open_records m records ≡ []
 open_nil Single records none = refl
 open_nil Main records none = none
@@ -45,10 +41,11 @@ open_nil MainAsShown records none = none
 no_tail : (ends : Bool) (c : StreamProgress) → is_single c.mode ≡ false → ends ≡ true → has_tail ends c ≡ false → c.records ≡ []
 no_tail ends c main is none =
     let t : (true && not false && not (length c.records == 0)) ≡ false = rw (is, main) at none in
-    nil_from_length c.records (eqb-true (length c.records) 0 (not_false (length c.records == 0) t))
+    nil_from_length c.records (eqb-true (length c.records) 0 (not-false (length c.records == 0) t))
 
 -- a type byte that begins nothing is the end byte
-ends_there : (before : Before) (b : ℕ) → (b == configuration_type) ≡ false → (b == section_type section.Start) ≡ false → (b == section_type section.Part) ≡ false
+ends_there : (before : Before) (b : ℕ) → (b == configuration_type) ≡ false → (b == section_type section.Start) ≡ false
+    → (b == section_type section.Part) ≡ false
     → (b == section_type section.End) ≡ false → is_allowed before b ≡ true → (b == end_byte) ≡ true
 ends_there before.FileHeader b n7 n1 n2 n3 t = absurd (let f : (false || false) ≡ true = rw (n7, n1) at t in cc)
 ends_there before.Configuration b n7 n1 n2 n3 t = absurd cc
@@ -90,15 +87,19 @@ type_closes c before item main free closed =
     elim (cases_Bool (is_passed c.frame before b)) [
       | inl p ↦ absurd (let e : Passed (passed_by before b) ≡ Nothing = rw p at closed in cc)
       | inr n ↦
-          let t1 = passed (not (is_allowed before b || is_passed c.frame before b)) stream_fault.SectionType ((has_tail (b == end_byte) c, stream_fault.Tail) ∷ []) free in
+          let t1 = passed (not (is_allowed before b || is_passed c.frame before b)) stream_fault.SectionType
+          ((has_tail (b == end_byte) c, stream_fault.Tail) ∷ []) free in
           let t2 = passed (has_tail (b == end_byte) c) stream_fault.Tail [] t1.1 in
-          let allowed : is_allowed before b ≡ true = elim (or_cases (is_allowed before b) (is_passed c.frame before b) (not_false _ t1.0)) [ inl a ↦ a | inr p ↦ absurd cc ] in
-          let here : after_type_byte c before b ≡ after_type c b = cond-false (is_passed c.frame before b) (record c { due = Passed (passed_by before b) }) (after_type c b) n in
+          let allowed : is_allowed before b ≡ true =
+          elim (or_cases (is_allowed before b) (is_passed c.frame before b) (not-false _ t1.0)) [ inl a ↦ a | inr p ↦ absurd cc ] in
+          let here : after_type_byte c before b ≡ after_type c b =
+          cond-false (is_passed c.frame before b) (record c { due = Passed (passed_by before b) }) (after_type c b) n in
           let end : (b == end_byte) ≡ true = type_ends c before b allowed (sym (ap (λ (x : StreamProgress). x.due) here) ∙ closed) in
           ap (λ (x : StreamProgress). x.records) here ∙ type_records c b ∙ no_tail (b == end_byte) c main end t2.0
     ]
 
-footer_closes : (c : StreamProgress) (item : List ℕ) → is_single c.mode ≡ false → first_of (faults c Footer item) ≡ None → (end_section c).due ≡ Nothing → (end_section c).records ≡ []
+footer_closes : (c : StreamProgress) (item : List ℕ) → is_single c.mode ≡ false → first_of (faults c Footer item) ≡ None
+    → (end_section c).due ≡ Nothing → (end_section c).records ≡ []
 footer_closes c item main free closed = elim (cases_Bool (closes c.frame c.section)) [
   | inl t ↦
       let t1 = passed _ stream_fault.Footer ((has_tail (closes c.frame c.section) c, stream_fault.Tail) ∷ []) free in
@@ -131,8 +132,10 @@ entry_never Sized last e = absurd cc
 passed_never : (c : StreamProgress) (p : PassedItem) (item : List ℕ) → first_of (faults c (Passed p) item) ≡ None → behind_passed p item ≡ Nothing → ⊥
 passed_never c (Command before) item free e = absurd cc
 passed_never c SubsectionHead item free e =
-    let t = passed (is_none (subsection_of (id_in item)) || not (be32_at (1 + slice_index item 0) item == subsection_version)) stream_fault.Subsection [] free in
-    body_of_none (subsection_of (id_in item)) (or_parts (is_none (subsection_of (id_in item))) (not (be32_at (1 + slice_index item 0) item == subsection_version)) t.0).0 e
+    let t = passed (is_none (subsection_of (id_in item)) || not (be32_at (1 + slice_index item 0) item == subsection_version))
+    stream_fault.Subsection [] free in
+    body_of_none (subsection_of (id_in item))
+    (or_parts (is_none (subsection_of (id_in item))) (not (be32_at (1 + slice_index item 0) item == subsection_version)) t.0).0 e
 passed_never c (SubsectionBody PageBits) item free e = absurd cc
 passed_never c (SubsectionBody Uuid) item free e = absurd cc
 passed_never c (SubsectionBody Capabilities) item free e = capabilities_never (be32_at 0 item) e
@@ -151,7 +154,8 @@ config_never : (b : Bool) (n : ℕ) → cond b (TypeByte before.Configuration) (
 config_never true n e = absurd cc
 config_never false n e = absurd cc
 
-item_closes : (c : StreamProgress) (d : Due) (item : List ℕ) → c.due ≡ d → is_single c.mode ≡ false → first_of (faults c d item) ≡ None → d ≢ Nothing → (after_item c d item).due ≡ Nothing
+item_closes : (c : StreamProgress) (d : Due) (item : List ℕ) → c.due ≡ d → is_single c.mode ≡ false
+    → first_of (faults c d item) ≡ None → d ≢ Nothing → (after_item c d item).due ≡ Nothing
     → (after_item c d item).records ≡ []
 item_closes c FileHeader item here main free some closed = absurd cc
 item_closes c (TypeByte before) item here main free some closed = type_closes c before item main free closed
@@ -186,7 +190,9 @@ all_flushed c (item ∷ items) main so_far free =
     let there = (IsLater-front c (after c item) item (front_item c item free.0 free.1)).same_single ∙ main in
     all_flushed (after c item) items there (λ closed. item_closes c c.due item refl main free.1 free.0.is_due closed) free.2
 
-pub closed_has_none : (frame : Frame) (m : Mode) (p limit : ℕ) (waiting : Option ℕ) (bytes : List ℕ) (to : StreamProgress) → is_single m ≡ false → Front (start frame m p limit waiting) bytes to → to.due ≡ Nothing → to.records ≡ []
+-- no page record waits where a main stream has ended
+pub closed_has_none : (frame : Frame) (m : Mode) (p limit : ℕ) (waiting : Option ℕ) (bytes : List ℕ) (to : StreamProgress)
+    → is_single m ≡ false → Front (start frame m p limit waiting) bytes to → to.due ≡ Nothing → to.records ≡ []
 closed_has_none frame m p limit waiting bytes to main f closed =
     let last : IsFlushed to = subst IsFlushed (sym f.leads_to) (all_flushed (start frame m p limit waiting) f.items main (λ e. refl) f.are_faultless) in
     last closed

@@ -15,7 +15,8 @@ abbrev from : Settings → StreamProgress
 from given = start given.frame given.mode given.page_size given.limit given.waiting
 
 -- a stream that is read closed, with some bytes left, is closed by those before them
-pub closed_by : (given : Settings) (text : List ℕ) (to : StreamProgress) (rest : List ℕ) (n : ℕ) → Reads (from given) text to rest Closed → n + length rest ≡ length text → IsClosedAt given text n
+pub closed_by : (given : Settings) (text : List ℕ) (to : StreamProgress) (rest : List ℕ) (n : ℕ)
+    → Reads (from given) text to rest Closed → n + length rest ≡ length text → IsClosedAt given text n
 closed_by given text to rest n r count =
     let len : length r.front ≡ n = omega (arith, count, ap length r.has_text, length-append r.front rest) in
     let own : take n text ≡ r.front = ap (take n) r.has_text ∙ take_at r.front rest n len in
@@ -34,17 +35,22 @@ closed_by given text to rest n r count =
       );
       is_first = λ m lt s.
           let is : IsReading given (take m text) s.0 = s.1 in
-          let there : Reads (from given) (take m text) is.to is.rest Closed = subst (λ (x : StreamState). Reads (from given) (take m text) is.to is.rest x) (sym s.2) is.reads in
+          let there : Reads (from given) (take m text) is.to is.rest Closed =
+          subst (λ (x : StreamState). Reads (from given) (take m text) is.to is.rest x) (sym s.2) is.reads in
           let on = Reads-more (from given) (take m text) is.to is.rest (drop m text) Closed (λ e. absurd cc) there in
-          let whole : Reads (from given) text is.to (is.rest ++ drop m text) Closed = subst (λ (x : List ℕ). Reads (from given) x is.to (is.rest ++ drop m text) Closed) (take-append-drop m text) on in
+          let whole : Reads (from given) text is.to (is.rest ++ drop m text) Closed =
+          subst (λ (x : List ℕ). Reads (from given) x is.to (is.rest ++ drop m text) Closed) (take-append-drop m text) on in
           let same = one_reading (from given) text to is.to rest (is.rest ++ drop m text) Closed Closed r whole in
           omega (arith, lt, count, ap length same.1, length-append is.rest (drop m text), length-drop m text);
     }
 
+-- a closed stream is closed at the offset that its reader keeps
 pub closed_stands : (r : Reader) → r.found ≡ Closed → Tells r (λ given so_far. IsClosedAt given so_far.text r.valid_up_to)
 closed_stands r closed given so_far s =
-    closed_by given so_far.text (with_taken s.rounds r.progress) s.rest r.valid_up_to (subst (λ (x : StreamState). Reads (from given) so_far.text (with_taken s.rounds r.progress) s.rest x) closed s.reads) s.has_valid_up_to
+    closed_by given so_far.text (with_taken s.rounds r.progress) s.rest r.valid_up_to
+    (subst (λ (x : StreamState). Reads (from given) so_far.text (with_taken s.rounds r.progress) s.rest x) closed s.reads) s.has_valid_up_to
 
+-- a stream that isn't closed has no place at which it is
 pub open_stands : (r : Reader) → r.found ≢ Closed → Tells r (λ given so_far. HasClosedAt given so_far.text None)
 open_stands r other given so_far s = (
   record { table = whole_table r.progress; rounds = s.rounds ++ r.progress.rounds; state = r.found },
@@ -52,18 +58,21 @@ open_stands r other given so_far s = (
   other,
 )
 
+-- the bytes that a reader left when it found the stream closed are those behind it
 pub behind_stands : (r : Giver) → r.found ≡ Some Closed → GiverTells r (λ given text so_far. IsBehind given text r.rest)
 behind_stands r closed given text so_far g =
     let to : StreamProgress = all_read so_far r.progress in
     let ends : Ends to r.rest Closed = subst (λ o. IfSome o (λ s. Ends to r.rest s)) closed g.ends in
     record {
       closed_at = length g.front;
-      is_closed_at = closed_by given text to r.rest (length g.front) (record { front = g.front; has_text = g.has_text; leads = g.leads; ends = ends }) (sym (ap length g.has_text ∙ length-append g.front r.rest));
+      is_closed_at = closed_by given text to r.rest (length g.front)
+          (record { front = g.front; has_text = g.has_text; leads = g.leads; ends = ends }) (sym (ap length g.has_text ∙ length-append g.front r.rest));
       has_rest = sym (ap (drop (length g.front)) g.has_text ∙ drop_at g.front r.rest (length g.front) refl);
     }
 
 -- ---- the valid prefix of a stream
 
+-- the offset that a reader keeps is where its stream's bytes are valid up to
 pub valid_stands : (r : Reader) → Tells r (λ given so_far. IsValidUpTo given so_far.text r.valid_up_to)
 valid_stands r given so_far s = record {
   to = with_taken s.rounds r.progress;
@@ -77,6 +86,7 @@ valid_stands r given so_far s = record {
 front_length : (text front rest : List ℕ) (fed n : ℕ) → text ≡ front ++ rest → fed ≡ length text → n ≡ fed - length rest → length front ≡ n
 front_length text front rest fed n is fed_is n_is = omega (arith, n_is, fed_is, ap length is, length-append front rest)
 
+-- the bytes fed without those left are read without a fault
 pub front_given : (r : Giver) (n : ℕ) → n ≡ r.fed - length r.rest → GiverTells r (λ given text so_far. length text < 2 ^ 64 → HasFront given text n)
 front_given r n is given text so_far g few = record {
   to = all_read so_far r.progress;
@@ -101,8 +111,11 @@ valid_where r n (Some state) found some is given text so_far g few =
       has_length = front_length text g.front r.rest r.fed n g.has_text (g.has_fed few) is;
     }
 
-pub valid_given : (r : Giver) (n : ℕ) → n ≡ r.fed - length r.rest → r.found ≢ None → GiverTells r (λ given text so_far. length text < 2 ^ 64 → IsValidUpTo given text n)
+-- once a reader has found an end or a fault, the bytes fed without those left are the valid ones
+pub valid_given : (r : Giver) (n : ℕ) → n ≡ r.fed - length r.rest → r.found ≢ None
+    → GiverTells r (λ given text so_far. length text < 2 ^ 64 → IsValidUpTo given text n)
 valid_given r n is some = valid_where r n r.found refl some is
 
+-- between two pieces the bytes fed without those kept are the valid ones
 pub valid_paused : (p : Paused) (n : ℕ) → n ≡ p.fed - length p.pending → PauseTells p (λ given text so_far. length text < 2 ^ 64 → IsValidUpTo given text n)
 valid_paused p n is = valid_where (giver_at p) n (Some Reading) refl (λ e. absurd cc) is

@@ -16,12 +16,14 @@ use Rattle.mig_stream.specs.Entries.{Listed, AreListed, IsNext}
 use Rattle.mig_stream.proofs.Tables.{new_id}
 
 -- A lawful table is refused with `NoMemory` alone.
-pub memory_alone : (table built : RamTable) (e : TableFault) → IsTable table → built ≡ table → (e ≡ fault.NoMemory) ⊎ (refusal built ≡ Some e) → e ≡ fault.NoMemory
+pub memory_alone : (table built : RamTable) (e : TableFault) → IsTable table → built ≡ table
+    → (e ≡ fault.NoMemory) ⊎ (refusal built ≡ Some e) → e ≡ fault.NoMemory
 memory_alone table built e is same (inl h) = h
 memory_alone table built e is same (inr h) = absurd (let clash : None ≡ Some e = sym (unrefused table is) ∙ ap refusal (sym same) ∙ h in cc)
 
 -- What is known of the blocks holds of one entry more.
-pub listed_more : (e : Listed) (id : List ℕ) (len left : ℕ) (b : Block) → AreListed e.page_size e.limit e.left e.blocks → IsNext e id len → b.id ≡ id → b.pages ≡ len / e.page_size → left ≡ unwrap_or e.left 0 - len
+pub listed_more : (e : Listed) (id : List ℕ) (len left : ℕ) (b : Block) → AreListed e.page_size e.limit e.left e.blocks
+    → IsNext e id len → b.id ≡ id → b.pages ≡ len / e.page_size → left ≡ unwrap_or e.left 0 - len
     → AreListed e.page_size e.limit (Some left) (e.blocks ++ b ∷ [])
 listed_more e id len left b k n same_id same_pages same_left =
     let whole : len / e.page_size * e.page_size + len % e.page_size ≡ len = div-add-mod' len e.page_size in
@@ -31,11 +33,13 @@ listed_more e id len left b k n same_id same_pages same_left =
       has_limit = k.has_limit;
       has_few = omega (arith, n.has_room, length-append e.blocks (b ∷ []));
       has_ids = All-push (λ (x : Block). IsTrue (is_id x.id)) e.blocks b k.has_ids (ap is_id same_id ∙ n.has_id);
-      has_own_ids = all_pairs_push (λ (x y : Block). x.id ≢ y.id) e.blocks b k.has_own_ids (λ i d lt. new_id e.blocks b i d (ap (block_of e.blocks) same_id ∙ n.has_own_id) lt);
+      has_own_ids = all_pairs_push (λ (x y : Block). x.id ≢ y.id) e.blocks b k.has_own_ids
+          (λ i d lt. new_id e.blocks b i d (ap (block_of e.blocks) same_id ∙ n.has_own_id) lt);
       has_pages = All-push (λ (x : Block). 0 < x.pages) e.blocks b k.has_pages (positive b.pages e.page_size len bytes n.has_pages);
       has_room =
           let sum : sum_by (λ (x : Block). x.pages) (e.blocks ++ b ∷ []) ≡ total_pages e.blocks + b.pages = sum_by_push (λ (x : Block). x.pages) e.blocks b in
-          let product : sum_by (λ (x : Block). x.pages) (e.blocks ++ b ∷ []) * e.page_size ≡ total_pages e.blocks * e.page_size + b.pages * e.page_size = ap (λ (x : ℕ). x * e.page_size) sum ∙ omega arith in
+          let product : sum_by (λ (x : Block). x.pages)
+          (e.blocks ++ b ∷ []) * e.page_size ≡ total_pages e.blocks * e.page_size + b.pages * e.page_size = ap (λ (x : ℕ). x * e.page_size) sum ∙ omega arith in
           omega (arith, product, bytes, k.has_room, n.has_bytes, same_left);
       has_begun = λ none. absurd cc;
     }
@@ -45,7 +49,8 @@ listed_more e id len left b k n same_id same_pages same_left =
     positive (suc p) s n same some = omega arith
 
 -- and makes a lawful table
-pub listed_table_more : (page_size limit left : ℕ) (blocks : List Block) (b : Block) → AreListed page_size limit (Some left) (blocks ++ b ∷ []) → IsTable (record { page_size = page_size; blocks = blocks ++ b ∷ [] })
+pub listed_table_more : (page_size limit left : ℕ) (blocks : List Block) (b : Block)
+    → AreListed page_size limit (Some left) (blocks ++ b ∷ []) → IsTable (record { page_size = page_size; blocks = blocks ++ b ∷ [] })
 listed_table_more page_size limit left blocks b k = record {
   has_page_size = k.has_page_size;
   has_blocks = omega (arith, length-append blocks (b ∷ []));

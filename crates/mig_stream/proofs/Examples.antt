@@ -98,7 +98,11 @@ unfolding be64_at
 total_above_limit = refl
 
 -- A 257th entry is one too many, before its id is looked at.
-entry_too_many : first_fault (record (in_start Single) { due = ListEntry; left = Some 4096; blocks = replicate 256 (record { id = 0x61 ∷ []; pages = 1 }) }) (0 ∷ be64 0x1000) ≡ Some fault.TooManyBlocks
+entry_too_many : first_fault (record (in_start Single) {
+  due = ListEntry;
+  left = Some 4096;
+  blocks = replicate 256 (record { id = 0x61 ∷ []; pages = 1 });
+}) (0 ∷ be64 0x1000) ≡ Some fault.TooManyBlocks
 unfolding be64_at is_id
 entry_too_many = refl
 
@@ -129,7 +133,10 @@ fill_byte = refl
 
 -- A main stream may not end after a page record that no FLUSH follows.
 abbrev with_open_record : StreamProgress
-with_open_record = record (in_part Main 4096) { due = TypeByte before.LastFooter; records = record { place = record { block = 0; page = 0 }; content = None } ∷ [] }
+with_open_record = record (in_part Main 4096) {
+  due = TypeByte before.LastFooter;
+  records = record { place = record { block = 0; page = 0 }; content = None } ∷ [];
+}
 
 end_behind_record : first_fault with_open_record (0x00 ∷ []) ≡ Some fault.Tail
 end_behind_record = refl
@@ -161,15 +168,61 @@ unfolding file_header size_list
 empty_spelled = refl
 
 -- it is read so, item by item, to the footer of END
-empty_front : Front (machine Single) empty_machine (record (machine Single) { due = Nothing; section = section.End; section_id = 1; left = Some 0; blocks = (table 4096 1).blocks; rounds = [] ∷ [] ∷ [] })
+empty_front : Front (machine Single) empty_machine
+    (record (machine Single) { due = Nothing; section = section.End; section_id = 1; left = Some 0; blocks = (table 4096 1).blocks; rounds = [] ∷ [] ∷ [] })
 unfolding be32_at be64_at is_id
 empty_front = record {
   items = (0x51 ∷ 0x45 ∷ 0x56 ∷ 0x4D ∷ 0 ∷ 0 ∷ 0 ∷ 3 ∷ []) ∷ (0x01 ∷ []) ∷ (0 ∷ 0 ∷ 0 ∷ 1 ∷ 3 ∷ 0x72 ∷ 0x61 ∷ 0x6D ∷ 0 ∷ 0 ∷ 0 ∷ 0 ∷ 0 ∷ 0 ∷ 0 ∷ 4 ∷ [])
-      ∷ (0 ∷ 0 ∷ 0 ∷ 0 ∷ 0 ∷ 0 ∷ 0x10 ∷ 4 ∷ []) ∷ (1 ∷ 0x61 ∷ 0 ∷ 0 ∷ 0 ∷ 0 ∷ 0 ∷ 0 ∷ 0x10 ∷ 0 ∷ []) ∷ (0 ∷ 0 ∷ 0 ∷ 0 ∷ 0 ∷ 0 ∷ 0 ∷ 0x10 ∷ []) ∷ (0x7E ∷ 0 ∷ 0 ∷ 0 ∷ 1 ∷ [])
+      ∷ (0 ∷ 0 ∷ 0 ∷ 0 ∷ 0 ∷ 0 ∷ 0x10 ∷ 4 ∷ []) ∷ (1 ∷ 0x61 ∷ 0 ∷ 0 ∷ 0 ∷ 0 ∷ 0 ∷ 0 ∷ 0x10 ∷ 0 ∷ [])
+      ∷ (0 ∷ 0 ∷ 0 ∷ 0 ∷ 0 ∷ 0 ∷ 0 ∷ 0x10 ∷ []) ∷ (0x7E ∷ 0 ∷ 0 ∷ 0 ∷ 1 ∷ [])
       ∷ (0x08 ∷ []) ∷ (0 ∷ 0x0B ∷ 0 ∷ 0 ∷ [])
       ∷ (0x03 ∷ []) ∷ (0 ∷ 0 ∷ 0 ∷ 1 ∷ []) ∷ (0 ∷ 0 ∷ 0 ∷ 0 ∷ 0 ∷ 0 ∷ 0 ∷ 0x10 ∷ []) ∷ (0x7E ∷ 0 ∷ 0 ∷ 0 ∷ 1 ∷ []) ∷ [];
   has_bytes = refl;
-  are_faultless = (record { is_due = λ e. absurd cc; is_whole = refl }, refl, (record { is_due = λ e. absurd cc; is_whole = refl }, refl, (record { is_due = λ e. absurd cc; is_whole = refl }, refl, (record { is_due = λ e. absurd cc; is_whole = refl }, refl, (record { is_due = λ e. absurd cc; is_whole = refl }, refl, (record { is_due = λ e. absurd cc; is_whole = refl }, refl, (record { is_due = λ e. absurd cc; is_whole = refl }, refl, (record { is_due = λ e. absurd cc; is_whole = refl }, refl, (record { is_due = λ e. absurd cc; is_whole = refl }, refl, (record { is_due = λ e. absurd cc; is_whole = refl }, refl, (record { is_due = λ e. absurd cc; is_whole = refl }, refl, (record { is_due = λ e. absurd cc; is_whole = refl }, refl, (record { is_due = λ e. absurd cc; is_whole = refl }, refl, tt)))))))))))));
+  are_faultless = (
+    record { is_due = λ e. absurd cc; is_whole = refl },
+    refl,
+    (
+      record { is_due = λ e. absurd cc; is_whole = refl },
+      refl,
+      (
+        record { is_due = λ e. absurd cc; is_whole = refl },
+        refl,
+        (
+          record { is_due = λ e. absurd cc; is_whole = refl },
+          refl,
+          (
+            record { is_due = λ e. absurd cc; is_whole = refl },
+            refl,
+            (
+              record { is_due = λ e. absurd cc; is_whole = refl },
+              refl,
+              (
+                record { is_due = λ e. absurd cc; is_whole = refl },
+                refl,
+                (
+                  record { is_due = λ e. absurd cc; is_whole = refl },
+                  refl,
+                  (
+                    record { is_due = λ e. absurd cc; is_whole = refl },
+                    refl,
+                    (
+                      record { is_due = λ e. absurd cc; is_whole = refl },
+                      refl,
+                      (
+                        record { is_due = λ e. absurd cc; is_whole = refl },
+                        refl,
+                        (record { is_due = λ e. absurd cc; is_whole = refl }, refl, (record { is_due = λ e. absurd cc; is_whole = refl }, refl, tt)),
+                      ),
+                    ),
+                  ),
+                ),
+              ),
+            ),
+          ),
+        ),
+      ),
+    ),
+  );
   leads_to = refl;
 }
 
@@ -179,7 +232,8 @@ abbrev device : List ℕ
 device = 0x04 ∷ 0 ∷ 0 ∷ 0 ∷ 2 ∷ 5 ∷ 0x74 ∷ 0x69 ∷ 0x6D ∷ 0x65 ∷ 0x72 ∷ 0 ∷ []
 
 device_left : IsClosedAt (in_frame Machine (settings Single 4096 (2 ^ 40))) (empty_machine ++ device) 79
-device_left = closed_by (in_frame Machine (settings Single 4096 (2 ^ 40))) (empty_machine ++ device) _ device 79 (record { front = empty_machine; has_text = refl; leads = empty_front; ends = refl }) refl
+device_left = closed_by (in_frame Machine (settings Single 4096 (2 ^ 40))) (empty_machine ++ device) _ device 79
+    (record { front = empty_machine; has_text = refl; leads = empty_front; ends = refl }) refl
 
 -- Without the frame the COMMAND is refused.
 command_refused : first_fault (record (in_part Single 4096) { due = TypeByte before.Footer }) (0x08 ∷ []) ≡ Some fault.SectionType
@@ -187,11 +241,13 @@ command_refused = refl
 
 -- A UUID after the configuration: a subsection of 42 bytes, which is passed over.
 uuid_spelled : subsection (Uuid (replicate 16 0x11)) ≡
-    0x05 ∷ 18 ∷ 0x63 ∷ 0x6F ∷ 0x6E ∷ 0x66 ∷ 0x69 ∷ 0x67 ∷ 0x75 ∷ 0x72 ∷ 0x61 ∷ 0x74 ∷ 0x69 ∷ 0x6F ∷ 0x6E ∷ 0x2F ∷ 0x75 ∷ 0x75 ∷ 0x69 ∷ 0x64 ∷ 0 ∷ 0 ∷ 0 ∷ 1 ∷ replicate 16 0x11
+    0x05 ∷ 18 ∷ 0x63 ∷ 0x6F ∷ 0x6E ∷ 0x66 ∷ 0x69 ∷ 0x67 ∷ 0x75 ∷ 0x72 ∷ 0x61 ∷ 0x74 ∷ 0x69 ∷ 0x6F ∷ 0x6E ∷ 0x2F ∷ 0x75 ∷ 0x75
+    ∷ 0x69 ∷ 0x64 ∷ 0 ∷ 0 ∷ 0 ∷ 1 ∷ replicate 16 0x11
 unfolding subsection_name
 uuid_spelled = refl
 
-uuid_passed : after_all (record (machine Single) { due = TypeByte before.Configuration }) ((0x05 ∷ []) ∷ subsection_head kinds.Uuid ∷ replicate 16 0x11 ∷ []) ≡ record (machine Single) { due = TypeByte before.Configuration }
+uuid_passed : after_all (record (machine Single) { due = TypeByte before.Configuration })
+    ((0x05 ∷ []) ∷ subsection_head kinds.Uuid ∷ replicate 16 0x11 ∷ []) ≡ record (machine Single) { due = TypeByte before.Configuration }
 unfolding subsection_name
 uuid_passed = refl
 
@@ -200,7 +256,8 @@ other_subsection : first_fault (record (machine Single) { due = Passed pass.Subs
 unfolding subsection_name be32_at
 other_subsection = refl
 
-other_version : first_fault (record (machine Single) { due = Passed pass.SubsectionHead }) (counted (subsection_name kinds.Uuid) ++ be32 2) ≡ Some fault.Subsection
+other_version : first_fault (record (machine Single) { due = Passed pass.SubsectionHead })
+    (counted (subsection_name kinds.Uuid) ++ be32 2) ≡ Some fault.Subsection
 unfolding subsection_name be32_at
 other_version = refl
 
@@ -215,12 +272,14 @@ early_device = refl
 -- ---- what follows the entries of a machine's size list
 
 -- "mapped-ram" is refused.
-mapped_refused : first_fault (record (machine Single) { due = Passed (pass.Capability 0) }) (counted (0x6D ∷ 0x61 ∷ 0x70 ∷ 0x70 ∷ 0x65 ∷ 0x64 ∷ 0x2D ∷ 0x72 ∷ 0x61 ∷ 0x6D ∷ [])) ≡ Some fault.Capability
+mapped_refused : first_fault (record (machine Single) { due = Passed (pass.Capability 0) })
+    (counted (0x6D ∷ 0x61 ∷ 0x70 ∷ 0x70 ∷ 0x65 ∷ 0x64 ∷ 0x2D ∷ 0x72 ∷ 0x61 ∷ 0x6D ∷ [])) ≡ Some fault.Capability
 unfolding mapped_ram
 mapped_refused = refl
 
 -- "x-ignore-shared" is passed over, and says that guest addresses follow.
-shared_passed : after_all (record (machine Single) { due = Passed (pass.Capability 0) }) (counted (0x78 ∷ 0x2D ∷ 0x69 ∷ 0x67 ∷ 0x6E ∷ 0x6F ∷ 0x72 ∷ 0x65 ∷ 0x2D ∷ 0x73 ∷ 0x68 ∷ 0x61 ∷ 0x72 ∷ 0x65 ∷ 0x64 ∷ []) ∷ []) ≡
+shared_passed : after_all (record (machine Single) { due = Passed (pass.Capability 0) })
+    (counted (0x78 ∷ 0x2D ∷ 0x69 ∷ 0x67 ∷ 0x6E ∷ 0x6F ∷ 0x72 ∷ 0x65 ∷ 0x2D ∷ 0x73 ∷ 0x68 ∷ 0x61 ∷ 0x72 ∷ 0x65 ∷ 0x64 ∷ []) ∷ []) ≡
     record (machine Single) { due = TypeByte before.Configuration; form = Addressed }
 unfolding ignore_shared
 shared_passed = refl
@@ -244,7 +303,8 @@ bitmaps_form : form_of None (advise [] ∷ []) ≡ form_of None []
 bitmaps_form = refl
 
 -- Beside "x-ignore-shared" it is refused.
-advise_refused : first_fault (record (machine Single) { due = Passed (pass.Command before.Command); form = Addressed }) (command_bytes (advise page_sizes)) ≡ Some fault.Command
+advise_refused : first_fault (record (machine Single) { due = Passed (pass.Command before.Command); form = Addressed })
+    (command_bytes (advise page_sizes)) ≡ Some fault.Command
 advise_refused = refl
 
 -- two blocks `a` and `b`, of a page and of two pages
@@ -269,7 +329,8 @@ addressed_spelled : tailed_list two_blocks addresses ≡
 unfolding tailed_list
 addressed_spelled = refl
 
-addressed_read : Front (list_begins (record (machine Single) { form = Addressed })) (tailed_list two_blocks addresses) (record (list_ends (record (machine Single) { form = Addressed })) { due = RecordHead })
+addressed_read : Front (list_begins (record (machine Single) { form = Addressed })) (tailed_list two_blocks addresses)
+    (record (list_ends (record (machine Single) { form = Addressed })) { due = RecordHead })
 unfolding tailed_list be64_at is_id
 addressed_read = record {
   items = be64 0x3004 ∷ (counted (0x61 ∷ []) ++ be64 0x1000) ∷ be64 0 ∷ (counted (0x62 ∷ []) ++ be64 0x2000) ∷ be64 0xFFFC0000 ∷ [];
@@ -295,7 +356,8 @@ addressed_read = record {
 abbrev sizes : List (List ℕ)
 sizes = [] ∷ be64 0x200000 ∷ []
 
-sized_read : Front (list_begins (record (machine Single) { form = Sized })) (tailed_list two_blocks sizes) (record (list_ends (record (machine Single) { form = Sized })) { due = RecordHead })
+sized_read : Front (list_begins (record (machine Single) { form = Sized })) (tailed_list two_blocks sizes)
+    (record (list_ends (record (machine Single) { form = Sized })) { due = RecordHead })
 unfolding tailed_list be64_at is_id
 sized_read = record {
   items = be64 0x3004 ∷ (counted (0x61 ∷ []) ++ be64 0x1000) ∷ (counted (0x62 ∷ []) ++ be64 0x2000) ∷ be64 0x200000 ∷ [];
@@ -317,7 +379,8 @@ sized_read = record {
 }
 
 -- Where the last page size isn't, the EOS of START is read.
-unsized_eos : after_all (record (list_ends (record (machine Single) { form = Sized })) { due = PageSize true }) (be64 0x10 ∷ []) ≡ record (list_ends (record (machine Single) { form = Sized })) { due = Footer }
+unsized_eos : after_all (record (list_ends (record (machine Single) { form = Sized })) { due = PageSize true })
+    (be64 0x10 ∷ []) ≡ record (list_ends (record (machine Single) { form = Sized })) { due = Footer }
 unfolding be64_at
 unsized_eos = refl
 
@@ -343,7 +406,8 @@ unfolding be32_at
 own_page_bits = refl
 
 -- A COMMAND that wraps another stream is refused, once it is whole.
-packaged_refused : first_fault (record (machine Single) { due = Passed (pass.Command before.Footer) }) (command_bytes (record { number = 7; carried = 0 ∷ 0 ∷ 0 ∷ 4 ∷ [] })) ≡ Some fault.Command
+packaged_refused : first_fault (record (machine Single) { due = Passed (pass.Command before.Footer) })
+    (command_bytes (record { number = 7; carried = 0 ∷ 0 ∷ 0 ∷ 4 ∷ [] })) ≡ Some fault.Command
 packaged_refused = refl
 
 -- A main stream of a machine may not be closed after a page record that no FLUSH follows.

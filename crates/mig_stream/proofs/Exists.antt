@@ -36,7 +36,8 @@ type_size c byte =
     cond_both (eqb byte 3) _ _ (λ (x : StreamProgress). x.page_size ≡ c.page_size) (λ _. refl) (λ _. refl))))
 
 type_byte_size : (c : StreamProgress) (before : Before) (byte : ℕ) → (after_type_byte c before byte).page_size ≡ c.page_size
-type_byte_size c before byte = cond_both (is_passed c.frame before byte) _ _ (λ (x : StreamProgress). x.page_size ≡ c.page_size) (λ _. refl) (λ _. type_size c byte)
+type_byte_size c before byte = cond_both (is_passed c.frame before byte) _ _ (λ (x : StreamProgress). x.page_size ≡ c.page_size)
+    (λ _. refl) (λ _. type_size c byte)
 
 -- so does a record head, of any kind
 head_size : (c : StreamProgress) (kind : Option RecordKind) (page : ℕ) → (after_head c kind page).page_size ≡ c.page_size
@@ -96,7 +97,8 @@ passed_some (Capability others) item = omega arith
 passed_some (Address last) item = omega arith
 
 -- an item is not empty, or it is a name, after which no name comes
-pub work_falls : (c : StreamProgress) (d : Due) (item : List ℕ) → 0 < c.page_size → d ≢ Nothing → length item ≡ size c.page_size d item → work (after_item c d item).due < 2 * length item + work d
+pub work_falls : (c : StreamProgress) (d : Due) (item : List ℕ) → 0 < c.page_size → d ≢ Nothing
+    → length item ≡ size c.page_size d item → work (after_item c d item).due < 2 * length item + work d
 work_falls c FileHeader item some open_ whole = omega arith
 work_falls c (TypeByte before) item some open_ whole = omega (arith, work_small (after_type_byte c before (slice_index item 0)).due)
 work_falls c ConfigLength item some open_ whole = omega (arith, work_small (after_item c ConfigLength item).due)
@@ -147,7 +149,8 @@ faulty None = inl refl
 faulty (Some fault) = inr (fault, refl)
 
 -- however far a stream has been read, it can be read on, since each item is a step forward
-pub read_on : (fuel : ℕ) (from c : StreamProgress) (text front rest : List ℕ) → 0 < c.page_size → 2 * length rest + work c.due < fuel → text ≡ front ++ rest → Front from front c → SomeReading from text
+pub read_on : (fuel : ℕ) (from c : StreamProgress) (text front rest : List ℕ) → 0 < c.page_size
+    → 2 * length rest + work c.due < fuel → text ≡ front ++ rest → Front from front c → SomeReading from text
 read_on zero from c text front rest some few e so_far = absurd (omega arith)
 read_on (suc fuel) from c text front rest some few e so_far =
     elim (is_nothing c.due) [
@@ -165,7 +168,8 @@ read_on (suc fuel) from c text front rest some few e so_far =
                   let lens : length item + length more ≡ length rest = sym (length-append item more) ∙ ap length parts in
                   let less : work (after c item).due < 2 * length item + work c.due = work_falls c c.due item some open_ is.is_whole in
                   let text_is : text ≡ (front ++ item) ++ more = e ∙ ap (λ (x : List ℕ). front ++ x) (sym parts) ∙ sym (append_assoc front item more) in
-                  read_on fuel from (after c item) text (front ++ item) more (omega (arith, item_size c c.due item)) (omega arith) text_is (Front-push from c front item so_far is free)
+                  read_on fuel from (after c item) text (front ++ item) more (omega (arith, item_size c c.due item))
+                  (omega arith) text_is (Front-push from c front item so_far is free)
               | inr found ↦ (c, rest, Bad found.0, record { front = front; has_text = e; leads = so_far; ends = (item, more, sym parts, is, found.1) })
             ]
       ]

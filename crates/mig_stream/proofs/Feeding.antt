@@ -1,26 +1,23 @@
 -- Reading a piece after the bytes of an item that wasn't complete.
-use Rattle.std.proofs.Common.{◌≡◌, ◌≢◌, ℕ, ◌+◌, ◌<◌, ◌≤◌, true, false, eqb, List, [], ◌++◌, length, get_or, take, drop, Option, Some, None, refl, sym, ap, subst, ◌∙◌, append_assoc, inl, inr, arith}
+use Rattle.std.proofs.Common.{◌≡◌, ◌≢◌, ℕ, ◌+◌, ◌<◌, List, [], ◌++◌, length, take, drop, Option, Some, None, refl, sym, ap, subst, ◌∙◌, append_assoc, inl, inr, arith}
 use Rattle.std.specs.Prelude.{IfSome, IfNone}
-use Rattle.std.proofs.lemmas.List.{length-append, take-append-drop, get_or_append_left, get_or_past}
-use Rattle.std.proofs.lemmas.Bool.{cases_lt, cond_both, eqb-true, eqb-false}
-use Rattle.mig_stream.specs.declared.item.Filling.TheVariants.{Zero, Normal}
-use Rattle.mig_stream.specs.declared.item.PassedItem.{PassedItem}
-use Rattle.mig_stream.specs.declared.item.PassedItem.TheVariants.{Command, SubsectionHead, SubsectionBody, Capability, Address}
-use Rattle.mig_stream.specs.declared.item.Subsection.TheVariants.{PageBits, Uuid, Capabilities}
+use Rattle.std.proofs.lemmas.List.{length-append, take-append-drop}
+use Rattle.std.proofs.lemmas.Bool.{cases_lt}
 use Rattle.mig_stream.specs.declared.item.Due.{Due}
-use Rattle.mig_stream.specs.declared.item.Due.TheVariants.{FileHeader, TypeByte, ConfigLength, ConfigName, StartHead, SectionHead, RecordHead, ListEntry, PageSize, BlockName, Content, Footer, Passed, Nothing}
+use Rattle.mig_stream.specs.declared.item.Due.TheVariants.{Nothing}
 use Rattle.mig_stream.specs.declared.item.StreamState.{StreamState}
 use Rattle.mig_stream.specs.declared.item.StreamState.TheVariants.{Reading, Bad}
 use Rattle.mig_stream.specs.declared.fault.StreamFault.{StreamFault}
 use Rattle.mig_stream.specs.Progress.{StreamProgress}
-use Rattle.mig_stream.specs.Items.{passed_size, size, first_fault, after}
+use Rattle.mig_stream.specs.Items.{size, first_fault, after}
 use Rattle.mig_stream.specs.Reading.{IsItem, Front, Reads}
 use Rattle.mig_stream.specs.Taking.{HasTaken}
 use Rattle.mig_stream.specs.Reader.{IsUnfinished, ReadsOn}
-use Rattle.mig_stream.proofs.Fronts.{sized, sized_some, item_at, no_item, Front-none, Front-push, Front-append}
+use Rattle.mig_stream.proofs.Fronts.{item_at, no_item, Front-none, Front-push, Front-append}
 
 -- ---- an item that isn't complete
 
+-- while bytes of an item lack, some item is due
 pub is_due : (p : ℕ) (d : Due) (bytes : List ℕ) → length bytes < size p d bytes → d ≢ Nothing
 is_due p d bytes lt none = absurd (omega (arith, lt, ap (λ (x : Due). size p x bytes) none))
 
@@ -29,49 +26,10 @@ pub unfinished : (from : StreamProgress) (text : List ℕ) (to : StreamProgress)
 unfinished from text to rest r =
     elim (cases_lt (length rest) (size to.page_size to.due rest)) [
       | inl lt ↦ lt
-      | inr le ↦ absurd (r.ends.1 (take (size to.page_size to.due rest) rest) (drop (size to.page_size to.due rest) rest) (sym (take-append-drop (size to.page_size to.due rest) rest))
+      | inr le ↦ absurd (r.ends.1 (take (size to.page_size to.due rest) rest) (drop (size to.page_size to.due rest) rest)
+          (sym (take-append-drop (size to.page_size to.due rest) rest))
           (item_at to.page_size to.due rest r.ends.0 le))
     ]
-
-byte_grows : (bytes more : List ℕ) (i : ℕ) → get_or bytes i 0 ≤ get_or (bytes ++ more) i 0
-byte_grows bytes more i =
-    elim (cases_lt i (length bytes)) [
-      | inl lt ↦ omega (arith, get_or_append_left bytes more 0 i lt)
-      | inr le ↦ omega (arith, get_or_past bytes i 0 le)
-    ]
-
-passed_grows : (passed : PassedItem) (bytes more : List ℕ) → passed_size passed bytes ≤ passed_size passed (bytes ++ more)
-passed_grows (Command before) bytes more = omega (arith, byte_grows bytes more 2, byte_grows bytes more 3)
-passed_grows SubsectionHead bytes more = omega (arith, byte_grows bytes more 0)
-passed_grows (SubsectionBody PageBits) bytes more = omega arith
-passed_grows (SubsectionBody Uuid) bytes more = omega arith
-passed_grows (SubsectionBody Capabilities) bytes more = omega arith
-passed_grows (Capability others) bytes more = omega (arith, byte_grows bytes more 0)
-passed_grows (Address last) bytes more = omega arith
-
-sized_grows : (m n : ℕ) → m ≤ n → sized m ≤ sized n
-sized_grows m n le =
-    cond_both (eqb m 0) 8 (9 + m) (λ (x : ℕ). x ≤ sized n) (λ _. sized_some n) (λ some.
-    cond_both (eqb n 0) 8 (9 + n) (λ (x : ℕ). 9 + m ≤ x) (λ none. let zero_n : n ≡ 0 = eqb-true n 0 none in absurd (eqb-false m 0 some (omega (arith, le, zero_n)))) (λ _. omega (arith, le)))
-
--- more bytes may show that an item is longer, and never that it is shorter
-pub size_grows : (p : ℕ) (d : Due) (bytes more : List ℕ) → size p d bytes ≤ size p d (bytes ++ more)
-size_grows p FileHeader bytes more = omega arith
-size_grows p (TypeByte b) bytes more = omega arith
-size_grows p ConfigLength bytes more = omega arith
-size_grows p (ConfigName n) bytes more = omega arith
-size_grows p StartHead bytes more = omega (arith, byte_grows bytes more 4)
-size_grows p SectionHead bytes more = omega arith
-size_grows p RecordHead bytes more = omega arith
-size_grows p ListEntry bytes more = omega (arith, byte_grows bytes more 0)
-size_grows p (PageSize true) bytes more = omega arith
-size_grows p (PageSize false) bytes more = sized_grows (get_or bytes 0 0) (get_or (bytes ++ more) 0 0) (byte_grows bytes more 0)
-size_grows p (BlockName f page) bytes more = omega (arith, byte_grows bytes more 0)
-size_grows p (Content Zero place) bytes more = omega arith
-size_grows p (Content Normal place) bytes more = omega arith
-size_grows p Footer bytes more = omega arith
-size_grows p (Passed passed) bytes more = passed_grows passed bytes more
-size_grows p Nothing bytes more = omega arith
 
 -- ---- what is read
 
@@ -84,7 +42,9 @@ reads_short c bytes lt = record {
   ends = (is_due c.page_size c.due bytes lt, no_item c.page_size c.due bytes lt);
 }
 
-pub reads_fault : (c : StreamProgress) (item rest : List ℕ) (f : StreamFault) → IsItem c.page_size c.due item → first_fault c item ≡ Some f → Reads c (item ++ rest) c (item ++ rest) (Bad f)
+-- an item with a fault ends the reading before it
+pub reads_fault : (c : StreamProgress) (item rest : List ℕ) (f : StreamFault) → IsItem c.page_size c.due item
+    → first_fault c item ≡ Some f → Reads c (item ++ rest) c (item ++ rest) (Bad f)
 reads_fault c item rest f is fault = record {
   front = [];
   has_text = refl;
@@ -96,7 +56,10 @@ reads_fault c item rest f is fault = record {
 pub front_item : (c : StreamProgress) (item : List ℕ) → IsItem c.page_size c.due item → first_fault c item ≡ None → Front c item (after c item)
 front_item c item is none = Front-push c c [] item (Front-none c) is none
 
-pub reads_behind : (c d to : StreamProgress) (item rest pending : List ℕ) (left : ℕ) (s : StreamState) → IsItem c.page_size c.due item → first_fault c item ≡ None → d ≡ after c item → ReadsOn d rest to pending left s → ReadsOn c (item ++ rest) to pending left s
+-- an item without a fault is read, and then what follows it
+pub reads_behind : (c d to : StreamProgress) (item rest pending : List ℕ) (left : ℕ) (s : StreamState)
+    → IsItem c.page_size c.due item → first_fault c item ≡ None → d ≡ after c item → ReadsOn d rest to pending left s
+    → ReadsOn c (item ++ rest) to pending left s
 reads_behind c d to item rest pending left s is none d_is r = record {
   rest = r.rest;
   reads = record {
@@ -111,14 +74,9 @@ reads_behind c d to item rest pending left s is none d_is r = record {
 
 -- ---- what is taken if memory runs out
 
-pub taken_none : (c : StreamProgress) (bytes : List ℕ) → HasTaken c bytes c
-taken_none c bytes = record { front = []; rest = bytes; has_bytes = refl; leads = Front-none c }
-
--- a run that was through, before more was refused
-pub taken_all : (c : StreamProgress) (bytes : List ℕ) (to : StreamProgress) (rest : List ℕ) (s : StreamState) → Reads c bytes to rest s → HasTaken c bytes to
-taken_all c bytes to rest s r = record { front = r.front; rest = rest; has_bytes = r.has_text; leads = r.leads }
-
-pub taken_behind : (c d to : StreamProgress) (item rest : List ℕ) → IsItem c.page_size c.due item → first_fault c item ≡ None → d ≡ after c item → HasTaken d rest to → HasTaken c (item ++ rest) to
+-- an item without a fault is taken, and then what follows it
+pub taken_behind : (c d to : StreamProgress) (item rest : List ℕ) → IsItem c.page_size c.due item → first_fault c item ≡ None
+    → d ≡ after c item → HasTaken d rest to → HasTaken c (item ++ rest) to
 taken_behind c d to item rest is none d_is t = record {
   front = item ++ t.front;
   rest = t.rest;
@@ -129,7 +87,8 @@ taken_behind c d to item rest is none d_is t = record {
 -- ---- what filling the pending item up leads to
 
 -- the piece was too short
-pub still_short : {X : Type 0} (o : Option X) (c : StreamProgress) (old piece new : List ℕ) (left : ℕ) → left ≡ length new → o ≡ None → IfNone o ((new ≡ old ++ piece) × IsUnfinished c new) → ReadsOn c (old ++ piece) c new left Reading
+pub still_short : {X : Type 0} (o : Option X) (c : StreamProgress) (old piece new : List ℕ) (left : ℕ) → left ≡ length new
+    → o ≡ None → IfNone o ((new ≡ old ++ piece) × IsUnfinished c new) → ReadsOn c (old ++ piece) c new left Reading
 still_short {X} (Some x) c old piece new left len none h = absurd cc
 still_short {X} None c old piece new left len none h = record {
   rest = new;
@@ -142,15 +101,20 @@ still_short {X} None c old piece new left len none h = record {
 pub text_at : {X : Type 0} (o : Option X) (x : X) (P : X → Type 0) → o ≡ Some x → IfSome o P → P x
 text_at {X} o x P e h = subst (λ (y : Option X). IfSome y P) e h
 
-pub whole_fault : (c d : StreamProgress) (old piece item rest pending : List ℕ) (left : ℕ) (f : StreamFault) → left ≡ length item + length rest → item ++ rest ≡ old ++ piece → IsItem c.page_size c.due item → first_fault c item ≡ Some f → d ≡ c → ReadsOn c (old ++ piece) d pending left (Bad f)
+-- a piece fills an item up that has a fault: the reading ends there with it
+pub whole_fault : (c d : StreamProgress) (old piece item rest pending : List ℕ) (left : ℕ) (f : StreamFault)
+    → left ≡ length item + length rest → item ++ rest ≡ old ++ piece → IsItem c.page_size c.due item → first_fault c item ≡ Some f
+    → d ≡ c → ReadsOn c (old ++ piece) d pending left (Bad f)
 whole_fault c d old piece item rest pending left f len e is fault same = record {
   rest = item ++ rest;
-  reads = subst (λ (x : List ℕ). Reads c x d (item ++ rest) (Bad f)) e (subst (λ (x : StreamProgress). Reads c (item ++ rest) x (item ++ rest) (Bad f)) (sym same) (reads_fault c item rest f is fault));
+  reads = subst (λ (x : List ℕ). Reads c x d (item ++ rest) (Bad f)) e
+      (subst (λ (x : StreamProgress). Reads c (item ++ rest) x (item ++ rest) (Bad f)) (sym same) (reads_fault c item rest f is fault));
   has_left = length-append item rest ∙ sym len;
   has_rest = λ reading. absurd cc;
 }
 
 -- what a reading keeps is no whole item
-pub unfinished_behind : (from : StreamProgress) (bytes : List ℕ) (to : StreamProgress) (pending : List ℕ) (left : ℕ) (s : StreamState) → ReadsOn from bytes to pending left s → s ≡ Reading → IsUnfinished to pending
+pub unfinished_behind : (from : StreamProgress) (bytes : List ℕ) (to : StreamProgress) (pending : List
+    ℕ) (left : ℕ) (s : StreamState) → ReadsOn from bytes to pending left s → s ≡ Reading → IsUnfinished to pending
 unfinished_behind from bytes to pending left s r reading =
     subst (IsUnfinished to) (r.has_rest reading) (unfinished from bytes to r.rest (subst (λ (x : StreamState). Reads from bytes to r.rest x) reading r.reads))

@@ -20,7 +20,7 @@ use Rattle.mig_stream.specs.declared.fault.StreamFault.TheVariants as fault
 use Rattle.mig_stream.specs.Fields.{be64, be64_at, be32_at}
 use Rattle.mig_stream.specs.Format.{end_byte, footer_type, flags_of}
 use Rattle.mig_stream.specs.Progress.{StreamProgress}
-use Rattle.mig_stream.specs.Items.{size, is_page_size, record_kind, is_single, has_tail, is_allowed, is_passed, closes, passed_by, after_type_byte, kind_faults, head_faults, record_faults, faults, first_fault, after_type, after_head, after_record, after_entry, end_round, open_room, open_records, whole_rounds, end_section, behind_footer, after_item, after, eos_room, eos_records, eos_rounds, end_records, is_start, has_none, flush_ends, flush_rounds, flush_records}
+use Rattle.mig_stream.specs.Items.{size, is_page_size, record_kind, is_single, has_tail, is_allowed, is_passed, closes, passed_by, after_type_byte, kind_faults, head_faults, record_faults, faults, first_fault, after_type, after_head, after_record, after_entry, end_round, open_room, open_records, whole_rounds, end_section, after_footer, after_item, after, eos_room, eos_records, eos_rounds, end_records, is_start, has_none, flush_ends, flush_rounds, flush_records}
 use Rattle.mig_stream.specs.Later.{is_open}
 use Rattle.mig_stream.specs.Reading.{IsItem, AreFaultless, after_all, Front, Ends, Reads}
 use Rattle.mig_stream.specs.Flushed.{is_eos_kind, is_eos, flush_before, flushed, one_if, eos_count, from, SectionsAreFlushed}
@@ -45,9 +45,13 @@ kind_faults_same c SizeList page e = refl
 kind_faults_same c (Named f) page e = refl
 kind_faults_same c (Continued f) page e = refl
 kind_faults_same c EndOfSection page e = refl
-kind_faults_same c Flush page e = ap (λ (m : Mode). (is_none c.left, fault.SizePlace) ∷ (is_single m, fault.Flush) ∷ (not (page == 0), fault.OffsetOut) ∷ []) (sym e)
+kind_faults_same c Flush page e = ap (λ (m : Mode). (is_none c.left, fault.SizePlace) ∷ (
+  is_single m,
+  fault.Flush,
+) ∷ (not (page == 0), fault.OffsetOut) ∷ []) (sym e)
 
-head_faults_same : (c : StreamProgress) (flags : ℕ) (k : Option RecordKind) (page : ℕ) → c.mode ≡ MainBySection → head_faults (to_flush c) flags k page ≡ head_faults c flags k page
+head_faults_same : (c : StreamProgress) (flags : ℕ) (k : Option RecordKind) (page : ℕ) → c.mode ≡ MainBySection
+    → head_faults (to_flush c) flags k page ≡ head_faults c flags k page
 head_faults_same c flags None page e = refl
 head_faults_same c flags (Some k) page e = kind_faults_same c k page e
 
@@ -89,14 +93,27 @@ room_same (Some n) room = refl
 
 end_section_same : (c : StreamProgress) → c.mode ≡ MainBySection → end_section (to_flush c) ≡ to_flush (end_section c)
 end_section_same c e =
-    ap (λ (r : Option ℕ). record c { mode = Main; due = behind_footer c.frame c.section; room = r }) (room_same c.waiting c.room)
-    ∙ ap (λ (m : Mode). record c { mode = Main; due = behind_footer c.frame c.section; room = open_room m c.waiting c.room; records = open_records m c.records; rounds = whole_rounds m c.rounds c.records }) (sym e)
+    ap (λ (r : Option ℕ). record c { mode = Main; due = after_footer c.frame c.section; room = r }) (room_same c.waiting c.room)
+    ∙ ap (λ (m : Mode). record c {
+      mode = Main;
+      due = after_footer c.frame c.section;
+      room = open_room m c.waiting c.room;
+      records = open_records m c.records;
+      rounds = whole_rounds m c.rounds c.records;
+    }) (sym e)
 
 flush_records_same : (c : StreamProgress) → c.mode ≡ MainBySection → flush_records (to_flush c) ≡ to_flush (flush_records c)
 flush_records_same c e =
-    ap (λ (m : Mode). record c { mode = Main; due = RecordHead; room = c.waiting; records = []; rounds = flush_rounds (flush_ends m (is_start c.section) (has_none c.records)) c.rounds c.records }) (sym e)
+    ap (λ (m : Mode). record c {
+      mode = Main;
+      due = RecordHead;
+      room = c.waiting;
+      records = [];
+      rounds = flush_rounds (flush_ends m (is_start c.section) (has_none c.records)) c.rounds c.records;
+    }) (sym e)
 
-after_head_same : (c : StreamProgress) (k : Option RecordKind) (page : ℕ) → c.mode ≡ MainBySection → is_eos_kind k ≡ false → after_head (to_flush c) k page ≡ to_flush (after_head c k page)
+after_head_same : (c : StreamProgress) (k : Option RecordKind) (page : ℕ) → c.mode ≡ MainBySection → is_eos_kind k ≡ false
+    → after_head (to_flush c) k page ≡ to_flush (after_head c k page)
 after_head_same c None page e other = refl
 after_head_same c (Some SizeList) page e other = refl
 after_head_same c (Some (Named f)) page e other = refl
@@ -105,12 +122,15 @@ after_head_same c (Some EndOfSection) page e other = absurd cc
 after_head_same c (Some Flush) page e other = flush_records_same c e
 
 -- where the page size of a block may be
-sized_same : (c : StreamProgress) (item : List ℕ) (b : Bool) → c.mode ≡ MainBySection → (not b && is_eos_kind (record_kind (be64_at 0 item % c.page_size))) ≡ false
-    → cond b (record (to_flush c) { due = RecordHead }) (after_record (to_flush c) item) ≡ to_flush (cond b (record c { due = RecordHead }) (after_record c item))
+sized_same : (c : StreamProgress) (item : List ℕ) (b : Bool) → c.mode ≡ MainBySection
+    → (not b && is_eos_kind (record_kind (be64_at 0 item % c.page_size))) ≡ false
+    → cond b (record (to_flush c) { due = RecordHead }) (after_record (to_flush c) item) ≡ to_flush
+    (cond b (record c { due = RecordHead }) (after_record c item))
 sized_same c item true e other = refl
 sized_same c item false e other = after_head_same c (record_kind (be64_at 0 item % c.page_size)) (be64_at 0 item / c.page_size) e other
 
-after_item_same : (c : StreamProgress) (d : Due) (item : List ℕ) → c.mode ≡ MainBySection → is_eos c.page_size d item ≡ false → after_item (to_flush c) d item ≡ to_flush (after_item c d item)
+after_item_same : (c : StreamProgress) (d : Due) (item : List ℕ) → c.mode ≡ MainBySection → is_eos c.page_size d item ≡ false
+    → after_item (to_flush c) d item ≡ to_flush (after_item c d item)
 after_item_same c FileHeader item e other = refl
 after_item_same c (TypeByte before) item e other = after_type_byte_same c before (slice_index item 0)
 after_item_same c ConfigLength item e other = refl
@@ -156,9 +176,16 @@ eos_kind (Some EndOfSection) e = refl
 eos_kind (Some Flush) e = absurd cc
 
 end_records_same : (c : StreamProgress) → c.mode ≡ MainBySection → end_records (end_round (record (to_flush c) { due = RecordHead })) ≡ to_flush (end_records c)
-end_records_same c e = ap (λ (m : Mode). record c { mode = Main; due = Footer; room = eos_room m c.waiting c.room; records = eos_records m c.records; rounds = eos_rounds m c.rounds c.records }) (sym e)
+end_records_same c e = ap (λ (m : Mode). record c {
+  mode = Main;
+  due = Footer;
+  room = eos_room m c.waiting c.room;
+  records = eos_records m c.records;
+  rounds = eos_rounds m c.rounds c.records;
+}) (sym e)
 
-eos_front : (c : StreamProgress) (item : List ℕ) → c.mode ≡ MainBySection → IsPageSize c.page_size → IsItem c.page_size RecordHead item → record_kind (be64_at 0 item % c.page_size) ≡ Some EndOfSection
+eos_front : (c : StreamProgress) (item : List ℕ) → c.mode ≡ MainBySection → IsPageSize c.page_size
+    → IsItem c.page_size RecordHead item → record_kind (be64_at 0 item % c.page_size) ≡ Some EndOfSection
     → first_of (faults c RecordHead item) ≡ None → Front (record (to_flush c) { due = RecordHead }) (be64 (flags_of Flush) ++ item) (to_flush (end_records c))
 eos_front c item e paged is kind free =
     let d : StreamProgress = record (to_flush c) { due = RecordHead } in
@@ -174,11 +201,16 @@ eos_front c item e paged is kind free =
 
 -- ---- items one after another
 
-step_record : (c : StreamProgress) (item : List ℕ) → c.due ≡ RecordHead → is_eos c.page_size c.due item ≡ true → c.mode ≡ MainBySection → IsPageSize c.page_size → IsItem c.page_size c.due item → first_fault c item ≡ None
+step_record : (c : StreamProgress) (item : List ℕ) → c.due ≡ RecordHead → is_eos c.page_size c.due item ≡ true
+    → c.mode ≡ MainBySection → IsPageSize c.page_size → IsItem c.page_size c.due item → first_fault c item ≡ None
     → Front (to_flush c) (flush_before true ++ item) (to_flush (after c item))
 step_record c item due here e paged is free =
-    let kind : record_kind (be64_at 0 item % c.page_size) ≡ Some EndOfSection = eos_kind (record_kind (be64_at 0 item % c.page_size)) (subst (λ (d : Due). is_eos c.page_size d item ≡ true) due here) in
-    let is_head : IsItem c.page_size RecordHead item = record { is_due = λ x. absurd cc; is_whole = is.is_whole ∙ ap (λ (d : Due). size c.page_size d item) due } in
+    let kind : record_kind (be64_at 0 item % c.page_size) ≡ Some EndOfSection =
+    eos_kind (record_kind (be64_at 0 item % c.page_size)) (subst (λ (d : Due). is_eos c.page_size d item ≡ true) due here) in
+    let is_head : IsItem c.page_size RecordHead item = record {
+      is_due = λ x. absurd cc;
+      is_whole = is.is_whole ∙ ap (λ (d : Due). size c.page_size d item) due;
+    } in
     let free_head : first_of (faults c RecordHead item) ≡ None = ap (λ (d : Due). first_of (faults c d item)) (sym due) ∙ free in
     let f = eos_front c item e paged is_head kind free_head in
     let there : to_flush (after c item) ≡ to_flush (end_records c) =
@@ -191,25 +223,34 @@ sized_eos : (b x : Bool) → (not b && x) ≡ true → (b ≡ false) × (x ≡ t
 sized_eos true x e = absurd cc
 sized_eos false x e = (refl, e)
 
-step_sized : (c : StreamProgress) (item : List ℕ) → c.due ≡ PageSize true → is_eos c.page_size c.due item ≡ true → c.mode ≡ MainBySection → IsPageSize c.page_size → IsItem c.page_size c.due item → first_fault c item ≡ None
+step_sized : (c : StreamProgress) (item : List ℕ) → c.due ≡ PageSize true → is_eos c.page_size c.due item ≡ true
+    → c.mode ≡ MainBySection → IsPageSize c.page_size → IsItem c.page_size c.due item → first_fault c item ≡ None
     → Front (to_flush c) (flush_before true ++ item) (to_flush (after c item))
 step_sized c item due here e paged is free =
     let bytes : List ℕ = be64 (flags_of Flush) ++ item in
     let to : StreamProgress = to_flush (end_records c) in
-    let both = sized_eos (is_page_size item) (is_eos_kind (record_kind (be64_at 0 item % c.page_size))) (subst (λ (d : Due). is_eos c.page_size d item ≡ true) due here) in
+    let both = sized_eos (is_page_size item) (is_eos_kind (record_kind (be64_at 0 item % c.page_size)))
+    (subst (λ (d : Due). is_eos c.page_size d item ≡ true) due here) in
     let kind : record_kind (be64_at 0 item % c.page_size) ≡ Some EndOfSection = eos_kind (record_kind (be64_at 0 item % c.page_size)) both.1 in
-    let is_head : IsItem c.page_size RecordHead item = record { is_due = λ x. absurd cc; is_whole = is.is_whole ∙ ap (λ (d : Due). size c.page_size d item) due } in
-    let free_head : first_of (faults c RecordHead item) ≡ None = not_size (is_page_size item) (record_faults c item) both.0 (ap (λ (d : Due). first_of (faults c d item)) (sym due) ∙ free) in
-    let f : Front (record (to_flush c) { due = PageSize true }) bytes to = unsized_record (to_flush c) to bytes paged (λ x. absurd cc) (eos_front c item e paged is_head kind free_head) in
+    let is_head : IsItem c.page_size RecordHead item = record {
+      is_due = λ x. absurd cc;
+      is_whole = is.is_whole ∙ ap (λ (d : Due). size c.page_size d item) due;
+    } in
+    let free_head : first_of (faults c RecordHead item) ≡ None =
+    not_size (is_page_size item) (record_faults c item) both.0 (ap (λ (d : Due). first_of (faults c d item)) (sym due) ∙ free) in
+    let f : Front (record (to_flush c) { due = PageSize true }) bytes to =
+    unsized_record (to_flush c) to bytes paged (λ x. absurd cc) (eos_front c item e paged is_head kind free_head) in
     let there : to_flush (after c item) ≡ to =
     ap (λ (d : Due). to_flush (after_item c d item)) due ∙ ap (λ (b : Bool). to_flush (cond b (record c { due = RecordHead }) (after_record c item))) both.0
     ∙ ap (λ (k : Option RecordKind). to_flush (after_head c k (be64_at 0 item / c.page_size))) kind in
     subst (λ (x : StreamProgress). Front (to_flush c) bytes x) (sym there) (subst (λ (d : Due). Front (record (to_flush c) { due = d }) bytes to) (sym due) f)
 
-step : (c : StreamProgress) (item : List ℕ) (b : Bool) → is_eos c.page_size c.due item ≡ b → c.mode ≡ MainBySection → IsPageSize c.page_size → IsItem c.page_size c.due item → first_fault c item ≡ None
+step : (c : StreamProgress) (item : List ℕ) (b : Bool) → is_eos c.page_size c.due item ≡ b → c.mode ≡ MainBySection
+    → IsPageSize c.page_size → IsItem c.page_size c.due item → first_fault c item ≡ None
     → Front (to_flush c) (flush_before b ++ item) (to_flush (after c item))
 step c item false other e paged is free =
-    let f : Front (to_flush c) item (after (to_flush c) item) = front_item (to_flush c) item (record { is_due = is.is_due; is_whole = is.is_whole }) (ap first_of (faults_same c c.due item e) ∙ free) in
+    let f : Front (to_flush c) item (after (to_flush c) item) =
+    front_item (to_flush c) item (record { is_due = is.is_due; is_whole = is.is_whole }) (ap first_of (faults_same c c.due item e) ∙ free) in
     subst (λ (x : StreamProgress). Front (to_flush c) item x) (after_item_same c c.due item e other) f
 step c item true here e paged is free =
     elim (eos_due c.page_size c.due item here) [
@@ -217,7 +258,8 @@ step c item true here e paged is free =
       | inr due ↦ step_sized c item due here e paged is free
     ]
 
-flushed_front : (c : StreamProgress) (items : List (List ℕ)) → c.mode ≡ MainBySection → IsPageSize c.page_size → AreFaultless c items → Front (to_flush c) (flushed c items) (to_flush (after_all c items))
+flushed_front : (c : StreamProgress) (items : List (List ℕ)) → c.mode ≡ MainBySection → IsPageSize c.page_size
+    → AreFaultless c items → Front (to_flush c) (flushed c items) (to_flush (after_all c items))
 flushed_front c [] e paged free = Front-none (to_flush c)
 flushed_front c (item ∷ items) e paged free =
     let later = IsLater-front c (after c item) item (front_item c item free.0 free.1) in
@@ -232,13 +274,20 @@ flushed_length : (c : StreamProgress) (items : List (List ℕ)) → length (flus
 flushed_length c [] = refl
 flushed_length c (item ∷ items) =
     let b : Bool = is_eos c.page_size c.due item in
-    omega (arith, flush_length b item, flushed_length (after c item) items, length-append (flush_before b ++ item) (flushed (after c item) items), length-append item (concat items))
+    omega (
+      arith,
+      flush_length b item,
+      flushed_length (after c item) items,
+      length-append (flush_before b ++ item) (flushed (after c item) items),
+      length-append item (concat items),
+    )
 
 ends_same : (c : StreamProgress) (rest : List ℕ) (s : StreamState) → c.mode ≡ MainBySection → Ends c rest s → Ends (to_flush c) rest s
 ends_same c rest Reading e h = h
 ends_same c rest Closed e h = h
 ends_same c rest (Bad f) e h = (h.0, h.1, h.2, record { is_due = h.3.is_due; is_whole = h.3.is_whole }, ap first_of (faults_same c c.due h.0 e) ∙ h.4)
 
+-- the law: a stream whose EOS ends a round reads as the one with a FLUSH before each EOS
 pub sections_are_flushed : SectionsAreFlushed
 sections_are_flushed = λ given text reading main paged is.
     let r = is.reads in
@@ -246,7 +295,8 @@ sections_are_flushed = λ given text reading main paged is.
     let items : List (List ℕ) = r.leads.items in
     let e : is.to.mode ≡ MainBySection = (IsLater-front begin is.to r.front r.leads).same_mode (ap is_open main) ∙ main in
     let front : Front (to_flush begin) (flushed begin items) (to_flush is.to) =
-    subst (λ (x : StreamProgress). Front (to_flush begin) (flushed begin items) (to_flush x)) (sym r.leads.leads_to) (flushed_front begin items main paged r.leads.are_faultless) in
+    subst (λ (x : StreamProgress). Front (to_flush begin) (flushed begin items) (to_flush x)) (sym r.leads.leads_to)
+    (flushed_front begin items main paged r.leads.are_faultless) in
     let reads : Reads (to_flush begin) (flushed begin items ++ is.rest) (to_flush is.to) is.rest reading.state =
     record { front = flushed begin items; has_text = refl; leads = front; ends = ends_same is.to is.rest reading.state e r.ends } in
     record {

@@ -80,7 +80,8 @@ pub record IsFound (frame : Frame) (mode : Mode) (page_size limit : ℕ) (to : S
   pub has_text : IsFramedText frame mode limit text table to.rounds
 
 -- Such a rest is a stream.
-pub text_found : (frame : Frame) (mode : Mode) (page_size limit : ℕ) (waiting : Option ℕ) (to : StreamProgress) (text : List ℕ) → IsPageSize page_size → limit ≤ 2 ^ 40 → RestOfFile to (start frame mode page_size limit waiting) text
+pub text_found : (frame : Frame) (mode : Mode) (page_size limit : ℕ) (waiting : Option ℕ) (to : StreamProgress) (text : List ℕ)
+    → IsPageSize page_size → limit ≤ 2 ^ 40 → RestOfFile to (start frame mode page_size limit waiting) text
     → IsFound frame mode page_size limit to text
 text_found frame mode page_size limit waiting to text size small file =
     let opening = file.rest in
@@ -92,19 +93,26 @@ text_found frame mode page_size limit waiting to text size small file =
     let id = begun.id in
     let table : RamTable = record { page_size = page_size; blocks = list.blocks } in
     let others = flat_map (part_or_command table id) tail.others ++ (section table End id tail.last ++ ending (is_machine frame)) in
-    let six : list.tail ≡ body table id records.records ++ others = records.has_bytes ∙ ap (λ (x : List ℕ). body table id records.records ++ x) tail.has_bytes in
+    let six : list.tail ≡ body table id records.records ++ others = records.has_bytes
+    ∙ ap (λ (x : List ℕ). body table id records.records ++ x) tail.has_bytes in
     let five : begun.tail ≡ tailed_list table list.tails ++ (body table id records.records ++ others) =
     list.has_bytes ∙ list_spelled table list.tails list.tail ∙ ap (λ (x : List ℕ). tailed_list table list.tails ++ x) six in
-    let four : before.tail ≡ start_head id ++ (tailed_list table list.tails ++ (body table id records.records ++ others)) = begun.has_bytes ∙ ap (λ (x : List ℕ). start_head id ++ x) five in
-    let commands : opening.tail ≡ flat_map command before.commands ++ (start_head id ++ (tailed_list table list.tails ++ (body table id records.records ++ others))) =
+    let four : before.tail ≡ start_head id ++ (tailed_list table list.tails ++ (body table id records.records ++ others)) =
+    begun.has_bytes ∙ ap (λ (x : List ℕ). start_head id ++ x) five in
+    let commands : opening.tail ≡ flat_map command before.commands
+    ++ (start_head id ++ (tailed_list table list.tails ++ (body table id records.records ++ others))) =
     before.has_bytes ∙ ap (λ (x : List ℕ). flat_map command before.commands ++ x) four in
-    let three : file.tail ≡ configured opening.machine ++ (flat_map command before.commands ++ (start_head id ++ (tailed_list table list.tails ++ (body table id records.records ++ others)))) =
+    let three : file.tail ≡ configured opening.machine
+    ++ (flat_map command before.commands ++ (start_head id ++ (tailed_list table list.tails ++ (body table id records.records ++ others)))) =
     opening.has_bytes ∙ ap (λ (x : List ℕ). configured opening.machine ++ x) commands in
-    let spelled : text ≡ file_header ++ (configured opening.machine ++ (flat_map command before.commands ++ (start_head id ++ (tailed_list table list.tails ++ (body table id records.records ++ others))))) =
+    let spelled : text ≡ file_header ++ (configured opening.machine
+    ++ (flat_map command before.commands ++ (start_head id ++ (tailed_list table list.tails ++ (body table id records.records ++ others))))) =
     file.has_bytes ∙ ap (λ (x : List ℕ). file_header ++ x) three in
     let sum : total_bytes table ≡ sum_of page_size list.blocks = total_is_sum table in
     let behind : List (List Record) = parts_of tail.others ++ tail.last ∷ [] in
-    let rounds = rounds_spelled mode (records.records ∷ behind) (FlushesFit-cons (is_single mode) records.records behind records.flushes (subst (λ (single : Bool). FlushesFit single behind) (single_kept mode true [] records.records) tail.flushes)) tail.no_tail in
+    let rounds = rounds_spelled mode (records.records ∷ behind)
+    (FlushesFit-cons (is_single mode) records.records behind records.flushes
+    (subst (λ (single : Bool). FlushesFit single behind) (single_kept mode true [] records.records) tail.flushes)) tail.no_tail in
     record {
       table = table;
       has_page_size = refl;
@@ -117,7 +125,8 @@ text_found frame mode page_size limit waiting to text size small file =
         first = records.records;
         others = tail.others;
         last = tail.last;
-        is_spelled = spelled ∙ regroup file_header (configured opening.machine) (flat_map command before.commands) (start_head id) (tailed_list table list.tails) (body table id records.records) (flat_map (part_or_command table id) tail.others)
+        is_spelled = spelled ∙ regroup file_header (configured opening.machine) (flat_map command before.commands) (start_head id)
+            (tailed_list table list.tails) (body table id records.records) (flat_map (part_or_command table id) tail.others)
             (section table End id tail.last) (ending (is_machine frame));
         has_table = table_from_blocks table size list.has_some (omega (arith, list.has_few)) list.are_blocks (omega (arith, sum, list.has_limit));
         has_limit = omega (arith, sum, list.has_limit);
@@ -147,7 +156,8 @@ record IsReadAs (given : Settings) (bytes : List ℕ) (reading : StreamReading) 
   has_bytes : bytes ≡ text ++ rest
   has_text : IsFramedText given.frame given.mode given.limit text table reading.rounds
 
-read_as : (given : Settings) (bytes : List ℕ) (reading : StreamReading) → IsPageSize given.page_size → given.limit ≤ 2 ^ 40 → All (λ byte. byte < 2 ^ 8) bytes → IsReading given bytes reading → reading.state ≡ Closed → IsReadAs given bytes reading
+read_as : (given : Settings) (bytes : List ℕ) (reading : StreamReading) → IsPageSize given.page_size → given.limit ≤ 2 ^ 40
+    → All (λ byte. byte < 2 ^ 8) bytes → IsReading given bytes reading → reading.state ≡ Closed → IsReadAs given bytes reading
 read_as given bytes reading size small all is closed =
     let from : StreamProgress = start given.frame given.mode given.page_size given.limit given.waiting in
     let reads = is.reads in
@@ -165,7 +175,8 @@ read_as given bytes reading size small all is closed =
       text = reads.front;
       rest = is.rest;
       has_bytes = reads.has_text;
-      has_text = subst (λ (x : List (List PageRecord)). IsFramedText given.frame given.mode given.limit reads.front found.table x) (sym is.has_rounds) found.has_text;
+      has_text = subst (λ (x : List (List PageRecord)). IsFramedText given.frame given.mode given.limit reads.front found.table x)
+          (sym is.has_rounds) found.has_text;
     }
 
 -- ---- of RAM's sections alone
@@ -176,13 +187,15 @@ name_of (Some x) = Some x.name
 
 plain_configuration : (o : Option Configuration) → IfSome o (λ x. x.subsections ≡ []) → configured o ≡ configuration (name_of o)
 plain_configuration None none = refl
-plain_configuration (Some x) none = ap (λ (hs : List SubsectionBody). configuration (Some x.name) ++ flat_map subsection hs) none ∙ append-nil (configuration (Some x.name))
+plain_configuration (Some x) none = ap (λ (hs : List SubsectionBody). configuration (Some x.name) ++ flat_map subsection hs) none
+    ∙ append-nil (configuration (Some x.name))
 
 plain_name : (p : ℕ) (o : Option Configuration) → IfSome o (IsConfiguration p) → IfSome (name_of o) (λ bytes. length bytes ≤ most_name_bytes)
 plain_name p None is = tt
 plain_name p (Some x) is = is.has_name
 
-plain_parts : (table : RamTable) (id : ℕ) (others : List PartOrCommand) → HasNoCommand others → flat_map (part_or_command table id) others ≡ flat_map (section table Part id) (parts_of others)
+plain_parts : (table : RamTable) (id : ℕ) (others : List PartOrCommand) → HasNoCommand others
+    → flat_map (part_or_command table id) others ≡ flat_map (section table Part id) (parts_of others)
 plain_parts table id [] none = refl
 plain_parts table id (PartOf records ∷ others) none = ap (λ (x : List ℕ). section table Part id records ++ x) (plain_parts table id others none)
 plain_parts table id (CommandOf x ∷ others) none = absurd none
@@ -192,19 +205,25 @@ plain_machine : (o : Option Configuration) → IfSome o (λ x. x.subsections ≡
 plain_machine None none = refl
 plain_machine (Some x) none = ap (λ (hs : List SubsectionBody). cond (list_any names_shared hs) Addressed Plain) none
 
-ram_text : (mode : Mode) (limit : ℕ) (text : List ℕ) (table : RamTable) (rounds : List (List PageRecord)) → IsFramedText Ram mode limit text table rounds → IsText mode limit text table rounds
+ram_text : (mode : Mode) (limit : ℕ) (text : List ℕ) (table : RamTable) (rounds : List (List PageRecord))
+    → IsFramedText Ram mode limit text table rounds → IsText mode limit text table rounds
 ram_text mode limit text table rounds t =
     let c = plain_configuration t.machine (t.no_subsections refl) in
     let p = plain_parts table t.id t.others (t.no_others refl) in
     let form : form_of t.machine t.commands ≡ Plain = ap (form_of t.machine) (t.no_commands refl) ∙ plain_machine t.machine (t.no_subsections refl) in
-    let l : tailed_list table t.tails ≡ size_list table = plain_list table t.tails t.has_tails (subst (λ (f : EntryForm). AllByRecursion (IsTail f) t.tails) form t.are_tails) in
+    let l : tailed_list table t.tails ≡ size_list table =
+    plain_list table t.tails t.has_tails (subst (λ (f : EntryForm). AllByRecursion (IsTail f) t.tails) form t.are_tails) in
     let parts : List ℕ = flat_map (part_or_command table t.id) t.others in
     let behind : List ℕ → List ℕ → List ℕ → List ℕ → List ℕ =
     λ c x l p. file_header ++ c ++ x ++ start_head t.id ++ l ++ body table t.id t.first ++ p ++ section table End t.id t.last ++ end_byte ∷ [] in
-    let one : text ≡ behind (configuration (name_of t.machine)) (flat_map command t.commands) (tailed_list table t.tails) parts = t.is_spelled ∙ ap (λ (x : List ℕ). behind x (flat_map command t.commands) (tailed_list table t.tails) parts) c in
-    let two : text ≡ behind (configuration (name_of t.machine)) [] (tailed_list table t.tails) parts = one ∙ ap (λ (x : List Command). behind (configuration (name_of t.machine)) (flat_map command x) (tailed_list table t.tails) parts) (t.no_commands refl) in
-    let listed : text ≡ behind (configuration (name_of t.machine)) [] (size_list table) parts = two ∙ ap (λ (x : List ℕ). behind (configuration (name_of t.machine)) [] x parts) l in
-    let three : text ≡ behind (configuration (name_of t.machine)) [] (size_list table) (flat_map (section table Part t.id) (parts_of t.others)) = listed ∙ ap (behind (configuration (name_of t.machine)) [] (size_list table)) p in
+    let one : text ≡ behind (configuration (name_of t.machine)) (flat_map command t.commands) (tailed_list table t.tails) parts =
+    t.is_spelled ∙ ap (λ (x : List ℕ). behind x (flat_map command t.commands) (tailed_list table t.tails) parts) c in
+    let two : text ≡ behind (configuration (name_of t.machine)) [] (tailed_list table t.tails) parts = one
+    ∙ ap (λ (x : List Command). behind (configuration (name_of t.machine)) (flat_map command x) (tailed_list table t.tails) parts) (t.no_commands refl) in
+    let listed : text ≡ behind (configuration (name_of t.machine)) [] (size_list table) parts = two
+    ∙ ap (λ (x : List ℕ). behind (configuration (name_of t.machine)) [] x parts) l in
+    let three : text ≡ behind (configuration (name_of t.machine)) [] (size_list table)
+    (flat_map (section table Part t.id) (parts_of t.others)) = listed ∙ ap (behind (configuration (name_of t.machine)) [] (size_list table)) p in
     record {
       id = t.id;
       name = name_of t.machine;
@@ -231,13 +250,15 @@ read_law given bytes reading ram size small all is closed =
         found.text,
         found.rest,
         found.has_bytes,
-        ram_text given.mode given.limit found.text found.table reading.rounds (subst (λ (f : Frame). IsFramedText f given.mode given.limit found.text found.table reading.rounds) ram found.has_text),
+        ram_text given.mode given.limit found.text found.table reading.rounds
+            (subst (λ (f : Frame). IsFramedText f given.mode given.limit found.text found.table reading.rounds) ram found.has_text),
       ),
     )
 
 -- ---- of a machine's stream
 
-machine_text : (mode : Mode) (limit : ℕ) (text : List ℕ) (table : RamTable) (rounds : List (List PageRecord)) → IsFramedText Machine mode limit text table rounds → IsMachineText mode limit text table rounds
+machine_text : (mode : Mode) (limit : ℕ) (text : List ℕ) (table : RamTable) (rounds : List (List PageRecord))
+    → IsFramedText Machine mode limit text table rounds → IsMachineText mode limit text table rounds
 machine_text mode limit text table rounds t = record {
   id = t.id;
   machine = t.machine;
@@ -271,6 +292,7 @@ machine_read_law given bytes reading machine size small all is closed =
         found.text,
         found.rest,
         found.has_bytes,
-        machine_text given.mode given.limit found.text found.table reading.rounds (subst (λ (f : Frame). IsFramedText f given.mode given.limit found.text found.table reading.rounds) machine found.has_text),
+        machine_text given.mode given.limit found.text found.table reading.rounds
+            (subst (λ (f : Frame). IsFramedText f given.mode given.limit found.text found.table reading.rounds) machine found.has_text),
       ),
     )

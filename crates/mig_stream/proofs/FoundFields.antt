@@ -1,5 +1,5 @@
 -- What the bytes of an item are, if its tests have found no fault: numbers, flags, counted ids.
-use Rattle.std.proofs.Common.{◌≡◌, ℕ, suc, ◌+◌, ◌-◌, ◌*◌, ◌/◌, ◌%◌, ◌^◌, ◌<◌, Bool, true, false, cond, eqb, List, [], ◌∷◌, ◌++◌, length, get_or, take, Option, Some, None, refl, sym, ap, ◌∙◌, inl, inr, arith}
+use Rattle.std.proofs.Common.{◌≡◌, ℕ, suc, ◌+◌, ◌-◌, ◌*◌, ◌/◌, ◌%◌, ◌^◌, ◌<◌, Bool, true, false, cond, eqb, List, [], ◌∷◌, ◌++◌, length, get_or, take, Option, Some, refl, sym, ap, ◌∙◌, inl, inr, arith}
 use Rattle.std.specs.Prelude.{All, find}
 use Rattle.std.specs.Int.{w32, w64, to_be_bytes, from_be_bytes}
 use Rattle.std.specs.Str.{bytes_eq}
@@ -12,10 +12,8 @@ use Rattle.std.proofs.lemmas.Bool.{cases_lt, eqb-true}
 use Rattle.std.proofs.Math.Nat.{add-sub_cancel_left}
 use Rattle.mig_mem.specs.RamTable.{Block, block, block_of}
 use Rattle.mig_stream.specs.declared.item.RecordKind.{RecordKind}
-use Rattle.mig_stream.specs.declared.fault.StreamFault.{StreamFault}
 use Rattle.mig_stream.specs.Fields.{be32, be64, counted, be32_at, be64_at}
 use Rattle.mig_stream.specs.Format.{flags_of, record_kinds}
-use Rattle.mig_mem.specs.First.{first_of}
 use Rattle.mig_stream.specs.Items.{id_in, record_kind}
 
 -- ---- bytes
@@ -45,13 +43,6 @@ pub bytes_of_rest : (a b : List ℕ) → IsBytes (a ++ b) → IsBytes b
 bytes_of_rest [] b all = all
 bytes_of_rest (x ∷ a) b all = bytes_of_rest a b (λ i. all (suc i))
 
--- ---- tests
-
--- a test that found no fault
-pub passed : (b : Bool) (f : StreamFault) (more : List (Bool × StreamFault)) → first_of ((b, f) ∷ more) ≡ None → (b ≡ false) × (first_of more ≡ None)
-passed true f more e = absurd cc
-passed false f more e = (refl, e)
-
 -- ---- numbers
 
 -- an item of four bytes is its number
@@ -71,7 +62,8 @@ head_found p item len fits = sym (be64_found item len fits) ∙ ap (to_be_bytes 
 -- ---- the flags of a kind
 
 -- of two tests one after another: the first has found it, or the others have
-found_first : (b : Bool) (flags : ℕ) (kind k : RecordKind) (others : Option RecordKind) → eqb flags (flags_of k) ≡ b → (others ≡ Some kind → flags ≡ flags_of kind)
+found_first : (b : Bool) (flags : ℕ) (kind k : RecordKind) (others : Option RecordKind) → eqb flags (flags_of k) ≡ b
+    → (others ≡ Some kind → flags ≡ flags_of kind)
     → cond b (Some k) others ≡ Some kind → flags ≡ flags_of kind
 found_first true flags kind k others test later e = let same : k ≡ kind = cc in eqb-true flags (flags_of k) test ∙ ap flags_of same
 found_first false flags kind k others test later e = later e
@@ -79,7 +71,8 @@ found_first false flags kind k others test later e = later e
 -- a kind found in a list of kinds has the flags that were looked for
 found_flags : (flags : ℕ) (kind : RecordKind) (kinds : List RecordKind) → find (λ k. eqb flags (flags_of k)) kinds ≡ Some kind → flags ≡ flags_of kind
 found_flags flags kind [] e = absurd cc
-found_flags flags kind (k ∷ kinds) e = found_first (eqb flags (flags_of k)) flags kind k (find (λ x. eqb flags (flags_of x)) kinds) refl (found_flags flags kind kinds) e
+found_flags flags kind (k ∷ kinds) e = found_first (eqb flags (flags_of k)) flags kind k
+    (find (λ x. eqb flags (flags_of x)) kinds) refl (found_flags flags kind kinds) e
 
 -- Flags of a kind are the flags that it has.
 pub kind_found : (flags : ℕ) (kind : RecordKind) → record_kind flags ≡ Some kind → flags ≡ flags_of kind

@@ -14,12 +14,13 @@ use Rattle.mig_stream.specs.Format.{flags_of}
 use Rattle.mig_stream.specs.Progress.{StreamProgress}
 use Rattle.mig_mem.specs.First.{first_of}
 use Rattle.mig_stream.specs.Items.{record_kind, has_page, is_single, is_full, head_faults, after_head}
-use Rattle.mig_stream.proofs.FoundFields.{passed, kind_found}
+use Rattle.mig_stream.proofs.FoundFields.{kind_found}
 use Rattle.mig_stream.proofs.FoundPages.{RestOfBody, RestOfPage, named_back, continued_back}
 use Rattle.mig_stream.proofs.FoundSections.{at_head, end_back, flush_back, bare_head}
 use Rattle.mig_stream.proofs.FoundList.{list_back}
 use Rattle.mig_stream.proofs.FoundTail.{Behind}
 use Rattle.mig_stream.proofs.FoundRest.{RestAt, RestFrom}
+use Rattle.mig_stream.proofs.Steps.{passed}
 
 -- ---- the size list has been read, or hasn't
 
@@ -34,7 +35,8 @@ read_already None e is = absurd cc
 read_already (Some x) e is = absurd cc
 
 -- after the size list, a record head is followed by the records' rest
-behind_list : (to c : StreamProgress) (bytes : List ℕ) → is_none c.left ≡ false → (c.left ≡ Some 0 → RestOfBody (Behind to) c bytes) → RestAt to c RecordHead bytes
+behind_list : (to c : StreamProgress) (bytes : List ℕ) → is_none c.left ≡ false
+    → (c.left ≡ Some 0 → RestOfBody (Behind to) c bytes) → RestAt to c RecordHead bytes
 behind_list to c bytes used rest = ((λ none. absurd (read_already c.left used none)), rest)
 
 -- ---- page records of the block that was named last
@@ -50,7 +52,8 @@ some_block_back Behind c (Some b) page item bytes f head in_range r = continued_
 -- ---- heads by their kind
 
 -- a head's bytes, by its kind
-kind_head : (c : StreamProgress) (flags page : ℕ) (item : List ℕ) (kind : RecordKind) → item ≡ be64 (page * c.page_size + flags) → record_kind flags ≡ Some kind → item ≡ be64 (page * c.page_size + flags_of kind)
+kind_head : (c : StreamProgress) (flags page : ℕ) (item : List ℕ) (kind : RecordKind) → item ≡ be64 (page * c.page_size + flags)
+    → record_kind flags ≡ Some kind → item ≡ be64 (page * c.page_size + flags_of kind)
 kind_head c flags page item kind head is = head ∙ ap (λ (x : ℕ). be64 (page * c.page_size + x)) (kind_found flags kind is)
 
 -- a page number that the test found to be 0
@@ -58,7 +61,8 @@ zero_page : (page : ℕ) → first_of ((not (eqb page 0), fault.OffsetOut) ∷ [
 zero_page page free = eqb-true page 0 (not-false (eqb page 0) (passed (not (eqb page 0)) fault.OffsetOut [] free).0)
 
 -- A record head in front of what is left after its kind.
-pub head_back : (to c : StreamProgress) (flags page : ℕ) (item bytes : List ℕ) (kind : Option RecordKind) → item ≡ be64 (page * c.page_size + flags) → record_kind flags ≡ kind
+pub head_back : (to c : StreamProgress) (flags page : ℕ) (item bytes : List ℕ) (kind : Option RecordKind)
+    → item ≡ be64 (page * c.page_size + flags) → record_kind flags ≡ kind
     → first_of (head_faults c flags kind page) ≡ None → RestFrom to (after_head c kind page) bytes → RestAt to c RecordHead (item ++ bytes)
 head_back to c flags page item bytes None head is free r = absurd cc
 head_back to c flags page item bytes (Some SizeList) head is free r =

@@ -21,9 +21,10 @@ use Rattle.mig_stream.specs.Items.{id_in, length_in, faults}
 use Rattle.mig_stream.specs.Text.{entry}
 use Rattle.mig_stream.specs.Machine.{IsTail, entries}
 use Rattle.mig_stream.proofs.Tables.{AreBlocks, sum_of}
-use Rattle.mig_stream.proofs.FoundFields.{IsBytes, passed}
+use Rattle.mig_stream.proofs.FoundFields.{IsBytes}
 use Rattle.mig_stream.proofs.FoundParts.{entry_found}
 use Rattle.mig_stream.proofs.FoundPages.{RestOfBody}
+use Rattle.mig_stream.proofs.Steps.{passed}
 
 -- The entries of one or more blocks are left, with their tails, and then START's records.
 pub record RestOfEntries (Behind : StreamProgress → List ℕ → Type 0) (c : StreamProgress) (bytes : List ℕ) : Type 0 where
@@ -65,7 +66,7 @@ pub record IsEntry (c : StreamProgress) (item : List ℕ) : Type 0 where
   pub has_room : length_in item ≤ unwrap_or c.left 0
 
 -- nothing was found
-no_some : {A : Type 0} (o : Option A) → is_some o ≡ false → o ≡ None
+pub no_some : {A : Type 0} (o : Option A) → is_some o ≡ false → o ≡ None
 no_some None e = refl
 no_some (Some x) e = absurd cc
 
@@ -82,7 +83,8 @@ entry_is c item free =
     let odd = eqb len 0 || not (eqb (len % c.page_size) 0) in
     let twice = is_some (block_of c.blocks (id_in item)) in
     let good = is_id (id_in item) in
-    let t1 = passed (leb max_blocks (length c.blocks)) fault.TooManyBlocks ((not good, fault.Id) ∷ (twice, fault.IdTwice) ∷ (odd, fault.Length) ∷ (room, fault.SizeSum) ∷ []) free in
+    let t1 = passed (leb max_blocks (length c.blocks)) fault.TooManyBlocks
+    ((not good, fault.Id) ∷ (twice, fault.IdTwice) ∷ (odd, fault.Length) ∷ (room, fault.SizeSum) ∷ []) free in
     let t2 = passed (not good) fault.Id ((twice, fault.IdTwice) ∷ (odd, fault.Length) ∷ (room, fault.SizeSum) ∷ []) t1.1 in
     let t3 = passed twice fault.IdTwice ((odd, fault.Length) ∷ (room, fault.SizeSum) ∷ []) t2.1 in
     let t4 = passed odd fault.Length ((room, fault.SizeSum) ∷ []) t3.1 in
@@ -110,7 +112,8 @@ abbrev pub left_after : StreamProgress → List ℕ → ℕ
 left_after c item = unwrap_or c.left 0 - length_in item
 
 -- and its bytes are spelled as its block's entry
-entry_bytes : (c : StreamProgress) (item : List ℕ) → length item ≡ 9 + get_or item 0 0 → IsBytes item → IsEntry c item → item ≡ entry c.page_size (block_in c.page_size item)
+entry_bytes : (c : StreamProgress) (item : List ℕ) → length item ≡ 9 + get_or item 0 0 → IsBytes item → IsEntry c item
+    → item ≡ entry c.page_size (block_in c.page_size item)
 entry_bytes c item len all is = entry_found item len all ∙ ap (λ (n : ℕ). length (id_in item) ∷ (id_in item ++ be64 n)) (sym is.has_length)
 
 -- What follows an entry and its tail: START's records, if it is the last entry, or other entries.
@@ -127,10 +130,13 @@ pub record RestOfTail (Behind : StreamProgress → List ℕ → Type 0) (c : Str
   pub rest : RestOfListed Behind c last more
 
 -- what is left doesn't depend on the item that is due
-pub body_at : (Behind : StreamProgress → List ℕ → Type 0) (c : StreamProgress) (d e : Due) (bytes : List ℕ) → RestOfBody Behind (record c { due = d }) bytes → RestOfBody Behind (record c { due = e }) bytes
+pub body_at : (Behind : StreamProgress → List ℕ → Type 0) (c : StreamProgress) (d e : Due) (bytes : List ℕ)
+    → RestOfBody Behind (record c { due = d }) bytes → RestOfBody Behind (record c { due = e }) bytes
 body_at Behind c d e bytes r = record { records = r.records; more = r.more; has_bytes = r.has_bytes; follow = r.follow; flushes = r.flushes; others = r.others }
 
-pub entries_at : (Behind : StreamProgress → List ℕ → Type 0) (c : StreamProgress) (d : Due) (bytes : List ℕ) → RestOfEntries Behind (record c { due = d }) bytes → RestOfEntries Behind c bytes
+-- the rest of a list's entries doesn't depend on the item that is due
+pub entries_at : (Behind : StreamProgress → List ℕ → Type 0) (c : StreamProgress) (d : Due) (bytes : List ℕ)
+    → RestOfEntries Behind (record c { due = d }) bytes → RestOfEntries Behind c bytes
 entries_at Behind c d bytes r = record {
   blocks = r.blocks;
   tails = r.tails;
@@ -154,13 +160,15 @@ abbrev pub behind_entry : StreamProgress → Due → List ℕ → StreamProgress
 behind_entry c d item = record c { due = d; left = Some (left_after c item); blocks = c.blocks ++ block_in c.page_size item ∷ [] }
 
 -- an entry in front of its tail and what follows it
-pub entry_back : (Behind : StreamProgress → List ℕ → Type 0) (c : StreamProgress) (d : Due) (last : Bool) (item bytes : List ℕ) → length item ≡ 9 + get_or item 0 0 → IsBytes item → IsEntry c item → eqb (left_after c item) 0 ≡ last
+pub entry_back : (Behind : StreamProgress → List ℕ → Type 0) (c : StreamProgress) (d : Due) (last : Bool) (item bytes : List ℕ)
+    → length item ≡ 9 + get_or item 0 0 → IsBytes item → IsEntry c item → eqb (left_after c item) 0 ≡ last
     → RestOfTail Behind (behind_entry c d item) c.form last bytes → RestOfEntries Behind c (item ++ bytes)
 entry_back Behind c d true item bytes len all is test r =
     let b = block_in c.page_size item in
     let none : left_after c item ≡ 0 = eqb-true _ _ test in
     let spelled : item ++ bytes ≡ (entry c.page_size b ++ (r.tail ++ [])) ++ r.more =
-    ap (λ (x : List ℕ). x ++ bytes) (entry_bytes c item len all is) ∙ ap (λ (x : List ℕ). entry c.page_size b ++ x) r.has_bytes ∙ sym (regroup_entry (entry c.page_size b) r.tail [] r.more) in
+    ap (λ (x : List ℕ). x ++ bytes) (entry_bytes c item len all is) ∙ ap (λ (x : List ℕ). entry c.page_size b ++ x) r.has_bytes
+    ∙ sym (regroup_entry (entry c.page_size b) r.tail [] r.more) in
     let left : RestOfBody Behind (record c { due = d; left = Some 0; blocks = c.blocks ++ b ∷ [] }) r.more =
     subst (λ (x : ℕ). RestOfBody Behind (record c { due = d; left = Some x; blocks = c.blocks ++ b ∷ [] }) r.more) none (r.rest (ap Some none)) in
     record {
@@ -181,7 +189,8 @@ entry_back Behind c d false item bytes len all is test r =
     let q : RestOfEntries Behind (behind_entry c d item) r.more = r.rest in
     let others = entries c.page_size q.blocks q.tails in
     let spelled : item ++ bytes ≡ (entry c.page_size b ++ (r.tail ++ others)) ++ q.tail =
-    ap (λ (x : List ℕ). x ++ bytes) (entry_bytes c item len all is) ∙ ap (λ (x : List ℕ). entry c.page_size b ++ x) (r.has_bytes ∙ ap (λ (x : List ℕ). r.tail ++ x) q.has_bytes)
+    ap (λ (x : List ℕ). x ++ bytes) (entry_bytes c item len all is)
+    ∙ ap (λ (x : List ℕ). entry c.page_size b ++ x) (r.has_bytes ∙ ap (λ (x : List ℕ). r.tail ++ x) q.has_bytes)
     ∙ sym (regroup_entry (entry c.page_size b) r.tail others q.tail) in
     record {
       blocks = b ∷ q.blocks;
@@ -194,13 +203,15 @@ entry_back Behind c d false item bytes len all is test r =
       has_sum = omega (arith, is.has_length, is.has_room, q.has_sum);
       has_tails = omega (arith, q.has_tails);
       are_tails = (r.is_tail, q.are_tails);
-      rest = subst (λ (x : List Block). RestOfBody Behind (record c { due = RecordHead; left = Some 0; blocks = x }) q.tail) (append_assoc c.blocks (b ∷ []) q.blocks) q.rest;
+      rest = subst (λ (x : List Block). RestOfBody Behind (record c { due = RecordHead; left = Some 0; blocks = x }) q.tail)
+          (append_assoc c.blocks (b ∷ []) q.blocks) q.rest;
     }
 
 -- ---- the head of the size list
 
 -- the head says how many bytes the entries have in all
-pub list_back : (Behind : StreamProgress → List ℕ → Type 0) (c : StreamProgress) (page : ℕ) (item bytes : List ℕ) → item ≡ be64 (page * c.page_size + flags_of SizeList) → page * c.page_size ≤ c.limit
+pub list_back : (Behind : StreamProgress → List ℕ → Type 0) (c : StreamProgress) (page : ℕ) (item bytes : List ℕ)
+    → item ≡ be64 (page * c.page_size + flags_of SizeList) → page * c.page_size ≤ c.limit
     → RestOfEntries Behind (record c { due = ListEntry; left = Some (page * c.page_size) }) bytes → RestOfList Behind c (item ++ bytes)
 list_back Behind c page item bytes head small r = record {
   blocks = r.blocks;

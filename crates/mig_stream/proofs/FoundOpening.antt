@@ -22,11 +22,12 @@ use Rattle.mig_mem.specs.First.{first_of}
 use Rattle.mig_stream.specs.Items.{faults, is_machine, is_addressed}
 use Rattle.mig_stream.specs.Machine.{Command, command_bytes, command, IsCommand, is_advise, ignore_shared_in, names_shared, ignores_shared, SubsectionBody, kind_of, body_bytes, IsCapability, IsSubsectionBody, subsection_head, subsection, Configuration, configured, IsConfiguration}
 use Rattle.mig_stream.specs.Text.{file_header, start_head}
-use Rattle.mig_stream.proofs.FoundFields.{IsBytes, passed, be32_found}
+use Rattle.mig_stream.proofs.FoundFields.{IsBytes, be32_found}
 use Rattle.mig_stream.proofs.FoundParts.{be32_small, header_found, start_found}
 use Rattle.mig_stream.proofs.FoundList.{RestOfList}
 use Rattle.mig_stream.proofs.FoundTail.{Behind}
 use Rattle.mig_stream.proofs.Tails.{twice, fits_apart}
+use Rattle.mig_stream.proofs.Steps.{passed}
 
 -- START's head is left, and then its size list. Its type byte may have been read: `front` is what
 -- was read of it.
@@ -90,8 +91,10 @@ pub record RestOfFile (to c : StreamProgress) (bytes : List ℕ) : Type 0 where
 -- ---- START's head
 
 -- START's head, in front of its size list
-pub start_head_back : (to c : StreamProgress) (item bytes : List ℕ) → length item ≡ 13 + get_or item 4 0 → IsBytes item → first_of (faults c StartHead item) ≡ None
-    → RestOfList (Behind to) (record c { due = RecordHead; section = Start; section_id = be32_at 0 item }) bytes → RestOfStart (section_type Start ∷ []) to c (item ++ bytes)
+pub start_head_back : (to c : StreamProgress) (item bytes : List ℕ) → length item ≡ 13 + get_or item 4 0 → IsBytes item
+    → first_of (faults c StartHead item) ≡ None
+    → RestOfList (Behind to) (record c { due = RecordHead; section = Start; section_id = be32_at 0 item }) bytes
+    → RestOfStart (section_type Start ∷ []) to c (item ++ bytes)
 start_head_back to c item bytes len all free r =
     let n = get_or item 4 0 in
     let named = bytes_eq (slice_range item 5 (5 + n)) ram_name in
@@ -117,11 +120,22 @@ start_type_back to c bytes r = record { id = r.id; tail = r.tail; has_bytes = r.
 
 -- START may stand where COMMANDs may
 pub no_commands_back : (to c : StreamProgress) (bytes : List ℕ) → RestOfStart [] to c bytes → RestOfCommands to c bytes
-no_commands_back to c bytes r = record { commands = []; tail = bytes; has_bytes = refl; are_commands = tt; in_frame = λ ram. refl; is_one_form = λ addressed. refl; rest = r }
+no_commands_back to c bytes r = record {
+  commands = [];
+  tail = bytes;
+  has_bytes = refl;
+  are_commands = tt;
+  in_frame = λ ram. refl;
+  is_one_form = λ addressed. refl;
+  rest = r;
+}
 
-pub start_at : (front : List ℕ) (to c : StreamProgress) (d : Due) (bytes : List ℕ) → RestOfStart front to (record c { due = d }) bytes → RestOfStart front to c bytes
+-- what is left from START on doesn't depend on the item that was due
+pub start_at : (front : List ℕ) (to c : StreamProgress) (d : Due) (bytes : List ℕ)
+    → RestOfStart front to (record c { due = d }) bytes → RestOfStart front to c bytes
 start_at front to c d bytes r = record { id = r.id; tail = r.tail; has_bytes = r.has_bytes; has_id = r.has_id; rest = r.rest }
 
+-- what is left from COMMANDs on doesn't depend on the item that was due
 pub commands_at : (to c : StreamProgress) (d : Due) (bytes : List ℕ) → RestOfCommands to (record c { due = d }) bytes → RestOfCommands to c bytes
 commands_at to c d bytes r = record {
   commands = r.commands;
@@ -134,14 +148,16 @@ commands_at to c d bytes r = record {
 }
 
 -- a COMMAND in front of others
-pub command_back : (to c : StreamProgress) (x : Command) (tail bytes : List ℕ) → is_machine c.frame ≡ true → IsCommand x → (is_addressed c.form && is_advise x) ≡ false → bytes ≡ command_bytes x ++ tail
+pub command_back : (to c : StreamProgress) (x : Command) (tail bytes : List ℕ) → is_machine c.frame ≡ true → IsCommand x
+    → (is_addressed c.form && is_advise x) ≡ false → bytes ≡ command_bytes x ++ tail
     → RestOfCommands to (record c { form = cond (is_advise x) Sized c.form }) tail → RestOfCommands to c (command_type ∷ bytes)
 command_back to c x tail bytes machine is fits e q =
     let others : Bool = list_any is_advise q.commands in
     record {
       commands = x ∷ q.commands;
       tail = q.tail;
-      has_bytes = ap (λ (y : List ℕ). command_type ∷ y) (e ∙ ap (λ (y : List ℕ). command_bytes x ++ y) q.has_bytes) ∙ sym (append_assoc (command x) (flat_map command q.commands) q.tail);
+      has_bytes = ap (λ (y : List ℕ). command_type ∷ y) (e ∙ ap (λ (y : List ℕ). command_bytes x ++ y) q.has_bytes)
+          ∙ sym (append_assoc (command x) (flat_map command q.commands) q.tail);
       are_commands = (is, q.are_commands);
       in_frame = λ ram. absurd (let clash : true ≡ false = sym machine ∙ ram in cc);
       is_one_form = λ addressed.
@@ -156,6 +172,7 @@ command_back to c x tail bytes machine is fits e q =
 pub no_subsections_back : (to c : StreamProgress) (bytes : List ℕ) → RestOfCommands to c bytes → RestOfConfigured to c bytes
 no_subsections_back to c bytes r = record { subsections = []; tail = bytes; has_bytes = refl; are_bodies = tt; in_frame = λ ram. refl; rest = r }
 
+-- what is left of a configuration doesn't depend on the item that was due
 pub configured_at : (to c : StreamProgress) (d : Due) (bytes : List ℕ) → RestOfConfigured to (record c { due = d }) bytes → RestOfConfigured to c bytes
 configured_at to c d bytes r = record {
   subsections = r.subsections;
@@ -183,8 +200,15 @@ pub record RestOfSubsection (to c : StreamProgress) (bytes : List ℕ) : Type 0 
   pub is_body : IsSubsectionBody c.page_size held
   pub rest : RestOfConfigured to (record c { form = cond (names_shared held) Addressed c.form }) tail
 
+-- what is left of a subsection doesn't depend on the item that was due
 pub subsection_at : (to c : StreamProgress) (d : Due) (bytes : List ℕ) → RestOfSubsection to (record c { due = d }) bytes → RestOfSubsection to c bytes
-subsection_at to c d bytes r = record { held = r.held; tail = r.tail; has_bytes = r.has_bytes; is_body = r.is_body; rest = configured_at to (record c { form = cond (names_shared r.held) Addressed c.form }) d r.tail r.rest }
+subsection_at to c d bytes r = record {
+  held = r.held;
+  tail = r.tail;
+  has_bytes = r.has_bytes;
+  is_body = r.is_body;
+  rest = configured_at to (record c { form = cond (names_shared r.held) Addressed c.form }) d r.tail r.rest;
+}
 
 -- the names of this many capabilities
 pub record RestOfNames (to c : StreamProgress) (n : ℕ) (bytes : List ℕ) : Type 0 where
@@ -196,7 +220,8 @@ pub record RestOfNames (to c : StreamProgress) (n : ℕ) (bytes : List ℕ) : Ty
   pub rest : RestOfConfigured to (record c { form = cond (ignore_shared_in names) Addressed c.form }) tail
 
 -- a subsection in front of others
-pub subsection_back : (to c : StreamProgress) (bytes : List ℕ) → is_machine c.frame ≡ true → RestOfSubsection to c bytes → RestOfConfigured to c (subsection_type ∷ bytes)
+pub subsection_back : (to c : StreamProgress) (bytes : List ℕ) → is_machine c.frame ≡ true → RestOfSubsection to c bytes
+    → RestOfConfigured to c (subsection_type ∷ bytes)
 subsection_back to c bytes machine r =
     let q = r.rest in
     let h = r.held in
@@ -207,14 +232,16 @@ subsection_back to c bytes machine r =
           ∙ regroup_subsection (subsection_head (kind_of h)) (body_bytes h) (flat_map subsection q.subsections) q.tail subsection_type;
       are_bodies = (r.is_body, q.are_bodies);
       in_frame = λ ram. absurd (let clash : true ≡ false = sym machine ∙ ram in cc);
-      rest = subst (λ (form : EntryForm). RestOfCommands to (record c { form = form }) q.tail) (twice (names_shared h) (list_any names_shared q.subsections) Addressed c.form) q.rest;
+      rest = subst (λ (form : EntryForm). RestOfCommands to (record c { form = form }) q.tail)
+          (twice (names_shared h) (list_any names_shared q.subsections) Addressed c.form) q.rest;
     }
   where
     regroup_subsection : (head held others tail : List ℕ) (kind : ℕ) → kind ∷ ((head ++ held) ++ (others ++ tail)) ≡ ((kind ∷ (head ++ held)) ++ others) ++ tail
     regroup_subsection head held others tail kind = simp append_assoc
 
 -- a configuration's name, in front of START
-pub name_back : (to c : StreamProgress) (len : ℕ) (item bytes : List ℕ) → length item ≡ len → RestOfConfigured to (record c { due = TypeByte before.Configuration }) bytes → RestOfConfigName to c len (item ++ bytes)
+pub name_back : (to c : StreamProgress) (len : ℕ) (item bytes : List ℕ) → length item ≡ len
+    → RestOfConfigured to (record c { due = TypeByte before.Configuration }) bytes → RestOfConfigName to c len (item ++ bytes)
 name_back to c len item bytes whole r = record { name = item; tail = bytes; has_bytes = refl; has_length = whole; rest = r }
 
 -- the length of a configuration's name, in front of the name
@@ -225,17 +252,20 @@ length_back to c item bytes len all free r =
     record {
       name = r.name;
       tail = r.tail;
-      has_bytes = ap (λ (x : List ℕ). x ++ bytes) (sym (be32_found item len all) ∙ ap (to_be_bytes w32) (sym r.has_length)) ∙ ap (λ (x : List ℕ). be32 (length r.name) ++ x) r.has_bytes;
+      has_bytes = ap (λ (x : List ℕ). x ++ bytes) (sym (be32_found item len all) ∙ ap (to_be_bytes w32) (sym r.has_length))
+          ∙ ap (λ (x : List ℕ). be32 (length r.name) ++ x) r.has_bytes;
       has_length = omega (arith, r.has_length, ltb-false _ _ t.0);
       rest = r.rest;
     }
 
 -- a name of no bytes has no item
-pub no_name_back : (to c : StreamProgress) (len : ℕ) (bytes : List ℕ) → len ≡ 0 → RestOfConfigured to (record c { due = TypeByte before.Configuration }) bytes → RestOfConfigName to c len bytes
+pub no_name_back : (to c : StreamProgress) (len : ℕ) (bytes : List ℕ) → len ≡ 0
+    → RestOfConfigured to (record c { due = TypeByte before.Configuration }) bytes → RestOfConfigName to c len bytes
 no_name_back to c len bytes none r = record { name = []; tail = bytes; has_bytes = refl; has_length = sym none; rest = r }
 
 -- the type byte of a configuration, in front of its length
-pub configuration_back : (to c : StreamProgress) (bytes : List ℕ) → RestOfConfigLength to (record c { due = ConfigLength }) bytes → RestOfOpening to c (configuration_type ∷ bytes)
+pub configuration_back : (to c : StreamProgress) (bytes : List ℕ) → RestOfConfigLength to (record c { due = ConfigLength }) bytes
+    → RestOfOpening to c (configuration_type ∷ bytes)
 configuration_back to c bytes r =
     let q = r.rest in
     record {
@@ -270,6 +300,7 @@ header_back to c item bytes len all free r =
     let two : be32_at 4 item ≡ version = eqb-true _ _ (not-false third t2.0) in
     record {
       tail = bytes;
-      has_bytes = ap (λ (x : List ℕ). x ++ bytes) (header_found item len all ∙ ap (λ (x : ℕ). be32 x ++ be32 (be32_at 4 item)) one ∙ ap (λ (x : ℕ). be32 magic ++ be32 x) two);
+      has_bytes = ap (λ (x : List ℕ). x ++ bytes)
+          (header_found item len all ∙ ap (λ (x : ℕ). be32 x ++ be32 (be32_at 4 item)) one ∙ ap (λ (x : ℕ). be32 magic ++ be32 x) two);
       rest = r;
     }

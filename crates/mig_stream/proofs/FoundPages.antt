@@ -20,7 +20,8 @@ use Rattle.mig_mem.specs.First.{first_of}
 use Rattle.mig_stream.specs.Items.{id_in, is_single, faults, with_record}
 use Rattle.mig_stream.specs.Text.{content_bytes, Record, PageOf, record_bytes, Follow, HasNoFlush, footer, body}
 use Rattle.mig_stream.proofs.After.{after_body}
-use Rattle.mig_stream.proofs.FoundFields.{passed, counted_found, named_found}
+use Rattle.mig_stream.proofs.FoundFields.{counted_found, named_found}
+use Rattle.mig_stream.proofs.Steps.{passed}
 
 -- Records, EOS and footer are left, and what stands after the footer is what `Behind` says.
 pub record RestOfBody (Behind : StreamProgress → List ℕ → Type 0) (c : StreamProgress) (bytes : List ℕ) : Type 0 where
@@ -51,7 +52,8 @@ pub record RestOfName (Behind : StreamProgress → List ℕ → Type 0) (c : Str
 -- ---- contents
 
 -- a zero record, in front of the section's rest
-pub zero_back : (Behind : StreamProgress → List ℕ → Type 0) (c : StreamProgress) (place : Place) (item bytes : List ℕ) → length item ≡ 1 → first_of (faults c (Content Zero place) item) ≡ None
+pub zero_back : (Behind : StreamProgress → List ℕ → Type 0) (c : StreamProgress) (place : Place) (item bytes : List ℕ)
+    → length item ≡ 1 → first_of (faults c (Content Zero place) item) ≡ None
     → RestOfBody Behind (with_record c place None) bytes → RestOfPage Behind c Zero place (item ++ bytes)
 zero_back Behind c place [] bytes len free r = absurd cc
 zero_back Behind c place (x ∷ []) bytes len free r =
@@ -67,7 +69,8 @@ normal_back Behind c place item bytes len r = record { content = Some item; tail
 -- ---- ids
 
 -- the id of a block, in front of a content
-pub name_back : (Behind : StreamProgress → List ℕ → Type 0) (c : StreamProgress) (f : Filling) (page : ℕ) (item bytes : List ℕ) → length item ≡ 1 + get_or item 0 0
+pub name_back : (Behind : StreamProgress → List ℕ → Type 0) (c : StreamProgress) (f : Filling) (page : ℕ) (item bytes : List ℕ)
+    → length item ≡ 1 + get_or item 0 0
     → (number : ℕ) → block_of c.blocks (id_in item) ≡ Some number → ltb page (block c.blocks number).pages ≡ true
     → RestOfPage Behind (record c { due = Content f (place_at number page); named = Some number }) f (place_at number page) bytes
     → RestOfName Behind c f page (item ++ bytes)
@@ -88,8 +91,10 @@ regroup : (h n c r e m : List ℕ) → h ++ (n ++ (c ++ ((r ++ e) ++ m))) ≡ ((
 regroup h n c r e m = simp append_assoc
 
 -- the bytes of a page record that names its block, and what is left
-named_bytes : (c : StreamProgress) (page : ℕ) (item bytes : List ℕ) (f : Filling) (number : ℕ) (content : Option (List ℕ)) (tail last : List ℕ) (rs : List Record) (more : List ℕ)
-    → item ≡ be64 (page * c.page_size + flags_of (Named f)) → bytes ≡ counted (block c.blocks number).id ++ tail → filling_of content ≡ f → tail ≡ content_bytes content ++ last
+named_bytes : (c : StreamProgress) (page : ℕ) (item bytes : List ℕ) (f : Filling) (number : ℕ) (content : Option (List ℕ))
+    (tail last : List ℕ) (rs : List Record) (more : List ℕ)
+    → item ≡ be64 (page * c.page_size + flags_of (Named f)) → bytes ≡ counted (block c.blocks number).id ++ tail
+    → filling_of content ≡ f → tail ≡ content_bytes content ++ last
     → last ≡ body (table_of c) c.section_id rs ++ more
     → item ++ bytes ≡ body (table_of c) c.section_id (PageOf false (record { place = place_at number page; content = content }) ∷ rs) ++ more
 named_bytes c page item bytes f number content tail last rs more head b fill t l =
@@ -98,11 +103,13 @@ named_bytes c page item bytes f number content tail last rs more head b fill t l
     let one : bytes ≡ counted (block c.blocks number).id ++ (content_bytes content ++ (body (table_of c) c.section_id rs ++ more)) =
     b ∙ ap (λ (x : List ℕ). counted (block c.blocks number).id ++ x) (t ∙ ap (λ (x : List ℕ). content_bytes content ++ x) l) in
     ap (λ (x : List ℕ). x ++ bytes) h ∙ ap (λ (x : List ℕ). be64 (page * c.page_size + flags_of (page_kind false content)) ++ x) one
-    ∙ regroup (be64 (page * c.page_size + flags_of (page_kind false content))) (counted (block c.blocks number).id) (content_bytes content) (flat_map (record_bytes (table_of c)) rs)
+    ∙ regroup (be64 (page * c.page_size + flags_of (page_kind false content))) (counted (block c.blocks number).id)
+    (content_bytes content) (flat_map (record_bytes (table_of c)) rs)
     (be64 (flags_of EndOfSection) ++ footer c.section_id) more
 
 -- a page record that names its block, in front of what is left
-pub named_back : (Behind : StreamProgress → List ℕ → Type 0) (c : StreamProgress) (page : ℕ) (item bytes : List ℕ) (f : Filling) → item ≡ be64 (page * c.page_size + flags_of (Named f))
+pub named_back : (Behind : StreamProgress → List ℕ → Type 0) (c : StreamProgress) (page : ℕ) (item bytes : List ℕ) (f : Filling)
+    → item ≡ be64 (page * c.page_size + flags_of (Named f))
     → RestOfName Behind (record c { due = BlockName f page }) f page bytes → RestOfBody Behind c (item ++ bytes)
 named_back Behind c page item bytes f head r =
     let q = r.rest in
@@ -122,7 +129,8 @@ pub known_block : (blocks : List Block) (b n : ℕ) → n < (block blocks b).pag
 known_block blocks b n lt =
     elim (cases_lt b (length blocks)) [
       | inl h ↦ h
-      | inr h ↦ let none : (block blocks b).pages ≡ 0 = ap (λ (x : Block). x.pages) (get_or_past blocks b (record { id = []; pages = 0 }) h) in absurd (omega arith)
+      | inr h ↦ let none : (block blocks b).pages ≡ 0 =
+          ap (λ (x : Block). x.pages) (get_or_past blocks b (record { id = []; pages = 0 }) h) in absurd (omega arith)
     ]
 
 -- a page record of the block that was named last, in front of what is left
@@ -135,13 +143,22 @@ continued_back Behind c number page item bytes f head lt q =
     let here : PageRecord = record { place = place_at number page; content = q.content } in
     let flags = flags_of (page_kind true q.content) in
     let h : item ≡ be64 (page * c.page_size + flags) = head ∙ ap (λ (x : Filling). be64 (page * c.page_size + flags_of (Continued x))) (sym q.has_filling) in
-    let one : bytes ≡ content_bytes q.content ++ (body (table_of c) c.section_id s.records ++ s.more) = q.has_bytes ∙ ap (λ (x : List ℕ). content_bytes q.content ++ x) s.has_bytes in
+    let one : bytes ≡ content_bytes q.content ++ (body (table_of c) c.section_id s.records ++ s.more) = q.has_bytes
+    ∙ ap (λ (x : List ℕ). content_bytes q.content ++ x) s.has_bytes in
     record {
       records = PageOf true here ∷ s.records;
       more = s.more;
       has_bytes = ap (λ (x : List ℕ). x ++ bytes) h ∙ ap (λ (x : List ℕ). be64 (page * c.page_size + flags) ++ x) one
-          ∙ regroup (be64 (page * c.page_size + flags)) [] (content_bytes q.content) (flat_map (record_bytes (table_of c)) s.records) (be64 (flags_of EndOfSection) ++ footer c.section_id) s.more;
-      follow = (record { has_place = record { has_block = known_block c.blocks number page lt; has_page = lt }; has_size = q.has_size; is_carried = λ _. refl }, s.follow);
+          ∙ regroup (be64 (page * c.page_size + flags)) [] (content_bytes q.content)
+          (flat_map (record_bytes (table_of c)) s.records) (be64 (flags_of EndOfSection) ++ footer c.section_id) s.more;
+      follow = (
+        record {
+          has_place = record { has_block = known_block c.blocks number page lt; has_page = lt };
+          has_size = q.has_size;
+          is_carried = λ _. refl;
+        },
+        s.follow,
+      );
       flushes = s.flushes;
       others = s.others;
     }

@@ -30,12 +30,14 @@ bytes_of_slice item at n le all i =
 -- a number is spelled at its place
 be32_part : (item : List ℕ) (at : ℕ) → at + 4 ≤ length item → IsBytes item → slice_range item at (at + 4) ≡ be32 (be32_at at item)
 unfolding be32_at
-be32_part item at le all = sym (be_bytes_4 (slice_range item at (at + 4)) (from_be_bytes w32 (slice_range item at (at + 4))) (length_slice item at 4 le) (bytes_of_slice item at 4 le all) refl)
+be32_part item at le all = sym (be_bytes_4 (slice_range item at (at + 4)) (from_be_bytes w32 (slice_range item at (at + 4)))
+    (length_slice item at 4 le) (bytes_of_slice item at 4 le all) refl)
 
 -- the same of eight bytes
 be64_part : (item : List ℕ) (at : ℕ) → at + 8 ≤ length item → IsBytes item → slice_range item at (at + 8) ≡ be64 (be64_at at item)
 unfolding be64_at
-be64_part item at le all = sym (be_bytes_8 (slice_range item at (at + 8)) (from_be_bytes w64 (slice_range item at (at + 8))) (length_slice item at 8 le) (bytes_of_slice item at 8 le all) refl)
+be64_part item at le all = sym (be_bytes_8 (slice_range item at (at + 8)) (from_be_bytes w64 (slice_range item at (at + 8)))
+    (length_slice item at 8 le) (bytes_of_slice item at 8 le all) refl)
 
 -- a number of four bytes is below 2^32
 small_number : (bytes : List ℕ) → IsBytes bytes → from_be_bytes w32 bytes < 2 ^ 32
@@ -50,6 +52,7 @@ be32_small item le all = small_number (slice_range item 0 4) (bytes_of_slice ite
 small_rest : (bytes : List ℕ) → IsBytes bytes → get_or bytes 0 0 ≡ 0 → from_be_bytes w64 bytes < 2 ^ 56
 small_rest bytes all none = omega (arith, none, all 1, all 2, all 3, all 4, all 5, all 6, all 7)
 
+-- eight bytes of which the first is 0 are a number below 2^56
 pub be64_small : (item : List ℕ) → length item ≡ 8 → IsBytes item → get_or item 0 0 ≡ 0 → be64_at 0 item < 2 ^ 56
 unfolding be64_at
 be64_small item len all none =
@@ -67,11 +70,13 @@ be64_next item at le all = drop_split item at (at + 8) (omega arith) ∙ ap (λ 
 
 -- a number that ends its item
 be32_last : (item : List ℕ) (at : ℕ) → at + 4 ≡ length item → IsBytes item → drop at item ≡ be32 (be32_at at item)
-be32_last item at end all = be32_next item at (omega arith) all ∙ ap (λ (x : List ℕ). be32 (be32_at at item) ++ x) (drop_all (at + 4) item (omega arith)) ∙ append-nil (be32 (be32_at at item))
+be32_last item at end all = be32_next item at (omega arith) all
+    ∙ ap (λ (x : List ℕ). be32 (be32_at at item) ++ x) (drop_all (at + 4) item (omega arith)) ∙ append-nil (be32 (be32_at at item))
 
 -- the same of eight bytes
 be64_last : (item : List ℕ) (at : ℕ) → at + 8 ≡ length item → IsBytes item → drop at item ≡ be64 (be64_at at item)
-be64_last item at end all = be64_next item at (omega arith) all ∙ ap (λ (x : List ℕ). be64 (be64_at at item) ++ x) (drop_all (at + 8) item (omega arith)) ∙ append-nil (be64 (be64_at at item))
+be64_last item at end all = be64_next item at (omega arith) all
+    ∙ ap (λ (x : List ℕ). be64 (be64_at at item) ++ x) (drop_all (at + 8) item (omega arith)) ∙ append-nil (be64 (be64_at at item))
 
 -- ---- complete items
 
@@ -106,7 +111,8 @@ head_named item len all =
     first ∙ ap (λ (x : List ℕ). n ∷ x) (id ∙ ap (λ (x : List ℕ). id_in item ++ x) number) ∙ ap (λ (x : ℕ). x ∷ (id_in item ++ be32 (be32_at (1 + n) item))) long
 
 -- START's head after its type byte
-pub start_found : (item : List ℕ) (n : ℕ) → get_or item 4 0 ≡ n → length item ≡ 13 + n → IsBytes item → slice_range item 5 (5 + n) ≡ ram_name → be32_at (5 + n) item ≡ ram_instance
+pub start_found : (item : List ℕ) (n : ℕ) → get_or item 4 0 ≡ n → length item ≡ 13 + n → IsBytes item
+    → slice_range item 5 (5 + n) ≡ ram_name → be32_at (5 + n) item ≡ ram_instance
     → be32_at (9 + n) item ≡ ram_version → item ≡ be32 (be32_at 0 item) ++ counted ram_name ++ be32 ram_instance ++ be32 ram_version
 start_found item n is len all name instance version =
     let three : n ≡ 3 = sym (length_slice item 5 n (omega arith)) ∙ ap length name in
@@ -114,6 +120,8 @@ start_found item n is len all name instance version =
     let count : drop 4 item ≡ 3 ∷ drop 5 item = drop_more item 4 0 (omega arith) ∙ ap (λ (x : ℕ). x ∷ drop 5 item) (is ∙ three) in
     let named : drop 5 item ≡ ram_name ++ drop (5 + n) item = drop_split item 5 (5 + n) (omega arith) ∙ ap (λ (x : List ℕ). x ++ drop (5 + n) item) name in
     let one : drop (5 + n) item ≡ be32 ram_instance ++ drop (9 + n) item =
-    be32_next item (5 + n) (omega arith) all ∙ ap (λ (x : ℕ). be32 x ++ drop (5 + n + 4) item) instance ∙ ap (λ (x : ℕ). be32 ram_instance ++ drop x item) (omega arith) in
+    be32_next item (5 + n) (omega arith) all ∙ ap (λ (x : ℕ). be32 x ++ drop (5 + n + 4) item) instance
+    ∙ ap (λ (x : ℕ). be32 ram_instance ++ drop x item) (omega arith) in
     let two : drop (9 + n) item ≡ be32 ram_version = be32_last item (9 + n) (omega arith) all ∙ ap (to_be_bytes w32) version in
-    id ∙ ap (λ (x : List ℕ). be32 (be32_at 0 item) ++ x) (count ∙ ap (λ (x : List ℕ). 3 ∷ x) (named ∙ ap (λ (x : List ℕ). ram_name ++ x) (one ∙ ap (λ (x : List ℕ). be32 ram_instance ++ x) two)))
+    id ∙ ap (λ (x : List ℕ). be32 (be32_at 0 item) ++ x)
+    (count ∙ ap (λ (x : List ℕ). 3 ∷ x) (named ∙ ap (λ (x : List ℕ). ram_name ++ x) (one ∙ ap (λ (x : List ℕ). be32 ram_instance ++ x) two)))

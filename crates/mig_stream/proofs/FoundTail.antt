@@ -43,12 +43,14 @@ pub record RestOfEnd (to c : StreamProgress) (bytes : List ℕ) : Type 0 where
 pub record RestOfParts (to c : StreamProgress) (bytes : List ℕ) : Type 0 where
   pub others : List PartOrCommand
   pub last : List Record
-  pub has_bytes : bytes ≡ flat_map (part_or_command (table_of c) c.section_id) others ++ (section (table_of c) End c.section_id last ++ ending (is_machine c.frame))
+  pub has_bytes : bytes ≡ flat_map (part_or_command (table_of c) c.section_id) others
+      ++ (section (table_of c) End c.section_id last ++ ending (is_machine c.frame))
   pub are_others : AllByRecursion IsPartOrCommand others
   pub in_frame : is_machine c.frame ≡ false → HasNoCommand others
   pub follow : Follow (table_of c) c.named (all_records (parts_of others) ++ last)
   pub flushes : FlushesFit (is_single c.mode) (parts_of others ++ last ∷ [])
-  pub no_tail : HasNoTail (mode_behind c.mode false c.records (parts_of others ++ last ∷ [])) (records_behind c.mode false c.records (parts_of others ++ last ∷ []))
+  pub no_tail : HasNoTail (mode_behind c.mode false c.records (parts_of others ++ last ∷ []))
+      (records_behind c.mode false c.records (parts_of others ++ last ∷ []))
   pub has_rounds : to.rounds ≡ rounds_behind c.mode false c.records c.rounds (parts_of others ++ last ∷ [])
   pub has_table : whole_table to ≡ whole_table c
 
@@ -65,13 +67,15 @@ Behind to c bytes = RestBehind to c.section c bytes
 -- ---- records that follow, section after section
 
 -- records may follow records where their ends fit
-pub Follow-append : (table : RamTable) (before : Option ℕ) (xs ys : List Record) → Follow table before xs → Follow table (named_after before xs) ys → Follow table before (xs ++ ys)
+pub Follow-append : (table : RamTable) (before : Option ℕ) (xs ys : List Record) → Follow table before xs
+    → Follow table (named_after before xs) ys → Follow table before (xs ++ ys)
 Follow-append table before [] ys f g = g
 Follow-append table before (PageOf continued r ∷ xs) ys f g = (f.0, Follow-append table (Some r.place.block) xs ys f.1 g)
 Follow-append table before (FlushMark ∷ xs) ys f g = Follow-append table before xs ys f g
 
 -- a section in front of others
-pub FlushesFit-cons : (single : Bool) (records : List Record) (sections : List (List Record)) → (single ≡ false) ⊎ HasNoFlush records → FlushesFit single sections → FlushesFit single (records ∷ sections)
+pub FlushesFit-cons : (single : Bool) (records : List Record) (sections : List (List Record))
+    → (single ≡ false) ⊎ HasNoFlush records → FlushesFit single sections → FlushesFit single (records ∷ sections)
 FlushesFit-cons single records sections (inl main) others = inl main
 FlushesFit-cons single records sections (inr none) (inl main) = inl main
 FlushesFit-cons single records sections (inr none) (inr others) = inr (none, others)
@@ -83,7 +87,8 @@ regroup_part : (head items others end : List ℕ) (kind : ℕ) → kind ∷ (hea
 regroup_part head items others end kind = simp append_assoc
 
 -- a PART in front of the PARTs and END after it
-pub part_back : (to c : StreamProgress) (bytes : List ℕ) → RestOfSection (Behind to) (record c { due = SectionHead; section = Part }) bytes → RestOfParts to c (section_type Part ∷ bytes)
+pub part_back : (to c : StreamProgress) (bytes : List ℕ)
+    → RestOfSection (Behind to) (record c { due = SectionHead; section = Part }) bytes → RestOfParts to c (section_type Part ∷ bytes)
 part_back to c bytes r =
     let s = r.rest in
     let q = s.others in
@@ -98,7 +103,8 @@ part_back to c bytes r =
       has_bytes = ap (λ (x : List ℕ). section_type Part ∷ x) spelled ∙ regroup_part (be32 c.section_id) items parts end (section_type Part);
       are_others = (tt, q.are_others);
       in_frame = q.in_frame;
-      follow = subst (Follow (table_of c) c.named) (sym (append_assoc s.records (all_records (parts_of q.others)) q.last)) (Follow-append (table_of c) c.named s.records (all_records (parts_of q.others) ++ q.last) s.follow q.follow);
+      follow = subst (Follow (table_of c) c.named) (sym (append_assoc s.records (all_records (parts_of q.others)) q.last))
+          (Follow-append (table_of c) c.named s.records (all_records (parts_of q.others) ++ q.last) s.follow q.follow);
       flushes = FlushesFit-cons (is_single c.mode) s.records (parts_of q.others ++ q.last ∷ []) s.flushes
           (subst (λ (single : Bool). FlushesFit single (parts_of q.others ++ q.last ∷ [])) (single_kept c.mode false c.records s.records) q.flushes);
       no_tail = q.no_tail;
@@ -111,7 +117,8 @@ regroup_end : (head items end : List ℕ) (kind : ℕ) → kind ∷ (head ++ (it
 regroup_end head items end kind = simp append_assoc
 
 -- END in front of the end byte
-pub last_back : (to c : StreamProgress) (bytes : List ℕ) → RestOfSection (Behind to) (record c { due = SectionHead; section = End }) bytes → RestOfParts to c (section_type End ∷ bytes)
+pub last_back : (to c : StreamProgress) (bytes : List ℕ)
+    → RestOfSection (Behind to) (record c { due = SectionHead; section = End }) bytes → RestOfParts to c (section_type End ∷ bytes)
 last_back to c bytes r =
     let s = r.rest in
     let q = s.others in
@@ -148,11 +155,14 @@ parts_at to c d bytes r = record {
 }
 
 -- a COMMAND in front of the PARTs and END after it
-pub command_back : (to c : StreamProgress) (x : Command) (tail bytes : List ℕ) → is_machine c.frame ≡ true → IsCommand x → bytes ≡ command_bytes x ++ tail → RestOfParts to c tail → RestOfParts to c (command_type ∷ bytes)
+pub command_back : (to c : StreamProgress) (x : Command) (tail bytes : List ℕ) → is_machine c.frame ≡ true → IsCommand x
+    → bytes ≡ command_bytes x ++ tail → RestOfParts to c tail → RestOfParts to c (command_type ∷ bytes)
 command_back to c x tail bytes machine is e q = record {
   others = CommandOf x ∷ q.others;
   last = q.last;
-  has_bytes = ap (λ (y : List ℕ). command_type ∷ y) (e ∙ ap (λ (y : List ℕ). command_bytes x ++ y) q.has_bytes) ∙ sym (append_assoc (command x) (flat_map (part_or_command (table_of c) c.section_id) q.others) (section (table_of c) End c.section_id q.last ++ ending (is_machine c.frame)));
+  has_bytes = ap (λ (y : List ℕ). command_type ∷ y) (e ∙ ap (λ (y : List ℕ). command_bytes x ++ y) q.has_bytes)
+      ∙ sym (append_assoc (command x) (flat_map (part_or_command (table_of c) c.section_id) q.others)
+      (section (table_of c) End c.section_id q.last ++ ending (is_machine c.frame)));
   are_others = (is, q.are_others);
   in_frame = λ ram. absurd (let clash : true ≡ false = sym machine ∙ ram in cc);
   follow = q.follow;
@@ -176,7 +186,8 @@ no_tail_found MainBySection records e = inr (no_records_left records e)
 no_tail_found MainAsShown records e = inr (no_records_left records e)
 
 -- and so the last footer's second test
-pub no_tail_closed : (mode : Mode) (records : List PageRecord) → (not (is_single mode) && not (eqb (length records) 0)) ≡ false → HasNoTail mode (open_records mode records)
+pub no_tail_closed : (mode : Mode) (records : List PageRecord) → (not (is_single mode) && not (eqb (length records) 0)) ≡ false
+    → HasNoTail mode (open_records mode records)
 no_tail_closed Single records e = inl refl
 no_tail_closed Main records e = no_tail_found Main records e
 no_tail_closed MainBySection records e = no_tail_found MainBySection records e

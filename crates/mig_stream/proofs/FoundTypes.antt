@@ -12,20 +12,22 @@ use Rattle.mig_stream.specs.declared.fault.StreamFault.TheVariants as fault
 use Rattle.mig_stream.specs.Format.{end_byte, section_type, command_type, subsection_type, configuration_type}
 use Rattle.mig_stream.specs.Progress.{StreamProgress}
 use Rattle.mig_mem.specs.First.{first_of}
-use Rattle.mig_stream.specs.Items.{is_single, is_allowed, is_machine, may_pass, is_passed, behind_command, passed_by, faults, after_type, after_type_byte}
+use Rattle.mig_stream.specs.Items.{is_single, is_allowed, is_machine, may_pass, is_passed, after_command, passed_by, faults, after_type, after_type_byte}
 use Rattle.mig_stream.specs.Machine.{is_advise}
-use Rattle.mig_stream.proofs.FoundFields.{passed}
 use Rattle.mig_stream.proofs.FoundTail.{ending, part_back, last_back, parts_at, command_back, no_tail_found}
 use Rattle.mig_stream.proofs.FoundOpening.{RestOfCommands, start_type_back, no_commands_back, commands_at, no_subsections_back, subsection_at, subsection_back, configuration_back, no_configuration_back}
 use Rattle.mig_stream.proofs.FoundOpening as opening
 use Rattle.mig_stream.proofs.FoundRest.{RestOfCommand, RestAt, RestAtType, RestFrom}
+use Rattle.mig_stream.proofs.Steps.{passed}
 
 -- the rest after a byte is the rest after the byte that it is
-byte_is : (to c : StreamProgress) (byte known : ℕ) (bytes : List ℕ) → byte ≡ known → RestFrom to (after_type c byte) bytes → RestFrom to (after_type c known) bytes
+byte_is : (to c : StreamProgress) (byte known : ℕ) (bytes : List ℕ) → byte ≡ known → RestFrom to (after_type c byte) bytes
+    → RestFrom to (after_type c known) bytes
 byte_is to c byte known bytes e r = subst (λ (x : ℕ). RestFrom to (after_type c x) bytes) e r
 
 -- a byte in front of a rest is the byte that it is
-byte_front : (to c : StreamProgress) (b : Before) (byte known : ℕ) (bytes : List ℕ) → byte ≡ known → RestAtType to c b (known ∷ bytes) → RestAtType to c b (byte ∷ bytes)
+byte_front : (to c : StreamProgress) (b : Before) (byte known : ℕ) (bytes : List ℕ) → byte ≡ known
+    → RestAtType to c b (known ∷ bytes) → RestAtType to c b (byte ∷ bytes)
 byte_front to c b byte known bytes e r = subst (λ (x : ℕ). RestAtType to c b (x ∷ bytes)) (sym e) r
 
 -- the second test of an end byte
@@ -34,7 +36,8 @@ tail_test : (c : StreamProgress) (byte : ℕ) → byte ≡ end_byte → (eqb byt
 tail_test c byte e free = ap (λ (x : ℕ). eqb x end_byte && not (is_single c.mode) && not (eqb (length c.records) 0)) (sym e) ∙ free
 
 -- a byte that is allowed, in front of what is left after it
-byte_back : (to c : StreamProgress) (b : Before) (byte : ℕ) (bytes : List ℕ) → is_allowed b byte ≡ true → (eqb byte end_byte && not (is_single c.mode) && not (eqb (length c.records) 0)) ≡ false
+byte_back : (to c : StreamProgress) (b : Before) (byte : ℕ) (bytes : List ℕ) → is_allowed b byte ≡ true
+    → (eqb byte end_byte && not (is_single c.mode) && not (eqb (length c.records) 0)) ≡ false
     → RestFrom to (after_type c byte) bytes → RestAtType to c b (byte ∷ bytes)
 byte_back to c before.FileHeader byte bytes ok free r =
     elim (or_cases (eqb byte configuration_type) (eqb byte (section_type section.Start)) ok) [
@@ -46,17 +49,20 @@ byte_back to c before.FileHeader byte bytes ok free r =
           let e : byte ≡ section_type section.Start = eqb-true _ _ h in
           let at = byte_is to c byte (section_type section.Start) bytes e r in
           byte_front to c before.FileHeader byte (section_type section.Start) bytes e
-          (λ none. no_configuration_back to c (section_type section.Start ∷ bytes) (no_commands_back to c (section_type section.Start ∷ bytes) (start_type_back to c bytes (at none refl))))
+          (λ none. no_configuration_back to c (section_type section.Start ∷ bytes)
+          (no_commands_back to c (section_type section.Start ∷ bytes) (start_type_back to c bytes (at none refl))))
     ]
 byte_back to c before.Configuration byte bytes ok free r =
     let e : byte ≡ section_type section.Start = eqb-true _ _ ok in
     let at = byte_is to c byte (section_type section.Start) bytes e r in
     byte_front to c before.Configuration byte (section_type section.Start) bytes e
-    (λ none. no_subsections_back to c (section_type section.Start ∷ bytes) (no_commands_back to c (section_type section.Start ∷ bytes) (start_type_back to c bytes (at none refl))))
+    (λ none. no_subsections_back to c (section_type section.Start ∷ bytes)
+    (no_commands_back to c (section_type section.Start ∷ bytes) (start_type_back to c bytes (at none refl))))
 byte_back to c before.Command byte bytes ok free r =
     let e : byte ≡ section_type section.Start = eqb-true _ _ ok in
     let at = byte_is to c byte (section_type section.Start) bytes e r in
-    byte_front to c before.Command byte (section_type section.Start) bytes e (λ none. no_commands_back to c (section_type section.Start ∷ bytes) (start_type_back to c bytes (at none refl)))
+    byte_front to c before.Command byte (section_type section.Start) bytes e
+    (λ none. no_commands_back to c (section_type section.Start ∷ bytes) (start_type_back to c bytes (at none refl)))
 byte_back to c before.Footer byte bytes ok free r =
     elim (or_cases (eqb byte (section_type section.Part)) (eqb byte (section_type section.End)) ok) [
       | inl h ↦
@@ -82,17 +88,21 @@ byte_back to c before.LastFooter byte bytes ok free r =
 -- ---- a byte that is passed over
 
 -- what follows a COMMAND before START
-early_rest : (to c : StreamProgress) (bytes : List ℕ) → (r : RestOfCommand to (record c { due = Passed (pass.Command before.Command) }) before.Command bytes) → c.left ≡ None
+early_rest : (to c : StreamProgress) (bytes : List ℕ)
+    → (r : RestOfCommand to (record c { due = Passed (pass.Command before.Command) }) before.Command bytes) → c.left ≡ None
     → RestOfCommands to (record c { form = cond (is_advise r.command_is) Sized c.form }) r.tail
 early_rest to c bytes r none = commands_at to (record c { form = cond (is_advise r.command_is) Sized c.form }) (TypeByte before.Command) r.tail (r.rest none)
 
 -- that of a COMMAND, in front of the COMMAND
-command_type_back : (to c : StreamProgress) (b : Before) (bytes : List ℕ) → may_pass b command_type ≡ true → is_machine c.frame ≡ true → RestOfCommand to (record c { due = Passed (pass.Command (behind_command b)) }) (behind_command b) bytes
+command_type_back : (to c : StreamProgress) (b : Before) (bytes : List ℕ) → may_pass b command_type ≡ true
+    → is_machine c.frame ≡ true → RestOfCommand to (record c { due = Passed (pass.Command (after_command b)) }) (after_command b) bytes
     → RestAtType to c b (command_type ∷ bytes)
 command_type_back to c before.FileHeader bytes may machine r =
-    λ none. no_configuration_back to c (command_type ∷ bytes) (opening.command_back to c r.command_is r.tail bytes machine r.is_command r.fits r.has_bytes (early_rest to c bytes r none))
+    λ none. no_configuration_back to c (command_type ∷ bytes)
+    (opening.command_back to c r.command_is r.tail bytes machine r.is_command r.fits r.has_bytes (early_rest to c bytes r none))
 command_type_back to c before.Configuration bytes may machine r =
-    λ none. no_subsections_back to c (command_type ∷ bytes) (opening.command_back to c r.command_is r.tail bytes machine r.is_command r.fits r.has_bytes (early_rest to c bytes r none))
+    λ none. no_subsections_back to c (command_type ∷ bytes)
+    (opening.command_back to c r.command_is r.tail bytes machine r.is_command r.fits r.has_bytes (early_rest to c bytes r none))
 command_type_back to c before.Command bytes may machine r =
     λ none. opening.command_back to c r.command_is r.tail bytes machine r.is_command r.fits r.has_bytes (early_rest to c bytes r none)
 command_type_back to c before.Footer bytes may machine r =
@@ -100,8 +110,9 @@ command_type_back to c before.Footer bytes may machine r =
 command_type_back to c before.LastFooter bytes may machine r = absurd cc
 
 -- a subsection's stands after the configuration alone
-passed_back : (to c : StreamProgress) (b : Before) (byte : ℕ) (bytes : List ℕ) (is_command : Bool) → eqb byte command_type ≡ is_command → may_pass b byte ≡ true → is_machine c.frame ≡ true
-    → RestFrom to (record c { due = Passed (cond is_command (pass.Command (behind_command b)) pass.SubsectionHead) }) bytes → RestAtType to c b (byte ∷ bytes)
+passed_back : (to c : StreamProgress) (b : Before) (byte : ℕ) (bytes : List ℕ) (is_command : Bool)
+    → eqb byte command_type ≡ is_command → may_pass b byte ≡ true → is_machine c.frame ≡ true
+    → RestFrom to (record c { due = Passed (cond is_command (pass.Command (after_command b)) pass.SubsectionHead) }) bytes → RestAtType to c b (byte ∷ bytes)
 passed_back to c b byte bytes true test may machine r =
     let e : byte ≡ command_type = eqb-true _ _ test in
     byte_front to c b byte command_type bytes e (command_type_back to c b bytes (subst (λ (x : ℕ). may_pass b x ≡ true) e may) machine r)
@@ -114,17 +125,20 @@ passed_back to c before.Configuration byte bytes false test may machine r =
       | inl h ↦ absurd (let clash : true ≡ false = sym h ∙ test in cc)
       | inr h ↦
           let e : byte ≡ subsection_type = eqb-true _ _ h in
-          byte_front to c before.Configuration byte subsection_type bytes e (λ none. subsection_back to c bytes machine (subsection_at to c (Passed pass.SubsectionHead) bytes (r none)))
+          byte_front to c before.Configuration byte subsection_type bytes e
+          (λ none. subsection_back to c bytes machine (subsection_at to c (Passed pass.SubsectionHead) bytes (r none)))
     ]
 
 -- a byte that is passed over, or allowed
-either_back : (to c : StreamProgress) (b : Before) (byte : ℕ) (bytes : List ℕ) (is : Bool) → is_passed c.frame b byte ≡ is → not (is_allowed b byte || is) ≡ false
+either_back : (to c : StreamProgress) (b : Before) (byte : ℕ) (bytes : List ℕ) (is : Bool) → is_passed c.frame b byte ≡ is
+    → not (is_allowed b byte || is) ≡ false
     → (eqb byte end_byte && not (is_single c.mode) && not (eqb (length c.records) 0)) ≡ false
     → RestFrom to (cond is (record c { due = Passed (passed_by b byte) }) (after_type c byte)) bytes → RestAtType to c b (byte ∷ bytes)
 either_back to c b byte bytes true own ok free r =
     let both = and_parts (may_pass b byte) (is_machine c.frame) own in
     passed_back to c b byte bytes (eqb byte command_type) refl both.0 both.1 r
-either_back to c b byte bytes false own ok free r = byte_back to c b byte bytes (allowed_alone (is_allowed b byte) (not-false (is_allowed b byte || false) ok)) free r
+either_back to c b byte bytes false own ok free r =
+    byte_back to c b byte bytes (allowed_alone (is_allowed b byte) (not-false (is_allowed b byte || false) ok)) free r
   where
     allowed_alone : (x : Bool) → (x || false) ≡ true → x ≡ true
     allowed_alone true ok = refl

@@ -1,11 +1,9 @@
 -- Items one after another.
-use Rattle.std.proofs.Common.{◌≡◌, ◌≢◌, ℕ, ◌+◌, ◌<◌, ◌≤◌, true, false, cond, eqb, List, [], ◌∷◌, ◌++◌, length, get_or, take, drop, None, Some, refl, sym, ap, subst, ◌∙◌, append_assoc, arith}
+use Rattle.std.proofs.Common.{◌≡◌, ◌≢◌, ℕ, ◌+◌, ◌<◌, ◌≤◌, true, false, cond, eqb, List, [], ◌∷◌, ◌++◌, length, get_or, take, drop, None, refl, sym, ap, subst, ◌∙◌, append_assoc, arith}
 use Rattle.std.specs.List.{concat}
 use Rattle.std.proofs.lemmas.List.{append-nil, length-take, get_or-take, take-append-drop, length-append, get_or_append_left}
 use Rattle.std.proofs.lemmas.List.Folds.{concat-append}
 use Rattle.std.proofs.lemmas.Bool.{cond_both}
-use Rattle.mig_stream.specs.declared.fault.StreamFault.{StreamFault}
-use Rattle.mig_stream.specs.declared.item.StreamState.TheVariants.{Bad}
 use Rattle.mig_stream.specs.declared.item.Filling.TheVariants.{Zero, Normal}
 use Rattle.mig_stream.specs.declared.item.PassedItem.{PassedItem}
 use Rattle.mig_stream.specs.declared.item.PassedItem.TheVariants.{Command, SubsectionHead, SubsectionBody, Capability, Address}
@@ -15,10 +13,11 @@ use Rattle.mig_stream.specs.declared.item.Due.TheVariants.{FileHeader, TypeByte,
 use Rattle.mig_stream.specs.Fields.{be16_at}
 use Rattle.mig_stream.specs.Progress.{StreamProgress}
 use Rattle.mig_stream.specs.Items.{passed_size, size, first_fault, after}
-use Rattle.mig_stream.specs.Reading.{IsItem, AreFaultless, after_all, Front, Reads}
+use Rattle.mig_stream.specs.Reading.{IsItem, AreFaultless, after_all, Front}
 
 -- the same of an item that is passed over
-passed-take : (passed : PassedItem) (bytes : List ℕ) → passed_size passed bytes ≤ length bytes → passed_size passed (take (passed_size passed bytes) bytes) ≡ passed_size passed bytes
+passed-take : (passed : PassedItem) (bytes : List ℕ) → passed_size passed bytes ≤ length bytes
+    → passed_size passed (take (passed_size passed bytes) bytes) ≡ passed_size passed bytes
 passed-take (Command before) bytes le =
     let n : ℕ = 4 + be16_at 2 bytes in
     omega (arith, get_or-take n bytes 2 0 (omega arith), get_or-take n bytes 3 0 (omega arith))
@@ -42,6 +41,7 @@ passed-append (Address last) item more w = sym w
 abbrev pub sized : ℕ → ℕ
 sized n = cond (eqb n 0) 8 (9 + n)
 
+-- a size in the list has at least 8 bytes
 pub sized_some : (n : ℕ) → 8 ≤ sized n
 sized_some n = cond_both (eqb n 0) 8 (9 + n) (λ (x : ℕ). 8 ≤ x) (λ _. omega arith) (λ _. omega arith)
 
@@ -67,6 +67,7 @@ size-take p Footer bytes le = refl
 size-take p (Passed passed) bytes le = passed-take passed bytes le
 size-take p Nothing bytes le = refl
 
+-- bytes that are as long as the item that is due begin with that item
 pub item_at : (p : ℕ) (d : Due) (rest : List ℕ) → d ≢ Nothing → size p d rest ≤ length rest → IsItem p d (take (size p d rest) rest)
 item_at p d rest open_ le = record {
   is_due = open_;
@@ -102,23 +103,30 @@ no_item p d rest lt item more e is =
     let same : size p d rest ≡ length item = ap (size p d) e ∙ size-append p d item more is.is_whole in
     omega (arith, same, ap length e, length-append item more)
 
+-- progress after one item more is progress after it, from the items before on
 pub after_all-push : (c : StreamProgress) (items : List (List ℕ)) (item : List ℕ) → after_all c (items ++ item ∷ []) ≡ after (after_all c items) item
 after_all-push c [] item = refl
 after_all-push c (i ∷ items) item = after_all-push (after c i) items item
 
-pub AreFaultless-push : (c : StreamProgress) (items : List (List ℕ)) (item : List ℕ) → AreFaultless c items → IsItem (after_all c items).page_size (after_all c items).due item → first_fault (after_all c items) item ≡ None → AreFaultless c (items ++ item ∷ [])
+-- items without a fault stay so with one more that has none
+pub AreFaultless-push : (c : StreamProgress) (items : List (List ℕ)) (item : List ℕ) → AreFaultless c items
+    → IsItem (after_all c items).page_size (after_all c items).due item → first_fault (after_all c items) item ≡ None → AreFaultless c (items ++ item ∷ [])
 AreFaultless-push c [] item free is none = (is, none, tt)
 AreFaultless-push c (i ∷ items) item free is none = (free.0, free.1, AreFaultless-push (after c i) items item free.2 is none)
 
+-- no item leaves the progress as it is
 pub Front-none : (c : StreamProgress) → Front c [] c
 Front-none c = record { items = []; has_bytes = refl; are_faultless = tt; leads_to = refl }
 
 -- one item more
-pub Front-push : (c d : StreamProgress) (bytes item : List ℕ) → Front c bytes d → IsItem d.page_size d.due item → first_fault d item ≡ None → Front c (bytes ++ item) (after d item)
+pub Front-push : (c d : StreamProgress) (bytes item : List ℕ) → Front c bytes d → IsItem d.page_size d.due item
+    → first_fault d item ≡ None → Front c (bytes ++ item) (after d item)
 Front-push c d bytes item f is none = record {
   items = f.items ++ item ∷ [];
-  has_bytes = ap (λ (b : List ℕ). b ++ item) f.has_bytes ∙ ap (λ (x : List ℕ). concat f.items ++ x) (sym (append-nil item)) ∙ sym (concat-append f.items (item ∷ []));
-  are_faultless = AreFaultless-push c f.items item f.are_faultless (subst (λ (x : StreamProgress). IsItem x.page_size x.due item) f.leads_to is) (ap (λ (x : StreamProgress). first_fault x item) (sym f.leads_to) ∙ none);
+  has_bytes = ap (λ (b : List ℕ). b ++ item) f.has_bytes ∙ ap (λ (x : List ℕ). concat f.items ++ x) (sym (append-nil item))
+      ∙ sym (concat-append f.items (item ∷ []));
+  are_faultless = AreFaultless-push c f.items item f.are_faultless
+      (subst (λ (x : StreamProgress). IsItem x.page_size x.due item) f.leads_to is) (ap (λ (x : StreamProgress). first_fault x item) (sym f.leads_to) ∙ none);
   leads_to = ap (λ (x : StreamProgress). after x item) f.leads_to ∙ sym (after_all-push c f.items item);
 }
 
@@ -130,7 +138,8 @@ work (ConfigName n) = 1
 work d = 0
 
 -- a loop that takes items: bytes is all of them, rest what was left before this item
-pub goes_on : (from d new : StreamProgress) (bytes rest item more : List ℕ) → IsItem d.page_size d.due item → rest ≡ item ++ more → first_fault d item ≡ None → new ≡ after d item
+pub goes_on : (from d new : StreamProgress) (bytes rest item more : List ℕ) → IsItem d.page_size d.due item → rest ≡ item ++ more
+    → first_fault d item ≡ None → new ≡ after d item
     → (front : List ℕ) × (bytes ≡ front ++ rest) × Front from front d → (front : List ℕ) × (bytes ≡ front ++ more) × Front from front new
 goes_on from d new bytes rest item more is e none new-is so_far = (
   so_far.0 ++ item,
@@ -138,13 +147,9 @@ goes_on from d new bytes rest item more is e none new-is so_far = (
   subst (λ (x : StreamProgress). Front from (so_far.0 ++ item) x) (sym new-is) (Front-push from d so_far.0 item so_far.2 is none),
 )
 
--- an item with a fault ends the reading before it
-pub stops_at : (from d : StreamProgress) (text rest item more : List ℕ) (fault : StreamFault) → IsItem d.page_size d.due item → rest ≡ item ++ more → first_fault d item ≡ Some fault
-    → (front : List ℕ) × (text ≡ front ++ rest) × Front from front d → Reads from text d rest (Bad fault)
-stops_at from d text rest item more fault is e found so_far = record { front = so_far.0; has_text = so_far.1; leads = so_far.2; ends = (item, more, e, is, found) }
-
 -- the front of the rest, as long as the item is
-pub split_item : (p : ℕ) (d : Due) (rest item more : List ℕ) (n : ℕ) → d ≢ Nothing → n ≡ size p d rest → n ≤ length rest → item ≡ take n rest → more ≡ drop n rest → IsItem p d item × (rest ≡ item ++ more)
+pub split_item : (p : ℕ) (d : Due) (rest item more : List ℕ) (n : ℕ) → d ≢ Nothing → n ≡ size p d rest → n ≤ length rest
+    → item ≡ take n rest → more ≡ drop n rest → IsItem p d item × (rest ≡ item ++ more)
 split_item p d rest item more n open_ n-is le item-is more-is =
     let whole : item ≡ take (size p d rest) rest = item-is ∙ ap (λ (k : ℕ). take k rest) n-is in (
       subst (λ (x : List ℕ). IsItem p d x) (sym whole) (item_at p d rest open_ (omega arith)),
@@ -153,14 +158,17 @@ split_item p d rest item more n open_ n-is le item-is more-is =
 
 -- ---- fronts put together
 
+-- progress after items is progress after their front and then the rest
 pub after_all-append : (c : StreamProgress) (xs ys : List (List ℕ)) → after_all c (xs ++ ys) ≡ after_all (after_all c xs) ys
 after_all-append c [] ys = refl
 after_all-append c (x ∷ xs) ys = after_all-append (after c x) xs ys
 
+-- items without a fault, and more after them, are without a fault together
 pub AreFaultless-append : (c : StreamProgress) (xs ys : List (List ℕ)) → AreFaultless c xs → AreFaultless (after_all c xs) ys → AreFaultless c (xs ++ ys)
 AreFaultless-append c [] ys f g = g
 AreFaultless-append c (x ∷ xs) ys f g = (f.0, f.1, AreFaultless-append (after c x) xs ys f.2 g)
 
+-- items that follow one another are one front of the stream
 pub Front-append : (a b c : StreamProgress) (x y : List ℕ) → Front a x b → Front b y c → Front a (x ++ y) c
 Front-append a b c x y f g = record {
   items = f.items ++ g.items;

@@ -30,7 +30,7 @@ use Rattle.mig_stream.specs.Later.{is_open}
 use Rattle.mig_stream.specs.Reading.{Settings, AreFaultless, after_all, Front, Ends, Reads, StreamReading, IsReading}
 use Rattle.mig_stream.specs.Taking.{HasTakenTo}
 use Rattle.mig_stream.specs.Reader.{with_taken, IsUnfinished, HasTable}
-use Rattle.mig_stream.specs.Giving.{Giver, GivenSoFar, none_given, with_more, with_last, rounds_behind, records_behind, with_open, all_read, Gives, GiverTells, HasReading, Paused, giver_at, PausesAt, IsUnread, IsPaused}
+use Rattle.mig_stream.specs.Giving.{Giver, GivenSoFar, none_given, with_more, with_last, rounds_behind, records_behind, with_open, all_read, Gives, GiverTells, HasReading, Paused, giver_at, PausesAt, IsUnread}
 use Rattle.mig_stream.proofs.Between.{closed_is_empty}
 use Rattle.mig_stream.proofs.Exists.{read_on}
 use Rattle.mig_stream.proofs.Fronts.{Front-none, Front-append, work}
@@ -50,7 +50,8 @@ kind_faults-open b c (Continued f) page = refl
 kind_faults-open b c EndOfSection page = refl
 kind_faults-open b c Flush page = refl
 
-head_faults-open : (b : List PageRecord) (c : StreamProgress) (flags : ℕ) (k : Option RecordKind) (page : ℕ) → head_faults (with_open b c) flags k page ≡ head_faults c flags k page
+head_faults-open : (b : List PageRecord) (c : StreamProgress) (flags : ℕ) (k : Option RecordKind) (page : ℕ)
+    → head_faults (with_open b c) flags k page ≡ head_faults c flags k page
 head_faults-open b c flags None page = refl
 head_faults-open b c flags (Some k) page = kind_faults-open b c k page
 
@@ -62,7 +63,8 @@ no_tail true MainBySection x y single = absurd cc
 no_tail true MainAsShown x y single = absurd cc
 no_tail false m x y single = refl
 
-type_faults-open : (b : List PageRecord) (c : StreamProgress) (before : Before) (item : List ℕ) → c.mode ≡ Single → faults (with_open b c) (TypeByte before) item ≡ faults c (TypeByte before) item
+type_faults-open : (b : List PageRecord) (c : StreamProgress) (before : Before) (item : List ℕ) → c.mode ≡ Single
+    → faults (with_open b c) (TypeByte before) item ≡ faults c (TypeByte before) item
 type_faults-open b c before item single =
     ap (λ (t : Bool). (not (is_allowed before (slice_index item 0) || is_passed c.frame before (slice_index item 0)), fault.SectionType) ∷ (t, fault.Tail) ∷ [])
     (no_tail (slice_index item 0 == end_byte) c.mode (not (length (with_open b c).records == 0)) (not (length c.records == 0)) single)
@@ -92,7 +94,8 @@ faults-open b c Nothing item single = refl
 
 -- ---- and stay before them
 
-rounds_push : (b : List PageRecord) (rounds : List (List PageRecord)) (records : List PageRecord) → rounds_behind b rounds ++ records_behind b rounds records ∷ [] ≡ rounds_behind b (rounds ++ records ∷ [])
+rounds_push : (b : List PageRecord) (rounds : List (List PageRecord)) (records : List PageRecord)
+    → rounds_behind b rounds ++ records_behind b rounds records ∷ [] ≡ rounds_behind b (rounds ++ records ∷ [])
 rounds_push b [] records = refl
 rounds_push b (r ∷ rounds) records = refl
 
@@ -100,14 +103,23 @@ records_pushed : (b : List PageRecord) (rounds : List (List PageRecord)) (record
 records_pushed b [] records = refl
 records_pushed b (r ∷ rounds) records = refl
 
-records_more : (b : List PageRecord) (rounds : List (List PageRecord)) (records more : List PageRecord) → records_behind b rounds records ++ more ≡ records_behind b rounds (records ++ more)
+records_more : (b : List PageRecord) (rounds : List (List PageRecord)) (records more : List PageRecord)
+    → records_behind b rounds records ++ more ≡ records_behind b rounds (records ++ more)
 records_more b [] records more = append_assoc b records more
 records_more b (r ∷ rounds) records more = refl
 
 end_round-open : (b : List PageRecord) (c : StreamProgress) → end_round (with_open b c) ≡ with_open b (end_round c)
 end_round-open b c =
-    ap (λ (x : List PageRecord). record c { room = c.waiting; records = x; rounds = rounds_behind b c.rounds ++ records_behind b c.rounds c.records ∷ [] }) (records_pushed b c.rounds c.records)
-    ∙ ap (λ (x : List (List PageRecord)). record c { room = c.waiting; records = records_behind b (c.rounds ++ c.records ∷ []) []; rounds = x }) (rounds_push b c.rounds c.records)
+    ap (λ (x : List PageRecord). record c {
+      room = c.waiting;
+      records = x;
+      rounds = rounds_behind b c.rounds ++ records_behind b c.rounds c.records ∷ [];
+    }) (records_pushed b c.rounds c.records)
+    ∙ ap (λ (x : List (List PageRecord)). record c {
+      room = c.waiting;
+      records = records_behind b (c.rounds ++ c.records ∷ []) [];
+      rounds = x;
+    }) (rounds_push b c.rounds c.records)
 
 eos_records-open : (b : List PageRecord) (m : Mode) (rounds : List (List PageRecord)) (records : List PageRecord)
     → eos_records m (records_behind b rounds records) ≡ records_behind b (eos_rounds m rounds records) (eos_records m records)
@@ -125,42 +137,69 @@ eos_rounds-open b MainAsShown rounds records = rounds_push b rounds records
 
 end_records-open : (b : List PageRecord) (c : StreamProgress) → end_records (with_open b c) ≡ with_open b (end_records c)
 end_records-open b c =
-    ap (λ (x : List PageRecord). record (end_records c) { records = x; rounds = eos_rounds c.mode (rounds_behind b c.rounds) (records_behind b c.rounds c.records) }) (eos_records-open b c.mode c.rounds c.records)
-    ∙ ap (λ (x : List (List PageRecord)). record (end_records c) { records = records_behind b (eos_rounds c.mode c.rounds c.records) (eos_records c.mode c.records); rounds = x }) (eos_rounds-open b c.mode c.rounds c.records)
+    ap (λ (x : List PageRecord). record (end_records c) {
+      records = x;
+      rounds = eos_rounds c.mode (rounds_behind b c.rounds) (records_behind b c.rounds c.records);
+    }) (eos_records-open b c.mode c.rounds c.records)
+    ∙ ap (λ (x : List (List PageRecord)). record (end_records c) {
+      records = records_behind b
+          (eos_rounds c.mode c.rounds c.records) (eos_records c.mode c.records);
+      rounds = x;
+    }) (eos_rounds-open b c.mode c.rounds c.records)
 
 -- in a single stream, were it allowed there, a FLUSH would end a round
 single_flush : (c : StreamProgress) → c.mode ≡ Single → flush_records c ≡ record (end_round c) { due = RecordHead }
 single_flush c single =
     let none : Bool = has_none c.records in
-    ap (λ (m : Mode). record c { mode = flush_mode m (is_start c.section) none; due = RecordHead; room = c.waiting; records = []; rounds = flush_rounds (flush_ends m (is_start c.section) none) c.rounds c.records }) single
+    ap (λ (m : Mode). record c {
+      mode = flush_mode m (is_start c.section) none;
+      due = RecordHead;
+      room = c.waiting;
+      records = [];
+      rounds = flush_rounds (flush_ends m (is_start c.section) none) c.rounds c.records;
+    }) single
     ∙ ap (λ (m : Mode). record (end_round c) { mode = m; due = RecordHead }) (sym single)
 
 flush_records-open : (b : List PageRecord) (c : StreamProgress) → c.mode ≡ Single → flush_records (with_open b c) ≡ with_open b (flush_records c)
 flush_records-open b c single =
-    single_flush (with_open b c) single ∙ ap (λ (x : StreamProgress). record x { due = RecordHead }) (end_round-open b c) ∙ ap (with_open b) (sym (single_flush c single))
+    single_flush (with_open b c) single ∙ ap (λ (x : StreamProgress). record x { due = RecordHead }) (end_round-open b c)
+    ∙ ap (with_open b) (sym (single_flush c single))
 
-after_kind-open : (b : List PageRecord) (c : StreamProgress) (k : RecordKind) (page : ℕ) → c.mode ≡ Single → after_kind (with_open b c) k page ≡ with_open b (after_kind c k page)
+after_kind-open : (b : List PageRecord) (c : StreamProgress) (k : RecordKind) (page : ℕ) → c.mode ≡ Single
+    → after_kind (with_open b c) k page ≡ with_open b (after_kind c k page)
 after_kind-open b c SizeList page single = refl
 after_kind-open b c (Named f) page single = refl
 after_kind-open b c (Continued f) page single = refl
 after_kind-open b c EndOfSection page single = end_records-open b c
 after_kind-open b c Flush page single = flush_records-open b c single
 
-after_head-open : (b : List PageRecord) (c : StreamProgress) (k : Option RecordKind) (page : ℕ) → c.mode ≡ Single → after_head (with_open b c) k page ≡ with_open b (after_head c k page)
+after_head-open : (b : List PageRecord) (c : StreamProgress) (k : Option RecordKind) (page : ℕ) → c.mode ≡ Single
+    → after_head (with_open b c) k page ≡ with_open b (after_head c k page)
 after_head-open b c None page single = refl
 after_head-open b c (Some k) page single = after_kind-open b c k page single
 
 after_type-open : (b : List PageRecord) (c : StreamProgress) (byte : ℕ) → after_type (with_open b c) byte ≡ with_open b (after_type c byte)
 after_type-open b c byte = sym (simp (choice (with_open b)))
 
-after_type_byte-open : (b : List PageRecord) (c : StreamProgress) (before : Before) (byte : ℕ) → after_type_byte (with_open b c) before byte ≡ with_open b (after_type_byte c before byte)
+after_type_byte-open : (b : List PageRecord) (c : StreamProgress) (before : Before) (byte : ℕ)
+    → after_type_byte (with_open b c) before byte ≡ with_open b (after_type_byte c before byte)
 after_type_byte-open b c before byte =
-    ap (λ (x : StreamProgress). cond (is_passed c.frame before byte) (with_open b (record c { due = Passed (passed_by before byte) })) x) (after_type-open b c byte)
+    ap (λ (x : StreamProgress). cond (is_passed c.frame before byte)
+    (with_open b (record c { due = Passed (passed_by before byte) })) x) (after_type-open b c byte)
     ∙ sym (choice (with_open b) (is_passed c.frame before byte) (record c { due = Passed (passed_by before byte) }) (after_type c byte))
 
 with_record-open : (b : List PageRecord) (c : StreamProgress) (r : PageRecord)
-    → record (with_open b c) { due = RecordHead; room = less_room c.room; records = records_behind b c.rounds c.records ++ r ∷ [] } ≡ with_open b (record c { due = RecordHead; room = less_room c.room; records = c.records ++ r ∷ [] })
-with_record-open b c r = ap (λ (x : List PageRecord). record c { due = RecordHead; room = less_room c.room; records = x; rounds = rounds_behind b c.rounds }) (records_more b c.rounds c.records (r ∷ []))
+    → record (with_open b c) {
+      due = RecordHead;
+      room = less_room c.room;
+      records = records_behind b c.rounds c.records ++ r ∷ [];
+    } ≡ with_open b (record c { due = RecordHead; room = less_room c.room; records = c.records ++ r ∷ [] })
+with_record-open b c r = ap (λ (x : List PageRecord). record c {
+  due = RecordHead;
+  room = less_room c.room;
+  records = x;
+  rounds = rounds_behind b c.rounds;
+}) (records_more b c.rounds c.records (r ∷ []))
 
 footer_records : (b : List PageRecord) (m : Mode) (rounds : List (List PageRecord)) (records : List PageRecord)
     → open_records m (records_behind b rounds records) ≡ records_behind b (whole_rounds m rounds records) (open_records m records)
@@ -178,10 +217,19 @@ footer_rounds b MainAsShown rounds records = refl
 
 end_section-open : (b : List PageRecord) (c : StreamProgress) → end_section (with_open b c) ≡ with_open b (end_section c)
 end_section-open b c =
-    ap (λ (x : List PageRecord). record (end_section c) { records = x; rounds = whole_rounds c.mode (rounds_behind b c.rounds) (records_behind b c.rounds c.records) }) (footer_records b c.mode c.rounds c.records)
-    ∙ ap (λ (x : List (List PageRecord)). record (end_section c) { records = records_behind b (whole_rounds c.mode c.rounds c.records) (open_records c.mode c.records); rounds = x }) (footer_rounds b c.mode c.rounds c.records)
+    ap (λ (x : List PageRecord). record (end_section c) {
+      records = x;
+      rounds = whole_rounds c.mode (rounds_behind b c.rounds) (records_behind b c.rounds c.records);
+    }) (footer_records b c.mode c.rounds c.records)
+    ∙ ap (λ (x : List (List PageRecord)). record (end_section c) {
+      records = records_behind b
+          (whole_rounds c.mode c.rounds c.records) (open_records c.mode c.records);
+      rounds = x;
+    }) (footer_rounds b c.mode c.rounds c.records)
 
-pub after_item-open : (b : List PageRecord) (c : StreamProgress) (d : Due) (item : List ℕ) → c.mode ≡ Single → after_item (with_open b c) d item ≡ with_open b (after_item c d item)
+-- in a single stream, records of the open round stand in front of those that an item adds
+pub after_item-open : (b : List PageRecord) (c : StreamProgress) (d : Due) (item : List ℕ) → c.mode ≡ Single
+    → after_item (with_open b c) d item ≡ with_open b (after_item c d item)
 after_item-open b c FileHeader item single = refl
 after_item-open b c (TypeByte before) item single = after_type_byte-open b c before (slice_index item 0)
 after_item-open b c ConfigLength item single = refl
@@ -205,18 +253,24 @@ after_item-open b c Nothing item single = refl
 pub single_after : (c : StreamProgress) (item : List ℕ) (items : List (List ℕ)) → c.mode ≡ Single → AreFaultless c (item ∷ items) → (after c item).mode ≡ Single
 single_after c item items single free = (IsLater-front c (after c item) item (front_item c item free.0 free.1)).same_mode (ap is_open single) ∙ single
 
-pub AreFaultless-open : (b : List PageRecord) (c : StreamProgress) (items : List (List ℕ)) → c.mode ≡ Single → AreFaultless c items → AreFaultless (with_open b c) items
+-- in a single stream, items have no fault whatever records the open round had before
+pub AreFaultless-open : (b : List PageRecord) (c : StreamProgress) (items : List (List ℕ)) → c.mode ≡ Single
+    → AreFaultless c items → AreFaultless (with_open b c) items
 AreFaultless-open b c [] single free = tt
 AreFaultless-open b c (item ∷ items) single free = (
   record { is_due = free.0.is_due; is_whole = free.0.is_whole },
   ap first_of (faults-open b c c.due item single) ∙ free.1,
-  subst (λ (x : StreamProgress). AreFaultless x items) (sym (after_item-open b c c.due item single)) (AreFaultless-open b (after c item) items (single_after c item items single free) free.2),
+  subst (λ (x : StreamProgress). AreFaultless x items) (sym (after_item-open b c c.due item single))
+      (AreFaultless-open b (after c item) items (single_after c item items single free) free.2),
 )
 
-pub after_all-open : (b : List PageRecord) (c : StreamProgress) (items : List (List ℕ)) → c.mode ≡ Single → AreFaultless c items → after_all (with_open b c) items ≡ with_open b (after_all c items)
+-- in a single stream, records of the open round stand in front of those that items add
+pub after_all-open : (b : List PageRecord) (c : StreamProgress) (items : List (List ℕ)) → c.mode ≡ Single → AreFaultless c items
+    → after_all (with_open b c) items ≡ with_open b (after_all c items)
 after_all-open b c [] single free = refl
 after_all-open b c (item ∷ items) single free =
-    ap (λ (x : StreamProgress). after_all x items) (after_item-open b c c.due item single) ∙ after_all-open b (after c item) items (single_after c item items single free) free.2
+    ap (λ (x : StreamProgress). after_all x items) (after_item-open b c c.due item single)
+    ∙ after_all-open b (after c item) items (single_after c item items single free) free.2
 
 Front-open : (b : List PageRecord) (c d : StreamProgress) (bytes : List ℕ) → c.mode ≡ Single → Front c bytes d → Front (with_open b c) bytes (with_open b d)
 Front-open b c d bytes single f = record {
@@ -229,37 +283,51 @@ Front-open b c d bytes single f = record {
 Ends-open : (b : List PageRecord) (c : StreamProgress) (rest : List ℕ) (s : StreamState) → c.mode ≡ Single → Ends c rest s → Ends (with_open b c) rest s
 Ends-open b c rest Reading single e = (e.0, λ item more is whole. e.1 item more is (record { is_due = whole.is_due; is_whole = whole.is_whole }))
 Ends-open b c rest Closed single e = e
-Ends-open b c rest (Bad f) single e = (e.0, e.1, e.2, record { is_due = e.3.is_due; is_whole = e.3.is_whole }, ap first_of (faults-open b c c.due e.0 single) ∙ e.4)
+Ends-open b c rest (Bad f) single e = (
+  e.0,
+  e.1,
+  e.2,
+  record { is_due = e.3.is_due; is_whole = e.3.is_whole },
+  ap first_of (faults-open b c c.due e.0 single) ∙ e.4,
+)
 
 -- ---- reading on
 
 -- it is a single stream that is read
 pub reads_single : (given : Settings) (text : List ℕ) (so_far : GivenSoFar) (r : Giver) → Gives given text so_far r → r.progress.mode ≡ Single
 reads_single given text so_far r g =
-    (IsLater-front (start given.frame given.mode given.page_size given.limit given.waiting) (all_read so_far r.progress) g.front g.leads).same_mode (ap is_open g.is_single) ∙ g.is_single
+    (IsLater-front (start given.frame given.mode given.page_size given.limit given.waiting)
+    (all_read so_far r.progress) g.front g.leads).same_mode (ap is_open g.is_single) ∙ g.is_single
 
+-- a reader has the page size of its settings
 pub same_page_size : (given : Settings) (text : List ℕ) (so_far : GivenSoFar) (r : Giver) → Gives given text so_far r → r.progress.page_size ≡ given.page_size
-same_page_size given text so_far r g = (IsLater-front (start given.frame given.mode given.page_size given.limit given.waiting) (all_read so_far r.progress) g.front g.leads).same_page_size
+same_page_size given text so_far r g = (IsLater-front (start given.frame given.mode given.page_size given.limit given.waiting)
+    (all_read so_far r.progress) g.front g.leads).same_page_size
 
-pub gives_first : (given : Settings) (text : List ℕ) (r : Giver) → given.mode ≡ Single → IsPageSize given.page_size → r.progress ≡ start given.frame given.mode given.page_size given.limit given.waiting → r.rest ≡ text → r.found ≡ None
+-- a reader of complete bytes stands before the first of them
+pub gives_first : (given : Settings) (text : List ℕ) (r : Giver) → given.mode ≡ Single → IsPageSize given.page_size
+    → r.progress ≡ start given.frame given.mode given.page_size given.limit given.waiting → r.rest ≡ text → r.found ≡ None
     → r.fed ≡ length text → Gives given text none_given r
 gives_first given text r single size progress rest found fed = record {
   is_single = single;
   is_page_size = size;
   front = [];
   has_text = sym rest;
-  leads = subst (λ (c : StreamProgress). Front (start given.frame given.mode given.page_size given.limit given.waiting) [] (all_read none_given c)) (sym progress) (Front-none (start given.frame given.mode given.page_size given.limit given.waiting));
+  leads = subst (λ (c : StreamProgress). Front (start given.frame given.mode given.page_size given.limit given.waiting) []
+      (all_read none_given c)) (sym progress) (Front-none (start given.frame given.mode given.page_size given.limit given.waiting));
   ends = subst (λ (o : Option StreamState). IfSome o (λ s. Ends (all_read none_given r.progress) r.rest s)) (sym found) tt;
   has_fed = λ _. fed;
 }
 
-ends_each : (b : List PageRecord) (g : List (List PageRecord)) (c : StreamProgress) (rest : List ℕ) (o : Option StreamState) → c.mode ≡ Single → IfSome o (λ s. Ends c rest s)
+ends_each : (b : List PageRecord) (g : List (List PageRecord)) (c : StreamProgress) (rest : List ℕ) (o : Option StreamState)
+    → c.mode ≡ Single → IfSome o (λ s. Ends c rest s)
     → IfSome o (λ s. Ends (with_taken g (with_open b c)) rest s)
 ends_each b g c rest None single e = tt
 ends_each b g c rest (Some s) single e = Ends-taken g (with_open b c) rest s (Ends-open b c rest s single e)
 
 -- items that are taken stay to be given
-pub reads_behind : (given : Settings) (text : List ℕ) (so_far : GivenSoFar) (old new : Giver) → HasTakenTo old.progress old.rest new.rest new.progress → IfSome new.found (λ s. Ends new.progress new.rest s)
+pub reads_behind : (given : Settings) (text : List ℕ) (so_far : GivenSoFar) (old new : Giver)
+    → HasTakenTo old.progress old.rest new.rest new.progress → IfSome new.found (λ s. Ends new.progress new.rest s)
     → new.fed ≡ old.fed → Gives given text so_far old → Gives given text so_far new
 reads_behind given text so_far old new taken ends fed g =
     let single = reads_single given text so_far old g in
@@ -270,7 +338,8 @@ reads_behind given text so_far old new taken ends fed g =
       is_page_size = g.is_page_size;
       front = g.front ++ taken.0;
       has_text = g.has_text ∙ ap (λ (x : List ℕ). g.front ++ x) taken.1 ∙ sym (append_assoc g.front taken.0 new.rest);
-      leads = Front-append (start given.frame given.mode given.page_size given.limit given.waiting) (all_read so_far old.progress) (all_read so_far new.progress) g.front taken.0 g.leads
+      leads = Front-append (start given.frame given.mode given.page_size given.limit given.waiting) (all_read so_far old.progress)
+          (all_read so_far new.progress) g.front taken.0 g.leads
           (Front-taken so_far.sections o n taken.0 (Front-open so_far.open_section old.progress new.progress taken.0 single taken.2));
       ends = ends_each so_far.open_section so_far.sections new.progress new.rest new.found there ends;
       has_fed = λ few. fed ∙ g.has_fed few;
@@ -279,7 +348,8 @@ reads_behind given text so_far old new taken ends fed g =
 -- ---- giving
 
 none_open : (c : StreamProgress) → with_open [] c ≡ c
-none_open c = ap (λ (x : List PageRecord). record c { records = x; rounds = rounds_behind [] c.rounds }) (same_records c.rounds c.records) ∙ ap (λ (x : List (List PageRecord)). record c { rounds = x }) (same_rounds c.rounds)
+none_open c = ap (λ (x : List PageRecord). record c { records = x; rounds = rounds_behind [] c.rounds })
+    (same_records c.rounds c.records) ∙ ap (λ (x : List (List PageRecord)). record c { rounds = x }) (same_rounds c.rounds)
   where
     same_records : (rounds : List (List PageRecord)) (records : List PageRecord) → records_behind [] rounds records ≡ records
     same_records [] records = refl
@@ -290,7 +360,8 @@ none_open c = ap (λ (x : List PageRecord). record c { records = x; rounds = rou
     same_rounds (r ∷ rounds) = refl
 
 -- the first whole round that waits is the end of the open section
-pub all_last : (so_far : GivenSoFar) (old new : StreamProgress) (records : List PageRecord) → old ≡ with_taken (records ∷ []) new → all_read so_far old ≡ all_read (with_last records so_far) new
+pub all_last : (so_far : GivenSoFar) (old new : StreamProgress) (records : List PageRecord) → old ≡ with_taken (records ∷ []) new
+    → all_read so_far old ≡ all_read (with_last records so_far) new
 all_last so_far old new records is =
     let q : List (List PageRecord) = so_far.sections in
     let whole : List PageRecord = so_far.open_section ++ records in
@@ -299,17 +370,24 @@ all_last so_far old new records is =
     ∙ ap (with_taken (q ++ whole ∷ [])) (sym (none_open new))
 
 -- if none is whole, the records that wait are of the open section
-pub all_more : (so_far : GivenSoFar) (old new : StreamProgress) → old.rounds ≡ [] → new ≡ record old { records = [] } → all_read so_far old ≡ all_read (with_more old.records so_far) new
+pub all_more : (so_far : GivenSoFar) (old new : StreamProgress) → old.rounds ≡ [] → new ≡ record old { records = [] }
+    → all_read so_far old ≡ all_read (with_more old.records so_far) new
 all_more so_far old new none is =
     let q : List (List PageRecord) = so_far.sections in
     let b : List PageRecord = so_far.open_section in
     let here : all_read so_far old ≡ record old { records = b ++ old.records; rounds = q ++ [] } =
     ap (λ (x : List (List PageRecord)). record old { records = records_behind b x old.records; rounds = q ++ rounds_behind b x }) none in
     let there : all_read (with_more old.records so_far) (record old { records = [] }) ≡ record old { records = (b ++ old.records) ++ []; rounds = q ++ [] } =
-    ap (λ (x : List (List PageRecord)). record old { records = records_behind (b ++ old.records) x []; rounds = q ++ rounds_behind (b ++ old.records) x }) none in
-    here ∙ ap (λ (x : List PageRecord). record old { records = x; rounds = q ++ [] }) (sym (append-nil (b ++ old.records))) ∙ sym there ∙ ap (all_read (with_more old.records so_far)) (sym is)
+    ap (λ (x : List (List PageRecord)). record old {
+      records = records_behind (b ++ old.records) x [];
+      rounds = q ++ rounds_behind (b ++ old.records) x;
+    }) none in
+    here ∙ ap (λ (x : List PageRecord). record old { records = x; rounds = q ++ [] }) (sym (append-nil (b ++ old.records)))
+    ∙ sym there ∙ ap (all_read (with_more old.records so_far)) (sym is)
 
-pub gives_same : (given : Settings) (text : List ℕ) (so_far then : GivenSoFar) (old new : Giver) → all_read so_far old.progress ≡ all_read then new.progress → new.rest ≡ old.rest → new.found ≡ old.found → new.fed ≡ old.fed
+-- a reader with the same bytes left, and the same progress in all, has given the same stream
+pub gives_same : (given : Settings) (text : List ℕ) (so_far then : GivenSoFar) (old new : Giver)
+    → all_read so_far old.progress ≡ all_read then new.progress → new.rest ≡ old.rest → new.found ≡ old.found → new.fed ≡ old.fed
     → Gives given text so_far old → Gives given text then new
 gives_same given text so_far then old new same rest found fed g = record {
   is_single = g.is_single;
@@ -323,12 +401,16 @@ gives_same given text so_far then old new same rest found fed g = record {
   has_fed = λ few. fed ∙ g.has_fed few;
 }
 
-pub gives_last : (given : Settings) (text : List ℕ) (so_far : GivenSoFar) (old new : Giver) (records : List PageRecord) → old.progress ≡ with_taken (records ∷ []) new.progress → new.rest ≡ old.rest → new.found ≡ old.found → new.fed ≡ old.fed
+-- the last records of a section are given: they leave the reader and join what was given
+pub gives_last : (given : Settings) (text : List ℕ) (so_far : GivenSoFar) (old new : Giver) (records : List PageRecord)
+    → old.progress ≡ with_taken (records ∷ []) new.progress → new.rest ≡ old.rest → new.found ≡ old.found → new.fed ≡ old.fed
     → Gives given text so_far old → Gives given text (with_last records so_far) new
 gives_last given text so_far old new records is rest found fed g =
     gives_same given text so_far (with_last records so_far) old new (all_last so_far old.progress new.progress records is) rest found fed g
 
-pub gives_more : (given : Settings) (text : List ℕ) (so_far : GivenSoFar) (old new : Giver) (records : List PageRecord) → records ≡ old.progress.records → old.progress.rounds ≡ []
+-- records of the open section are given: they leave the reader and join what was given
+pub gives_more : (given : Settings) (text : List ℕ) (so_far : GivenSoFar) (old new : Giver) (records : List PageRecord)
+    → records ≡ old.progress.records → old.progress.rounds ≡ []
     → new.progress ≡ record old.progress { records = [] } → new.rest ≡ old.rest → new.found ≡ old.found → new.fed ≡ old.fed
     → Gives given text so_far old → Gives given text (with_more records so_far) new
 gives_more given text so_far old new records are none is rest found fed g =
@@ -385,7 +467,8 @@ whole_stays c to more table f whole =
     ∙ whole
 
 -- The table that a reader returns is that of the complete stream.
-table_told : (given : Settings) (text : List ℕ) (so_far : GivenSoFar) (r : Giver) (table : RamTable) → whole_table r.progress ≡ Some table → Gives given text so_far r → HasTable given text (Some table)
+table_told : (given : Settings) (text : List ℕ) (so_far : GivenSoFar) (r : Giver) (table : RamTable)
+    → whole_table r.progress ≡ Some table → Gives given text so_far r → HasTable given text (Some table)
 table_told given text so_far r table whole g =
     let on = goes_to given text so_far r g in
     let reading : StreamReading = record { table = whole_table on.to; rounds = on.to.rounds; state = on.state } in (
@@ -394,7 +477,9 @@ table_told given text so_far r table whole g =
       sym (whole_stays (all_read so_far r.progress) on.to on.more table on.leads whole),
     )
 
-pub table_each : (r : Giver) (o told : Option RamTable) → told ≡ o → o ≡ whole_table r.progress → IfSome told (λ table. GiverTells r (λ given text so_far. HasTable given text (Some table)))
+-- the table that a reader reports is the one of each stream that it may stand for
+pub table_each : (r : Giver) (o told : Option RamTable) → told ≡ o → o ≡ whole_table r.progress
+    → IfSome told (λ table. GiverTells r (λ given text so_far. HasTable given text (Some table)))
 table_each r o None same is = tt
 table_each r o (Some table) same is = λ given text so_far g. table_told given text so_far r table (sym (same ∙ is)) g
 
@@ -404,7 +489,8 @@ abbrev AreIn : RamTable → List PageRecord → Type 0
 AreIn table records = All (λ x. IsPlace table x.place) records
 
 -- The stream's table has the place of each record that was read so far.
-all_places : (given : Settings) (text : List ℕ) (so_far : GivenSoFar) (r : Giver) (table : RamTable) → Gives given text so_far r → HasTable given text (Some table)
+all_places : (given : Settings) (text : List ℕ) (so_far : GivenSoFar) (r : Giver) (table : RamTable) → Gives given text so_far r
+    → HasTable given text (Some table)
     → All (AreIn table) (all_read so_far r.progress).rounds × AreIn table (all_read so_far r.progress).records
 all_places given text so_far r table g f =
     let c : StreamProgress = all_read so_far r.progress in
@@ -414,48 +500,65 @@ all_places given text so_far r table g f =
     let whole : whole_table on.to ≡ Some table = ap whole_table same.0 ∙ sym (f.2 ∙ b.has_table) in
     let there = table_there (is_used_up on.to.left) (table_of on.to) table whole in
     let later = IsLater-front c on.to on.more on.leads in
-    placed_so_far given.frame given.mode given.page_size given.limit given.waiting g.front c later.more_blocks table g.leads (ap (λ (t : RamTable). t.blocks) (sym there.1) ∙ later.has_blocks)
+    placed_so_far given.frame given.mode given.page_size given.limit given.waiting g.front c later.more_blocks table g.leads
+    (ap (λ (t : RamTable). t.blocks) (sym there.1) ∙ later.has_blocks)
 
 -- those of the records after others
 last_in : (table : RamTable) (before records : List PageRecord) → AreIn table (before ++ records) → AreIn table records
 last_in table before records all k d lt =
-    let there : IsPlace table (get_or (before ++ records) (length before + k) d).place = all (length before + k) d (omega (arith, lt, length-append before records)) in
+    let there : IsPlace table (get_or (before ++ records) (length before + k) d).place =
+    all (length before + k) d (omega (arith, lt, length-append before records)) in
     subst (λ (x : PageRecord). IsPlace table x.place) (get_or-append-add before records k d) there
 
-pub last_places : (given : Settings) (text : List ℕ) (so_far : GivenSoFar) (old : Giver) (new : StreamProgress) (records : List PageRecord) (table : RamTable) → old.progress ≡ with_taken (records ∷ []) new
+-- the records that end a section lie in the stream's table
+pub last_places : (given : Settings) (text : List ℕ) (so_far : GivenSoFar) (old : Giver) (new : StreamProgress) (records : List
+    PageRecord) (table : RamTable) → old.progress ≡ with_taken (records ∷ []) new
     → Gives given text so_far old → HasTable given text (Some table) → AreIn table records
 last_places given text so_far old new records table is g f =
     let q : List (List PageRecord) = so_far.sections in
     let whole : List PageRecord = so_far.open_section ++ records in
     let rounds : (all_read so_far old.progress).rounds ≡ q ++ whole ∷ new.rounds = ap (λ (x : StreamProgress). (all_read so_far x).rounds) is in
-    let all : All (AreIn table) (q ++ whole ∷ new.rounds) = subst (λ (x : List (List PageRecord)). All (AreIn table) x) rounds (all_places given text so_far old table g f).0 in
+    let all : All (AreIn table) (q ++ whole ∷ new.rounds) =
+    subst (λ (x : List (List PageRecord)). All (AreIn table) x) rounds (all_places given text so_far old table g f).0 in
     let there : AreIn table (get_or (q ++ whole ∷ new.rounds) (length q) []) = all (length q) [] (omega (arith, length-append q (whole ∷ new.rounds))) in
     last_in table so_far.open_section records (subst (AreIn table) (get_or_at q whole new.rounds [] (length q) refl) there)
 
-pub more_places : (given : Settings) (text : List ℕ) (so_far : GivenSoFar) (old : Giver) (records : List PageRecord) (table : RamTable) → records ≡ old.progress.records → old.progress.rounds ≡ []
+-- the records of the open section lie in the stream's table
+pub more_places : (given : Settings) (text : List ℕ) (so_far : GivenSoFar) (old : Giver) (records : List
+    PageRecord) (table : RamTable) → records ≡ old.progress.records → old.progress.rounds ≡ []
     → Gives given text so_far old → HasTable given text (Some table) → AreIn table records
 more_places given text so_far old records table are none g f =
     let all : (all_read so_far old.progress).records ≡ so_far.open_section ++ records =
-    ap (λ (x : List (List PageRecord)). records_behind so_far.open_section x old.progress.records) none ∙ ap (λ (x : List PageRecord). so_far.open_section ++ x) (sym are) in
+    ap (λ (x : List (List PageRecord)). records_behind so_far.open_section x old.progress.records) none
+    ∙ ap (λ (x : List PageRecord). so_far.open_section ++ x) (sym are) in
     last_in table so_far.open_section records (subst (AreIn table) all (all_places given text so_far old table g f).1)
 
 -- ---- the end
 
 -- If all was given, and it reads no further, what was given is the reading.
-pub ends_so : (given : Settings) (text : List ℕ) (so_far : GivenSoFar) (r : Giver) (found : StreamState) → r.progress.rounds ≡ [] → r.progress.records ≡ [] → r.found ≡ Some found
+pub ends_so : (given : Settings) (text : List ℕ) (so_far : GivenSoFar) (r : Giver) (found : StreamState) → r.progress.rounds ≡ []
+    → r.progress.records ≡ [] → r.found ≡ Some found
     → Gives given text so_far r → HasReading given text so_far found
 ends_so given text so_far r found none nothing is g =
     let to : StreamProgress = all_read so_far r.progress in
     let ends : Ends to r.rest found = subst (λ (o : Option StreamState). IfSome o (λ s. Ends to r.rest s)) is g.ends in
     let records : to.records ≡ so_far.open_section =
-    ap (λ (x : List (List PageRecord)). records_behind so_far.open_section x r.progress.records) none ∙ ap (λ (x : List PageRecord). so_far.open_section ++ x) nothing ∙ append-nil so_far.open_section in
+    ap (λ (x : List (List PageRecord)). records_behind so_far.open_section x r.progress.records) none
+    ∙ ap (λ (x : List PageRecord). so_far.open_section ++ x) nothing ∙ append-nil so_far.open_section in
     record {
       reading = record { table = whole_table to; rounds = to.rounds; state = found };
-      is_reading = record { to = to; rest = r.rest; reads = record { front = g.front; has_text = g.has_text; leads = g.leads; ends = ends }; has_table = refl; has_rounds = refl };
+      is_reading = record {
+        to = to;
+        rest = r.rest;
+        reads = record { front = g.front; has_text = g.has_text; leads = g.leads; ends = ends };
+        has_table = refl;
+        has_rounds = refl;
+      };
       has_sections = ap (λ (x : List (List PageRecord)). so_far.sections ++ rounds_behind so_far.open_section x) none ∙ append-nil so_far.sections;
       has_state = refl;
       has_open = records;
-      has_none_open = λ closed. sym records ∙ closed_is_empty given.frame given.mode given.page_size given.limit given.waiting g.front to g.is_single g.leads (subst (λ (s : StreamState). Ends to r.rest s) closed ends);
+      has_none_open = λ closed. sym records ∙ closed_is_empty given.frame given.mode given.page_size given.limit given.waiting
+          g.front to g.is_single g.leads (subst (λ (s : StreamState). Ends to r.rest s) closed ends);
     }
 
 -- ---- between two pieces
@@ -464,13 +567,17 @@ ends_so given text so_far r found none nothing is g =
 ends_unfinished : (c : StreamProgress) (rest : List ℕ) → Ends c rest Reading → IsUnfinished c rest
 ends_unfinished c rest ends = unfinished c rest c rest (record { front = []; has_text = refl; leads = Front-none c; ends = ends })
 
-pub unread_behind : (c : StreamProgress) (pending rest : List ℕ) (o : Option StreamState) → IfNone o (pending ≡ []) → (o ≡ Some Closed → pending ≡ []) → IfSome o (λ s. Ends c (pending ++ rest) s) → IsUnread o c pending rest
+-- bytes that are left where a reading ends, behind those that were pending, are unread
+pub unread_behind : (c : StreamProgress) (pending rest : List ℕ) (o : Option StreamState) → IfNone o (pending ≡ [])
+    → (o ≡ Some Closed → pending ≡ []) → IfSome o (λ s. Ends c (pending ++ rest) s) → IsUnread o c pending rest
 unread_behind c pending rest None none closed ends = inl none
 unread_behind c pending rest (Some Reading) none closed ends = ends_unfinished c (pending ++ rest) ends
 unread_behind c pending rest (Some Closed) none closed ends = closed refl
 unread_behind c pending rest (Some (Bad f)) none closed ends = tt
 
-pub pauses_first : (given : Settings) (p : Paused) → given.mode ≡ Single → IsPageSize given.page_size → p.progress ≡ start given.frame given.mode given.page_size given.limit given.waiting → p.pending ≡ []
+-- a reader in pieces stands before the first byte
+pub pauses_first : (given : Settings) (p : Paused) → given.mode ≡ Single → IsPageSize given.page_size
+    → p.progress ≡ start given.frame given.mode given.page_size given.limit given.waiting → p.pending ≡ []
     → p.fed ≡ 0 → PausesAt given [] none_given p
 pauses_first given p single size progress pending fed =
     let c : StreamProgress = start given.frame given.mode given.page_size given.limit given.waiting in
@@ -485,41 +592,60 @@ pauses_first given p single size progress pending fed =
       has_fed = λ _. fed;
     }
 
-pub paused_table : (given : Settings) (text : List ℕ) (so_far : GivenSoFar) (p : Paused) → PausesAt given text so_far p → HasTable given text (whole_table p.progress)
+-- a reading that pauses has the table of the bytes that were read
+pub paused_table : (given : Settings) (text : List ℕ) (so_far : GivenSoFar) (p : Paused) → PausesAt given text so_far p
+    → HasTable given text (whole_table p.progress)
 paused_table given text so_far p at =
     let to : StreamProgress = all_read so_far p.progress in (
       record { table = whole_table to; rounds = to.rounds; state = Reading },
-      record { to = to; rest = p.pending; reads = record { front = at.front; has_text = at.has_text; leads = at.leads; ends = at.ends }; has_table = refl; has_rounds = refl },
+      record {
+        to = to;
+        rest = p.pending;
+        reads = record {
+          front = at.front;
+          has_text = at.has_text;
+          leads = at.leads;
+          ends = at.ends;
+        };
+        has_table = refl;
+        has_rounds = refl;
+      },
       refl,
     )
 
 -- a count that stays below 2^64 is exact
-fed_more : (text piece both before now : ℕ) → both ≡ text + piece → both < 2 ^ 64 → (text < 2 ^ 64 → before ≡ text) → now ≡ min (before + piece) (2 ^ 64 - 1) → now ≡ both
+fed_more : (text piece both before now : ℕ) → both ≡ text + piece → both < 2 ^ 64 → (text < 2 ^ 64 → before ≡ text)
+    → now ≡ min (before + piece) (2 ^ 64 - 1) → now ≡ both
 fed_more text piece both before now sum few was is =
     let here : before ≡ text = was (omega (arith, sum, few)) in
     is ∙ min-eq_left (omega (arith, here, sum, few)) ∙ omega (arith, here, sum)
 
 -- a piece more of the stream
-pub resumed : (given : Settings) (text piece : List ℕ) (so_far : GivenSoFar) (p : Paused) (r : Giver) → r.progress ≡ p.progress → r.rest ≡ p.pending ++ piece → r.found ≡ None
+pub resumed : (given : Settings) (text piece : List ℕ) (so_far : GivenSoFar) (p : Paused) (r : Giver) → r.progress ≡ p.progress
+    → r.rest ≡ p.pending ++ piece → r.found ≡ None
     → r.fed ≡ min (p.fed + length piece) (2 ^ 64 - 1) → PausesAt given text so_far p → Gives given (text ++ piece) so_far r
 resumed given text piece so_far p r progress rest found fed at = record {
   is_single = at.is_single;
   is_page_size = at.is_page_size;
   front = at.front;
   has_text = ap (λ (x : List ℕ). x ++ piece) at.has_text ∙ append_assoc at.front p.pending piece ∙ ap (λ (x : List ℕ). at.front ++ x) (sym rest);
-  leads = subst (λ (x : StreamProgress). Front (start given.frame given.mode given.page_size given.limit given.waiting) at.front (all_read so_far x)) (sym progress) at.leads;
+  leads = subst (λ (x : StreamProgress). Front (start given.frame given.mode given.page_size given.limit given.waiting) at.front
+      (all_read so_far x)) (sym progress) at.leads;
   ends = subst (λ (o : Option StreamState). IfSome o (λ s. Ends (all_read so_far r.progress) r.rest s)) (sym found) tt;
   has_fed = λ few. fed_more (length text) (length piece) (length (text ++ piece)) p.fed r.fed (length-append text piece) few at.has_fed fed;
 }
 
 -- the same at a pause
-pub paused : (given : Settings) (text : List ℕ) (so_far : GivenSoFar) (r : Giver) (p : Paused) → r.found ≡ Some Reading → p.progress ≡ r.progress → p.pending ≡ r.rest → p.fed ≡ r.fed
+pub paused : (given : Settings) (text : List ℕ) (so_far : GivenSoFar) (r : Giver) (p : Paused) → r.found ≡ Some Reading
+    → p.progress ≡ r.progress → p.pending ≡ r.rest → p.fed ≡ r.fed
     → Gives given text so_far r → PausesAt given text so_far p
-paused given text so_far r p found progress rest fed g = gives_same given text so_far so_far r (giver_at p) (ap (all_read so_far) (sym progress)) rest (sym found) fed g
+paused given text so_far r p found progress rest fed g =
+    gives_same given text so_far so_far r (giver_at p) (ap (all_read so_far) (sym progress)) rest (sym found) fed g
 
 -- ---- before the table, and how many sections there are
 
-none_left : {X : Type 0} (xs ys : List X) → xs ++ ys ≡ [] → (xs ≡ []) × (ys ≡ [])
+-- lists that are empty together are both empty
+pub none_left : {X : Type 0} (xs ys : List X) → xs ++ ys ≡ [] → (xs ≡ []) × (ys ≡ [])
 none_left {X} [] ys e = (refl, e)
 none_left {X} (x ∷ xs) ys e = absurd cc
 
@@ -528,7 +654,8 @@ no_rounds before [] e = refl
 no_rounds before (r ∷ rounds) e = absurd cc
 
 -- Before the table nothing was given, and nothing waits.
-pub none_before_table : (given : Settings) (text : List ℕ) (so_far : GivenSoFar) (r : Giver) → Gives given text so_far r → whole_table r.progress ≡ None → (so_far.sections ≡ []) × (so_far.open_section ≡ [])
+pub none_before_table : (given : Settings) (text : List ℕ) (so_far : GivenSoFar) (r : Giver) → Gives given text so_far r
+    → whole_table r.progress ≡ None → (so_far.sections ≡ []) × (so_far.open_section ≡ [])
 none_before_table given text so_far r g none =
     let both = none_first given.frame given.mode given.page_size given.limit given.waiting g.front (all_read so_far r.progress) g.leads none in
     let sections = none_left so_far.sections (rounds_behind so_far.open_section r.progress.rounds) both.0 in
@@ -547,7 +674,3 @@ few_sections given text so_far r g =
       ap (λ (x : List ℕ). length x) g.has_text,
       length-append g.front r.rest,
     )
-
--- the reading of what a pause was made of
-pub paused_reading : (given : Settings) (text : List ℕ) (so_far : GivenSoFar) (p : Paused) → IsPaused p → PausesAt given text so_far p → HasReading given text so_far Reading
-paused_reading given text so_far p is at = ends_so given text so_far (giver_at p) Reading is.has_no_rounds is.has_no_records refl at

@@ -29,7 +29,8 @@ kind_faults-taken g c (Continued f) page = refl
 kind_faults-taken g c EndOfSection page = refl
 kind_faults-taken g c Flush page = refl
 
-head_faults-taken : (g : List (List PageRecord)) (c : StreamProgress) (flags : ℕ) (k : Option RecordKind) (page : ℕ) → head_faults (with_taken g c) flags k page ≡ head_faults c flags k page
+head_faults-taken : (g : List (List PageRecord)) (c : StreamProgress) (flags : ℕ) (k : Option RecordKind) (page : ℕ)
+    → head_faults (with_taken g c) flags k page ≡ head_faults c flags k page
 head_faults-taken g c flags None page = refl
 head_faults-taken g c flags (Some k) page = kind_faults-taken g c k page
 
@@ -51,28 +52,34 @@ faults-taken g c Footer item = refl
 faults-taken g c (Passed passed) item = refl
 faults-taken g c Nothing item = refl
 
-flush_rounds-taken : (g : List (List PageRecord)) (ends : Bool) (rounds : List (List PageRecord)) (records : List PageRecord) → flush_rounds ends (g ++ rounds) records ≡ g ++ flush_rounds ends rounds records
+flush_rounds-taken : (g : List (List PageRecord)) (ends : Bool) (rounds : List (List PageRecord)) (records : List PageRecord)
+    → flush_rounds ends (g ++ rounds) records ≡ g ++ flush_rounds ends rounds records
 flush_rounds-taken g true rounds records = append_assoc g rounds (records ∷ [])
 flush_rounds-taken g false rounds records = refl
 
 flush_records-taken : (g : List (List PageRecord)) (c : StreamProgress) → flush_records (with_taken g c) ≡ with_taken g (flush_records c)
 flush_records-taken g c =
-    ap (λ (r : List (List PageRecord)). record (flush_records c) { rounds = r }) (flush_rounds-taken g (flush_ends c.mode (is_start c.section) (has_none c.records)) c.rounds c.records)
+    ap (λ (r : List (List PageRecord)). record (flush_records c) { rounds = r })
+    (flush_rounds-taken g (flush_ends c.mode (is_start c.section) (has_none c.records)) c.rounds c.records)
 
-eos_rounds-taken : (g : List (List PageRecord)) (m : Mode) (rounds : List (List PageRecord)) (records : List PageRecord) → eos_rounds m (g ++ rounds) records ≡ g ++ eos_rounds m rounds records
+eos_rounds-taken : (g : List (List PageRecord)) (m : Mode) (rounds : List (List PageRecord)) (records : List PageRecord)
+    → eos_rounds m (g ++ rounds) records ≡ g ++ eos_rounds m rounds records
 eos_rounds-taken g Single rounds records = refl
 eos_rounds-taken g Main rounds records = refl
 eos_rounds-taken g MainBySection rounds records = append_assoc g rounds (records ∷ [])
 eos_rounds-taken g MainAsShown rounds records = append_assoc g rounds (records ∷ [])
 
-after_kind-taken : (g : List (List PageRecord)) (c : StreamProgress) (k : RecordKind) (page : ℕ) → after_kind (with_taken g c) k page ≡ with_taken g (after_kind c k page)
+after_kind-taken : (g : List (List PageRecord)) (c : StreamProgress) (k : RecordKind) (page : ℕ)
+    → after_kind (with_taken g c) k page ≡ with_taken g (after_kind c k page)
 after_kind-taken g c SizeList page = refl
 after_kind-taken g c (Named f) page = refl
 after_kind-taken g c (Continued f) page = refl
-after_kind-taken g c EndOfSection page = ap (λ (x : List (List PageRecord)). record (end_records c) { rounds = x }) (eos_rounds-taken g c.mode c.rounds c.records)
+after_kind-taken g c EndOfSection page =
+    ap (λ (x : List (List PageRecord)). record (end_records c) { rounds = x }) (eos_rounds-taken g c.mode c.rounds c.records)
 after_kind-taken g c Flush page = flush_records-taken g c
 
-after_head-taken : (g : List (List PageRecord)) (c : StreamProgress) (k : Option RecordKind) (page : ℕ) → after_head (with_taken g c) k page ≡ with_taken g (after_head c k page)
+after_head-taken : (g : List (List PageRecord)) (c : StreamProgress) (k : Option RecordKind) (page : ℕ)
+    → after_head (with_taken g c) k page ≡ with_taken g (after_head c k page)
 after_head-taken g c None page = refl
 after_head-taken g c (Some k) page = after_kind-taken g c k page
 
@@ -84,18 +91,22 @@ choice f false x y = refl
 after_type-taken : (g : List (List PageRecord)) (c : StreamProgress) (b : ℕ) → after_type (with_taken g c) b ≡ with_taken g (after_type c b)
 after_type-taken g c b = sym (simp (choice (with_taken g)))
 
-after_type_byte-taken : (g : List (List PageRecord)) (c : StreamProgress) (before : Before) (b : ℕ) → after_type_byte (with_taken g c) before b ≡ with_taken g (after_type_byte c before b)
+after_type_byte-taken : (g : List (List PageRecord)) (c : StreamProgress) (before : Before) (b : ℕ)
+    → after_type_byte (with_taken g c) before b ≡ with_taken g (after_type_byte c before b)
 after_type_byte-taken g c before b =
     ap (λ (x : StreamProgress). cond (is_passed c.frame before b) (with_taken g (record c { due = Passed (passed_by before b) })) x) (after_type-taken g c b)
     ∙ sym (choice (with_taken g) (is_passed c.frame before b) (record c { due = Passed (passed_by before b) }) (after_type c b))
 
-whole_rounds-taken : (g : List (List PageRecord)) (m : Mode) (rounds : List (List PageRecord)) (records : List PageRecord) → whole_rounds m (g ++ rounds) records ≡ g ++ whole_rounds m rounds records
+whole_rounds-taken : (g : List (List PageRecord)) (m : Mode) (rounds : List (List PageRecord)) (records : List PageRecord)
+    → whole_rounds m (g ++ rounds) records ≡ g ++ whole_rounds m rounds records
 whole_rounds-taken g Single rounds records = append_assoc g rounds (records ∷ [])
 whole_rounds-taken g Main rounds records = refl
 whole_rounds-taken g MainBySection rounds records = refl
 whole_rounds-taken g MainAsShown rounds records = refl
 
-pub after_item-taken : (g : List (List PageRecord)) (c : StreamProgress) (d : Due) (item : List ℕ) → after_item (with_taken g c) d item ≡ with_taken g (after_item c d item)
+-- rounds that were taken change nothing of what an item does
+pub after_item-taken : (g : List (List PageRecord)) (c : StreamProgress) (d : Due) (item : List ℕ)
+    → after_item (with_taken g c) d item ≡ with_taken g (after_item c d item)
 after_item-taken g c FileHeader item = refl
 after_item-taken g c (TypeByte b) item = after_type_byte-taken g c b (slice_index item 0)
 after_item-taken g c ConfigLength item = refl
@@ -115,6 +126,7 @@ after_item-taken g c Footer item = ap (λ (x : List (List PageRecord)). record (
 after_item-taken g c (Passed passed) item = refl
 after_item-taken g c Nothing item = refl
 
+-- rounds that were taken change no fault
 pub AreFaultless-taken : (g : List (List PageRecord)) (c : StreamProgress) (items : List (List ℕ)) → AreFaultless c items → AreFaultless (with_taken g c) items
 AreFaultless-taken g c [] free = tt
 AreFaultless-taken g c (item ∷ items) free = (
@@ -123,10 +135,13 @@ AreFaultless-taken g c (item ∷ items) free = (
   subst (λ (x : StreamProgress). AreFaultless x items) (sym (after_item-taken g c c.due item)) (AreFaultless-taken g (after c item) items free.2),
 )
 
-pub after_all-taken : (g : List (List PageRecord)) (c : StreamProgress) (items : List (List ℕ)) → after_all (with_taken g c) items ≡ with_taken g (after_all c items)
+-- rounds that were taken change nothing of what items do
+pub after_all-taken : (g : List (List PageRecord)) (c : StreamProgress) (items : List (List ℕ))
+    → after_all (with_taken g c) items ≡ with_taken g (after_all c items)
 after_all-taken g c [] = refl
 after_all-taken g c (item ∷ items) = ap (λ (x : StreamProgress). after_all x items) (after_item-taken g c c.due item) ∙ after_all-taken g (after c item) items
 
+-- rounds that were taken change nothing of a front
 pub Front-taken : (g : List (List PageRecord)) (c d : StreamProgress) (bytes : List ℕ) → Front c bytes d → Front (with_taken g c) bytes (with_taken g d)
 Front-taken g c d bytes f = record {
   items = f.items;
@@ -135,6 +150,7 @@ Front-taken g c d bytes f = record {
   leads_to = ap (with_taken g) f.leads_to ∙ sym (after_all-taken g c f.items);
 }
 
+-- rounds that were taken change nothing of how the reading ends
 pub Ends-taken : (g : List (List PageRecord)) (c : StreamProgress) (rest : List ℕ) (s : StreamState) → Ends c rest s → Ends (with_taken g c) rest s
 Ends-taken g c rest Reading e = e
 Ends-taken g c rest Closed e = e
@@ -148,7 +164,9 @@ Ends-more c rest piece Reading other e = absurd (other refl)
 Ends-more c rest piece Closed other e = e
 Ends-more c rest piece (Bad f) other e = (e.0, e.1 ++ piece, ap (λ (x : List ℕ). x ++ piece) e.2 ∙ append_assoc e.0 e.1 piece, e.3, e.4)
 
-pub Reads-more : (from : StreamProgress) (text : List ℕ) (to : StreamProgress) (rest piece : List ℕ) (s : StreamState) → s ≢ Reading → Reads from text to rest s → Reads from (text ++ piece) to (rest ++ piece) s
+-- once the reading has ended, more bytes only lengthen the rest
+pub Reads-more : (from : StreamProgress) (text : List ℕ) (to : StreamProgress) (rest piece : List ℕ) (s : StreamState)
+    → s ≢ Reading → Reads from text to rest s → Reads from (text ++ piece) to (rest ++ piece) s
 Reads-more from text to rest piece s other r = record {
   front = r.front;
   has_text = ap (λ (x : List ℕ). x ++ piece) r.has_text ∙ append_assoc r.front rest piece;
@@ -161,7 +179,8 @@ pub Reads-on : (g : List (List PageRecord)) (from mid to : StreamProgress) (text
     → Reads from text (with_taken g mid) kept Reading → Reads mid (kept ++ piece) to rest s → Reads from (text ++ piece) (with_taken g to) rest s
 Reads-on g from mid to text kept piece rest s r q = record {
   front = r.front ++ q.front;
-  has_text = ap (λ (x : List ℕ). x ++ piece) r.has_text ∙ append_assoc r.front kept piece ∙ ap (λ (x : List ℕ). r.front ++ x) q.has_text ∙ sym (append_assoc r.front q.front rest);
+  has_text = ap (λ (x : List ℕ). x ++ piece) r.has_text ∙ append_assoc r.front kept piece
+      ∙ ap (λ (x : List ℕ). r.front ++ x) q.has_text ∙ sym (append_assoc r.front q.front rest);
   leads = Front-append from (with_taken g mid) (with_taken g to) r.front q.front r.leads (Front-taken g mid to q.front q.leads);
   ends = Ends-taken g to rest s q.ends;
 }

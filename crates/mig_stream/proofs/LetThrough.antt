@@ -1,8 +1,8 @@
 -- A closed stream is read so under each limit that none of its rounds passes.
-use Rattle.std.proofs.Common.{◌≡◌, ◌≢◌, ◌%◌, ◌/◌, ◌<◌, ◌≤◌, ◌&&◌, eqb, ℕ, Bool, true, false, cond, List, [], ◌∷◌, ◌++◌, length, Option, Some, None, refl, sym, ap, subst, ◌∙◌, inl, inr, arith}
+use Rattle.std.proofs.Common.{◌≡◌, ◌≢◌, ◌%◌, ◌/◌, ◌<◌, ◌≤◌, eqb, ℕ, Bool, true, false, cond, List, [], ◌∷◌, ◌++◌, length, Option, Some, None, refl, sym, ap, subst, ◌∙◌, inl, inr, arith}
 use Rattle.std.specs.Prelude.{◌⊎◌, nat_le, slice_index}
 use Rattle.std.specs.List.{All, list_all}
-use Rattle.std.proofs.lemmas.Bool.{cases_Bool, cond_both, le-leb, lt-leb}
+use Rattle.std.proofs.lemmas.Bool.{cases_Bool, cond_both, le-leb, lt-leb, and_left, and_right}
 use Rattle.std.proofs.lemmas.List.{length-append}
 use Rattle.std.proofs.lemmas.List.Elements.{All-head, All-tail}
 use Rattle.std.proofs.lemmas.List.Folds.{list_all-append}
@@ -45,25 +45,21 @@ abbrev IsOverAt : ℕ → StreamProgress → Type 0
 IsOverAt limit c = IsOver limit c.rounds c.records c.due
 
 -- without a record that was begun another item may be due
-over_due : (limit : ℕ) (rounds : List (List PageRecord)) (records : List PageRecord) (d e : Due) → is_coming d ≡ false → IsOver limit rounds records d → IsOver limit rounds records e
+over_due : (limit : ℕ) (rounds : List (List PageRecord)) (records : List PageRecord) (d e : Due) → is_coming d ≡ false
+    → IsOver limit rounds records d → IsOver limit rounds records e
 over_due limit rounds records d e none (inl long) = inl long
 over_due limit rounds records d e none (inr (inl long)) = inr (inl long)
 over_due limit rounds records d e none (inr (inr coming)) = absurd (let clash : true ≡ false = sym coming.0 ∙ none in cc)
 
-few_and : (a b : Bool) → a ≡ false → (a && b) ≡ false
-few_and a b e = rw e refl
-
-and_few : (a b : Bool) → b ≡ false → (a && b) ≡ false
-and_few true b e = e
-and_few false b e = refl
-
 -- the open round is whole
-over_ended : (limit : ℕ) (rounds : List (List PageRecord)) (records : List PageRecord) (d e : Due) → is_coming d ≡ false → IsOver limit rounds records d → IsOver limit (rounds ++ records ∷ []) [] e
+over_ended : (limit : ℕ) (rounds : List (List PageRecord)) (records : List PageRecord) (d e : Due) → is_coming d ≡ false
+    → IsOver limit rounds records d → IsOver limit (rounds ++ records ∷ []) [] e
 over_ended limit rounds records d e none (inl long) =
-    inl (list_all-append (is_few limit) rounds (records ∷ []) ∙ few_and (list_all (is_few limit) rounds) (list_all (is_few limit) (records ∷ [])) long)
+    inl (list_all-append (is_few limit) rounds (records ∷ []) ∙ and_left (list_all (is_few limit) rounds) (list_all (is_few limit) (records ∷ [])) long)
 over_ended limit rounds records d e none (inr (inl long)) =
     inl (list_all-append (is_few limit) rounds (records ∷ [])
-    ∙ and_few (list_all (is_few limit) rounds) (list_all (is_few limit) (records ∷ [])) (few_and (is_few limit records) true (lt-leb (length records) limit long)))
+    ∙ and_right (list_all (is_few limit) rounds) (list_all (is_few limit) (records ∷ []))
+    (and_left (is_few limit records) true (lt-leb (length records) limit long)))
 over_ended limit rounds records d e none (inr (inr coming)) = absurd (let clash : true ≡ false = sym coming.0 ∙ none in cc)
 
 -- a FLUSH that ends no round follows no record
@@ -75,24 +71,28 @@ none_dropped MainBySection in_start (r ∷ records) e = absurd cc
 none_dropped MainAsShown true (r ∷ records) e = absurd cc
 none_dropped MainAsShown false (r ∷ records) e = absurd cc
 
-over_dropped : (limit : ℕ) (rounds : List (List PageRecord)) (records : List PageRecord) (d e : Due) → is_coming d ≡ false → records ≡ [] → IsOver limit rounds records d → IsOver limit rounds [] e
+over_dropped : (limit : ℕ) (rounds : List (List PageRecord)) (records : List PageRecord) (d e : Due) → is_coming d ≡ false
+    → records ≡ [] → IsOver limit rounds records d → IsOver limit rounds [] e
 over_dropped limit rounds records d e none empty (inl long) = inl long
 over_dropped limit rounds records d e none empty (inr (inl long)) = absurd (omega (arith, long, ap (λ (l : List PageRecord). length l) empty))
 over_dropped limit rounds records d e none empty (inr (inr coming)) = absurd (let clash : true ≡ false = sym coming.0 ∙ none in cc)
 
-over_flush : (ends : Bool) (limit : ℕ) (rounds : List (List PageRecord)) (records : List PageRecord) (d e : Due) → is_coming d ≡ false → (ends ≡ false → records ≡ []) → IsOver limit rounds records d
+over_flush : (ends : Bool) (limit : ℕ) (rounds : List (List PageRecord)) (records : List PageRecord) (d e : Due)
+    → is_coming d ≡ false → (ends ≡ false → records ≡ []) → IsOver limit rounds records d
     → IsOver limit (flush_rounds ends rounds records) [] e
 over_flush true limit rounds records d e none dropped over = over_ended limit rounds records d e none over
 over_flush false limit rounds records d e none dropped over = over_dropped limit rounds records d e none (dropped refl) over
 
-over_eos : (m : Mode) (limit : ℕ) (rounds : List (List PageRecord)) (records : List PageRecord) (d e : Due) → is_coming d ≡ false → IsOver limit rounds records d
+over_eos : (m : Mode) (limit : ℕ) (rounds : List (List PageRecord)) (records : List PageRecord) (d e : Due) → is_coming d ≡ false
+    → IsOver limit rounds records d
     → IsOver limit (eos_rounds m rounds records) (eos_records m records) e
 over_eos Single limit rounds records d e none over = over_due limit rounds records d e none over
 over_eos Main limit rounds records d e none over = over_due limit rounds records d e none over
 over_eos MainBySection limit rounds records d e none over = over_ended limit rounds records d e none over
 over_eos MainAsShown limit rounds records d e none over = over_ended limit rounds records d e none over
 
-over_section : (m : Mode) (limit : ℕ) (rounds : List (List PageRecord)) (records : List PageRecord) (d e : Due) → is_coming d ≡ false → IsOver limit rounds records d
+over_section : (m : Mode) (limit : ℕ) (rounds : List (List PageRecord)) (records : List PageRecord) (d e : Due)
+    → is_coming d ≡ false → IsOver limit rounds records d
     → IsOver limit (whole_rounds m rounds records) (open_records m records) e
 over_section Single limit rounds records d e none over = over_ended limit rounds records d e none over
 over_section Main limit rounds records d e none over = over_due limit rounds records d e none over
@@ -103,7 +103,8 @@ over_section MainAsShown limit rounds records d e none over = over_due limit rou
 over_record : (limit : ℕ) (c : StreamProgress) (place : Place) (content : Option (List ℕ)) → IsOverAt limit c → IsOverAt limit (with_record c place content)
 over_record limit c place content (inl long) = inl long
 over_record limit c place content (inr (inl long)) = inr (inl (omega (arith, long, length-append c.records (record { place = place; content = content } ∷ []))))
-over_record limit c place content (inr (inr coming)) = inr (inl (omega (arith, coming.1, length-append c.records (record { place = place; content = content } ∷ []))))
+over_record limit c place content (inr (inr coming)) =
+    inr (inl (omega (arith, coming.1, length-append c.records (record { place = place; content = content } ∷ []))))
 
 -- ---- an item
 
@@ -115,28 +116,33 @@ over_type limit c byte none over =
     cond_both (eqb byte 2) _ _ (IsOverAt limit) (λ _. other SectionHead) (λ _.
     cond_both (eqb byte 3) _ _ (IsOverAt limit) (λ _. other SectionHead) (λ _. other Nothing))))
 
-over_kind : (limit : ℕ) (c : StreamProgress) (kind : RecordKind) (page : ℕ) → is_coming c.due ≡ false → IsOverAt limit c → IsOverAt limit (after_kind c kind page)
+over_kind : (limit : ℕ) (c : StreamProgress) (kind : RecordKind) (page : ℕ) → is_coming c.due ≡ false → IsOverAt limit c
+    → IsOverAt limit (after_kind c kind page)
 over_kind limit c SizeList page none over = over_due limit c.rounds c.records c.due (after_kind c SizeList page).due none over
 over_kind limit c (Named filling) page none over = over_due limit c.rounds c.records c.due (after_kind c (Named filling) page).due none over
 over_kind limit c (Continued filling) page none over = over_due limit c.rounds c.records c.due (after_kind c (Continued filling) page).due none over
 over_kind limit c EndOfSection page none over = over_eos c.mode limit c.rounds c.records c.due Footer none over
 over_kind limit c Flush page none over =
-    over_flush (flush_ends c.mode (is_start c.section) (has_none c.records)) limit c.rounds c.records c.due RecordHead none (none_dropped c.mode (is_start c.section) c.records) over
+    over_flush (flush_ends c.mode (is_start c.section) (has_none c.records)) limit c.rounds c.records c.due RecordHead none
+    (none_dropped c.mode (is_start c.section) c.records) over
 
-over_head : (limit : ℕ) (c : StreamProgress) (kind : Option RecordKind) (page : ℕ) → is_coming c.due ≡ false → IsOverAt limit c → IsOverAt limit (after_head c kind page)
+over_head : (limit : ℕ) (c : StreamProgress) (kind : Option RecordKind) (page : ℕ) → is_coming c.due ≡ false → IsOverAt limit c
+    → IsOverAt limit (after_head c kind page)
 over_head limit c None page none over = over
 over_head limit c (Some kind) page none over = over_kind limit c kind page none over
 
 over_item : (limit : ℕ) (c : StreamProgress) (d : Due) (item : List ℕ) → c.due ≡ d → IsOverAt limit c → IsOverAt limit (after_item c d item)
 over_item limit c FileHeader item here over = over_due limit c.rounds c.records c.due (after_item c FileHeader item).due (ap is_coming here) over
 over_item limit c (TypeByte b) item here over =
-    cond_both (is_passed c.frame b (slice_index item 0)) _ _ (IsOverAt limit) (λ _. over_due limit c.rounds c.records c.due (record c { due = Passed (passed_by b (slice_index item 0)) }).due (ap is_coming here) over)
+    cond_both (is_passed c.frame b (slice_index item 0)) _ _ (IsOverAt limit)
+    (λ _. over_due limit c.rounds c.records c.due (record c { due = Passed (passed_by b (slice_index item 0)) }).due (ap is_coming here) over)
     (λ _. over_type limit c (slice_index item 0) (ap is_coming here) over)
 over_item limit c ConfigLength item here over = over_due limit c.rounds c.records c.due (after_item c ConfigLength item).due (ap is_coming here) over
 over_item limit c (ConfigName n) item here over = over_due limit c.rounds c.records c.due (after_item c (ConfigName n) item).due (ap is_coming here) over
 over_item limit c StartHead item here over = over_due limit c.rounds c.records c.due (after_item c StartHead item).due (ap is_coming here) over
 over_item limit c SectionHead item here over = over_due limit c.rounds c.records c.due (after_item c SectionHead item).due (ap is_coming here) over
-over_item limit c RecordHead item here over = over_head limit c (record_kind (be64_at 0 item % c.page_size)) (be64_at 0 item / c.page_size) (ap is_coming here) over
+over_item limit c RecordHead item here over =
+    over_head limit c (record_kind (be64_at 0 item % c.page_size)) (be64_at 0 item / c.page_size) (ap is_coming here) over
 over_item limit c ListEntry item here over = over_due limit c.rounds c.records c.due (after_item c ListEntry item).due (ap is_coming here) over
 over_item limit c (PageSize true) item here over =
     cond_both (is_page_size item) _ _ (IsOverAt limit) (λ _. over_due limit c.rounds c.records c.due RecordHead (ap is_coming here) over)
@@ -159,7 +165,8 @@ over_all limit c (item ∷ items) over = over_all limit (after c item) items (ov
 
 -- ---- the item at which a limit is passed begins a record
 
-begins_kind : (c : StreamProgress) (kind : RecordKind) (page : ℕ) → first_of (kind_faults c kind page) ≡ Some Waiting → (is_coming (after_kind (freed c) kind page).due ≡ true) × ((after_kind (freed c) kind page).records ≡ c.records)
+begins_kind : (c : StreamProgress) (kind : RecordKind) (page : ℕ) → first_of (kind_faults c kind page) ≡ Some Waiting
+    → (is_coming (after_kind (freed c) kind page).due ≡ true) × ((after_kind (freed c) kind page).records ≡ c.records)
 begins_kind c SizeList page e = absurd (never (kind_faults c SizeList page) refl e)
 begins_kind c (Named filling) page e = (refl, refl)
 begins_kind c (Continued filling) page e = (refl, refl)
@@ -172,11 +179,13 @@ begins_head c flags None page e = absurd cc
 begins_head c flags (Some kind) page e = begins_kind c kind page e
 
 begins_sized : (b : Bool) (c : StreamProgress) (item : List ℕ) → first_of (cond b [] (record_faults c item)) ≡ Some Waiting
-    → (is_coming (cond b (record (freed c) { due = RecordHead }) (after_record (freed c) item)).due ≡ true) × ((cond b (record (freed c) { due = RecordHead }) (after_record (freed c) item)).records ≡ c.records)
+    → (is_coming (cond b (record (freed c) { due = RecordHead }) (after_record (freed c) item)).due ≡ true)
+    × ((cond b (record (freed c) { due = RecordHead }) (after_record (freed c) item)).records ≡ c.records)
 begins_sized true c item e = absurd cc
 begins_sized false c item e = begins_head c (be64_at 0 item % c.page_size) (record_kind (be64_at 0 item % c.page_size)) (be64_at 0 item / c.page_size) e
 
-begins_item : (c : StreamProgress) (d : Due) (item : List ℕ) → first_of (faults c d item) ≡ Some Waiting → (is_coming (after_item (freed c) d item).due ≡ true) × ((after_item (freed c) d item).records ≡ c.records)
+begins_item : (c : StreamProgress) (d : Due) (item : List ℕ) → first_of (faults c d item) ≡ Some Waiting
+    → (is_coming (after_item (freed c) d item).due ≡ true) × ((after_item (freed c) d item).records ≡ c.records)
 begins_item c FileHeader item e = absurd (never (faults c FileHeader item) refl e)
 begins_item c (TypeByte b) item e = absurd (never (faults c (TypeByte b) item) refl e)
 begins_item c ConfigLength item e = absurd (never (faults c ConfigLength item) refl e)
@@ -197,9 +206,13 @@ begins_item c Nothing item e = absurd (never (faults c Nothing item) refl e)
 -- ---- all items are let through
 
 is_that : (f : StreamFault) → (f ≡ Waiting) ⊎ (f ≢ Waiting)
-is_that f = elim (cases_Bool (is_waiting f)) [ inl t ↦ inl (waiting_is f t) | inr n ↦ inr (λ e. absurd (let clash : true ≡ false = sym (ap is_waiting e) ∙ n in cc)) ]
+is_that f = elim (cases_Bool (is_waiting f)) [
+  | inl t ↦ inl (waiting_is f t)
+  | inr n ↦ inr (λ e. absurd (let clash : true ≡ false = sym (ap is_waiting e) ∙ n in cc))
+]
 
-lets_item : (limit : ℕ) (c : StreamProgress) (item : List ℕ) → FitsAt limit c → first_fault (freed c) item ≡ None → (IsOverAt limit (after (freed c) item) → ⊥) → (o : Option StreamFault) → first_fault c item ≡ o → first_fault c item ≡ None
+lets_item : (limit : ℕ) (c : StreamProgress) (item : List ℕ) → FitsAt limit c → first_fault (freed c) item ≡ None
+    → (IsOverAt limit (after (freed c) item) → ⊥) → (o : Option StreamFault) → first_fault c item ≡ o → first_fault c item ≡ None
 lets_item limit c item f free never_over None e = e
 lets_item limit c item f free never_over (Some g) e = elim (is_that g) [
   | inr other ↦ absurd (
@@ -212,10 +225,12 @@ lets_item limit c item f free never_over (Some g) e = elim (is_that g) [
       never_over (inr (inr (begun.0, omega (arith, full, ap (λ (l : List PageRecord). length l) begun.1)))))
 ]
 
-lets_all : (limit : ℕ) (c : StreamProgress) (items : List (List ℕ)) → FitsAt limit c → AreFaultless (freed c) items → (IsOverAt limit (after_all (freed c) items) → ⊥) → AreFaultless c items
+lets_all : (limit : ℕ) (c : StreamProgress) (items : List (List ℕ)) → FitsAt limit c → AreFaultless (freed c) items
+    → (IsOverAt limit (after_all (freed c) items) → ⊥) → AreFaultless c items
 lets_all limit c [] f free never_over = tt
 lets_all limit c (item ∷ items) f free never_over =
-    let here : first_fault c item ≡ None = lets_item limit c item f free.1 (λ over. never_over (over_all limit (after (freed c) item) items over)) (first_fault c item) refl in
+    let here : first_fault c item ≡ None = lets_item limit c item f free.1
+    (λ over. never_over (over_all limit (after (freed c) item) items over)) (first_fault c item) refl in
     let there : after (freed c) item ≡ freed (after c item) = freed_item c c.due item in (
       record { is_due = free.0.is_due; is_whole = free.0.is_whole },
       here,
@@ -239,11 +254,13 @@ all_few limit (round ∷ rounds) all =
     rw (le-leb (length round) limit (All-head (λ (r : List PageRecord). length r ≤ limit) round rounds all))
     (all_few limit rounds (All-tail (λ (r : List PageRecord). length r ≤ limit) round rounds all))
 
-not_over : (limit : ℕ) (c : StreamProgress) → All (λ (round : List PageRecord). length round ≤ limit) c.rounds → c.records ≡ [] → c.due ≡ Nothing → IsOverAt limit c → ⊥
+not_over : (limit : ℕ) (c : StreamProgress) → All (λ (round : List PageRecord). length round ≤ limit) c.rounds → c.records ≡ []
+    → c.due ≡ Nothing → IsOverAt limit c → ⊥
 not_over limit c few none closed (inl long) = absurd (let clash : true ≡ false = sym (all_few limit c.rounds few) ∙ long in cc)
 not_over limit c few none closed (inr (inl long)) = omega (arith, long, ap (λ (l : List PageRecord). length l) none)
 not_over limit c few none closed (inr (inr coming)) = absurd (let clash : true ≡ false = sym coming.0 ∙ ap is_coming closed in cc)
 
+-- a closed stream whose rounds are within the limit is read under it as without it
 pub through_law : LimitLetsThrough
 through_law given limit text reading waits is closed few =
     let ends : is.to.due ≡ Nothing = subst (λ (s : StreamState). Ends is.to is.rest s) closed is.reads.ends in
@@ -252,7 +269,8 @@ through_law given limit text reading waits is closed few =
     (closed_none (with_waiting None given) is.reads.front is.to is.reads.leads ends) ends in
     let items : List (List ℕ) = is.reads.leads.items in
     let free : AreFaultless (from given) items =
-    lets_all limit (from given) items (first_fits given limit waits) is.reads.leads.are_faultless (subst (λ (x : StreamProgress). IsOverAt limit x → ⊥) is.reads.leads.leads_to never_over) in
+    lets_all limit (from given) items (first_fits given limit waits) is.reads.leads.are_faultless
+    (subst (λ (x : StreamProgress). IsOverAt limit x → ⊥) is.reads.leads.leads_to never_over) in
     let to : StreamProgress = after_all (from given) items in
     let same : is.to ≡ freed to = is.reads.leads.leads_to ∙ freed_all (from given) items in
     record {

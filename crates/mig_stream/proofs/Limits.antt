@@ -84,7 +84,8 @@ few_item c StartHead item whole = omega arith
 few_item c SectionHead item whole = omega arith
 few_item c RecordHead item whole = few_head c _ _ (length item) (omega arith)
 few_item c ListEntry item whole = omega arith
-few_item c (PageSize true) item whole = cond_both (is_page_size item) _ _ (HasFew c.rounds (length item)) (λ _. omega arith) (λ _. few_head c _ _ (length item) (omega (arith, whole)))
+few_item c (PageSize true) item whole = cond_both (is_page_size item) _ _ (HasFew c.rounds (length item)) (λ _. omega arith)
+    (λ _. few_head c _ _ (length item) (omega (arith, whole)))
 few_item c (PageSize false) item whole = cond_both (is_page_size item) _ _ (HasFew c.rounds (length item)) (λ _. omega arith) (λ _. omega arith)
 few_item c (BlockName filling page) item whole = omega arith
 few_item c (Content Zero place) item whole = omega arith
@@ -185,14 +186,16 @@ passes_first : (tests : List (Bool × StreamFault)) → first_of tests ≡ None 
 passes_first [] free = tt
 passes_first (test ∷ tests) free = (passed test.0 test.1 tests free).0
 
-waits_kind : (c : StreamProgress) (kind : RecordKind) (page : ℕ) → Waits c RecordHead → PassesFirst (kind_faults c kind page) → IsWaiting (after_kind c kind page)
+waits_kind : (c : StreamProgress) (kind : RecordKind) (page : ℕ) → Waits c RecordHead → PassesFirst (kind_faults c kind page)
+    → IsWaiting (after_kind c kind page)
 waits_kind c SizeList page w none = λ _. ((w (not_begun c.left none)).0, (w (not_begun c.left none)).1, tt)
 waits_kind c (Named filling) page w begun = λ open_. no_record c w begun open_
 waits_kind c (Continued filling) page w begun = λ open_. no_record c w begun open_
 waits_kind c EndOfSection page w begun = λ open_. no_record c w begun open_
 waits_kind c Flush page w begun = λ open_. no_record c w begun open_
 
-waits_head : (c : StreamProgress) (flags : ℕ) (kind : Option RecordKind) (page : ℕ) → Waits c RecordHead → first_of (head_faults c flags kind page) ≡ None → IsWaiting (after_head c kind page)
+waits_head : (c : StreamProgress) (flags : ℕ) (kind : Option RecordKind) (page : ℕ) → Waits c RecordHead
+    → first_of (head_faults c flags kind page) ≡ None → IsWaiting (after_head c kind page)
 waits_head c flags None page w free = absurd (let clash = passes_first (head_faults c flags None page) free in cc)
 waits_head c flags (Some kind) page w free = waits_kind c kind page w (passes_first (kind_faults c kind page) free)
 
@@ -213,7 +216,11 @@ may_list (Some n) = tt
 
 waits_entry : (c : StreamProgress) (d : Due) (item : List ℕ) → Waits c d → IsWaiting (after_entry c item)
 waits_entry c d item w =
-    λ open_. ((w (left_before c.left (length_in item) open_)).0, (w (left_before c.left (length_in item) open_)).1, entry_follows c.form (unwrap_or c.left 0 - length_in item == 0) open_)
+    λ open_. (
+      (w (left_before c.left (length_in item) open_)).0,
+      (w (left_before c.left (length_in item) open_)).1,
+      entry_follows c.form (unwrap_or c.left 0 - length_in item == 0) open_,
+    )
 
 -- no page size is due of the last entry, before the list is used up
 no_size : (left : Option ℕ) → MayBeDue left (PageSize true) → ⊥
@@ -245,7 +252,8 @@ waits_item c SectionHead item v w free = waits_on c SectionHead RecordHead (λ h
 waits_item c RecordHead item v w free = waits_head c _ _ _ w free
 waits_item c ListEntry item v w free = waits_entry c ListEntry item w
 waits_item c (PageSize true) item v w free =
-    cond_both (is_page_size item) _ _ IsWaiting (λ _. waits_sized c RecordHead w) (λ isnt. waits_head c _ _ _ (waits_sized c RecordHead w) (not_size (is_page_size item) (record_faults c item) isnt free))
+    cond_both (is_page_size item) _ _ IsWaiting (λ _. waits_sized c RecordHead w)
+    (λ isnt. waits_head c _ _ _ (waits_sized c RecordHead w) (not_size (is_page_size item) (record_faults c item) isnt free))
 waits_item c (PageSize false) item v w free =
     cond_both (is_page_size item) _ _ IsWaiting (λ _ open_. ((w open_).0, (w open_).1, may_list c.left)) (λ _. waits_entry c (PageSize false) item w)
 waits_item c (BlockName filling page) item v w free = λ open_. absurd (no_name c.left filling page (w open_).2)
@@ -275,15 +283,19 @@ the_table true t u e = let back : Some u ≡ Some t = sym e in cc
 the_table false t u e = absurd cc
 
 -- a front has few rounds
-pub few_front : (frame : Frame) (mode : Mode) (page_size limit : ℕ) (waiting : Option ℕ) (bytes : List ℕ) (c : StreamProgress) → Front (start frame mode page_size limit waiting) bytes c → length c.rounds ≤ length bytes
+pub few_front : (frame : Frame) (mode : Mode) (page_size limit : ℕ) (waiting : Option ℕ) (bytes : List ℕ) (c : StreamProgress)
+    → Front (start frame mode page_size limit waiting) bytes c → length c.rounds ≤ length bytes
 few_front frame mode page_size limit waiting bytes c f =
-    let few : HasFew [] (length (concat f.items)) c = subst (HasFew [] (length (concat f.items))) (sym f.leads_to) (few_all (start frame mode page_size limit waiting) f.items f.are_faultless) in
+    let few : HasFew [] (length (concat f.items)) c =
+    subst (HasFew [] (length (concat f.items))) (sym f.leads_to) (few_all (start frame mode page_size limit waiting) f.items f.are_faultless) in
     omega (arith, few, ap length f.has_bytes)
 
 -- and before its table neither a round nor a record
-pub none_first : (frame : Frame) (mode : Mode) (page_size limit : ℕ) (waiting : Option ℕ) (bytes : List ℕ) (c : StreamProgress) → Front (start frame mode page_size limit waiting) bytes c → whole_table c ≡ None → (c.rounds ≡ []) × (c.records ≡ [])
+pub none_first : (frame : Frame) (mode : Mode) (page_size limit : ℕ) (waiting : Option ℕ) (bytes : List ℕ) (c : StreamProgress)
+    → Front (start frame mode page_size limit waiting) bytes c → whole_table c ≡ None → (c.rounds ≡ []) × (c.records ≡ [])
 none_first frame mode page_size limit waiting bytes c f none =
-    let waits : IsWaiting c = subst IsWaiting (sym f.leads_to) (waits_all (start frame mode page_size limit waiting) f.items (λ open_. (refl, refl, tt)) f.are_faultless) in
+    let waits : IsWaiting c = subst IsWaiting (sym f.leads_to)
+    (waits_all (start frame mode page_size limit waiting) f.items (λ open_. (refl, refl, tt)) f.are_faultless) in
     let both = waits (no_table (is_used_up c.left) (table_of c) none) in
     (both.0, both.1)
 

@@ -39,7 +39,8 @@ table_stays old new table later whole =
     let used = used_up (is_used_up old.left) (table_of old) table whole in
     let same = later.same_table used.0 in
     let t : table_of new ≡ table_of old =
-    ap (λ (n : ℕ). record { page_size = n; blocks = new.blocks }) later.same_page_size ∙ ap (λ (l : List Block). record { page_size = old.page_size; blocks = l }) same.1 in
+    ap (λ (n : ℕ). record { page_size = n; blocks = new.blocks }) later.same_page_size
+    ∙ ap (λ (l : List Block). record { page_size = old.page_size; blocks = l }) same.1 in
     ap (λ (l : Option ℕ). then_some (is_used_up l) (table_of new)) same.0 ∙ ap (λ (x : RamTable). then_some (is_used_up old.left) x) t ∙ whole
 
 same_reading : (a b : StreamReading) → a.table ≡ b.table → a.rounds ≡ b.rounds → a.state ≡ b.state → a ≡ b
@@ -53,9 +54,11 @@ over : (given : Settings) (text more : List ℕ) (a b : StreamReading) → a.sta
 over given text more a b other is_a is_b =
     let on = Reads-more (from given) text is_a.to is_a.rest more a.state other is_a.reads in
     let same = one_reading (from given) (text ++ more) is_b.to is_a.to is_b.rest (is_a.rest ++ more) b.state a.state is_b.reads on in
-    same_reading b a (is_b.has_table ∙ ap whole_table same.0 ∙ sym is_a.has_table) (is_b.has_rounds ∙ ap (λ (c : StreamProgress). c.rounds) same.0 ∙ sym is_a.has_rounds) same.2
+    same_reading b a (is_b.has_table ∙ ap whole_table same.0 ∙ sym is_a.has_table)
+    (is_b.has_rounds ∙ ap (λ (c : StreamProgress). c.rounds) same.0 ∙ sym is_a.has_rounds) same.2
 
-stays_over : (a b : StreamReading) → b ≡ a → StaysRead a b
+-- a reading stays if it is the same
+pub stays_over : (a b : StreamReading) → b ≡ a → StaysRead a b
 stays_over a b e = record {
   more_rounds = [];
   has_rounds = ap (λ (x : StreamReading). x.rounds) e ∙ sym (append-nil a.rounds);
@@ -64,7 +67,8 @@ stays_over a b e = record {
 }
 
 -- a stream that hasn't ended is read on
-stays_on : (given : Settings) (text more : List ℕ) (a b : StreamReading) → IsPageSize given.page_size → a.state ≡ Reading → IsReading given text a → IsReading given (text ++ more) b → StaysRead a b
+stays_on : (given : Settings) (text more : List ℕ) (a b : StreamReading) → IsPageSize given.page_size → a.state ≡ Reading
+    → IsReading given text a → IsReading given (text ++ more) b → StaysRead a b
 stays_on given text more a b size open_ is_a is_b =
     let c : StreamProgress = is_a.to in
     let begun : IsLater (from given) c = IsLater-front (from given) c is_a.reads.front is_a.reads.leads in
@@ -78,7 +82,8 @@ stays_on given text more a b size open_ is_a is_b =
     let same = one_reading (from given) (text ++ more) is_b.to (with_taken c.rounds next.0) is_b.rest next.1 b.state next.2 is_b.reads on in
     record {
       more_rounds = next.0.rounds;
-      has_rounds = is_b.has_rounds ∙ ap (λ (x : StreamProgress). x.rounds) same.0 ∙ ap (λ (r : List (List PageRecord)). r ++ next.0.rounds) (sym is_a.has_rounds);
+      has_rounds = is_b.has_rounds ∙ ap (λ (x : StreamProgress). x.rounds) same.0
+          ∙ ap (λ (r : List (List PageRecord)). r ++ next.0.rounds) (sym is_a.has_rounds);
       same_table = λ table t.
           is_b.has_table ∙ ap whole_table same.0 ∙ table_stays mid next.0 table (IsLater-front mid next.0 next.3.front next.3.leads) (sym is_a.has_table ∙ t);
       same_once_over = λ other. absurd (other open_);

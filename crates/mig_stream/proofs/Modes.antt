@@ -14,17 +14,21 @@ use Rattle.mig_stream.proofs.Steps.{flush_keeps, eos_keeps}
 single_after : (m : Mode) (in_start : Bool) (before : List PageRecord) (rs : List Record) → is_single (mode_after m in_start before rs) ≡ is_single m
 single_after m in_start before [] = refl
 single_after m in_start before (PageOf continued r ∷ rs) = single_after m in_start (before ++ r ∷ []) rs
-single_after m in_start before (FlushMark ∷ rs) = single_after (flush_mode m in_start (has_none before)) in_start [] rs ∙ (flush_keeps m in_start (has_none before)).single
+single_after m in_start before (FlushMark ∷ rs) = single_after (flush_mode m in_start (has_none before)) in_start [] rs
+    ∙ (flush_keeps m in_start (has_none before)).single
 
 -- after a section
-pub single_kept : (m : Mode) (in_start : Bool) (before : List PageRecord) (rs : List Record) → is_single (eos_mode (mode_after m in_start before rs) in_start) ≡ is_single m
+pub single_kept : (m : Mode) (in_start : Bool) (before : List PageRecord) (rs : List Record)
+    → is_single (eos_mode (mode_after m in_start before rs) in_start) ≡ is_single m
 single_kept m in_start before rs = (eos_keeps (mode_after m in_start before rs) in_start).single ∙ single_after m in_start before rs
 
 -- after sections
-pub single_behind : (m : Mode) (in_start : Bool) (before : List PageRecord) (sections : List (List Record)) → is_single (mode_behind m in_start before sections) ≡ is_single m
+pub single_behind : (m : Mode) (in_start : Bool) (before : List PageRecord) (sections : List (List Record))
+    → is_single (mode_behind m in_start before sections) ≡ is_single m
 single_behind m in_start before [] = refl
 single_behind m in_start before (rs ∷ sections) =
-    single_behind (eos_mode (mode_after m in_start before rs) in_start) false (records_left (mode_after m in_start before rs) in_start (records_after before rs)) sections
+    single_behind (eos_mode (mode_after m in_start before rs) in_start) false
+    (records_left (mode_after m in_start before rs) in_start (records_after before rs)) sections
     ∙ single_kept m in_start before rs
 
 -- ---- the rounds of a mode that stays
@@ -69,9 +73,11 @@ eos_same MainAsShown in_start shown = absurd cc
 mode_same : (m : Mode) (in_start : Bool) (before : List PageRecord) (rs : List Record) → is_open m ≡ false → mode_after m in_start before rs ≡ m
 mode_same m in_start before [] shown = refl
 mode_same m in_start before (PageOf continued r ∷ rs) shown = mode_same m in_start (before ++ r ∷ []) rs shown
-mode_same m in_start before (FlushMark ∷ rs) shown = ap (λ (x : Mode). mode_after x in_start [] rs) (flush_same m in_start (has_none before) shown) ∙ mode_same m in_start [] rs shown
+mode_same m in_start before (FlushMark ∷ rs) shown =
+    ap (λ (x : Mode). mode_after x in_start [] rs) (flush_same m in_start (has_none before) shown) ∙ mode_same m in_start [] rs shown
 
-after_same : (m : Mode) (in_start : Bool) (before : List PageRecord) (rounds : List (List PageRecord)) (rs : List Record) → is_open m ≡ false → rounds_after m in_start before rounds rs ≡ flushed_after before rounds rs
+after_same : (m : Mode) (in_start : Bool) (before : List PageRecord) (rounds : List (List PageRecord)) (rs : List Record)
+    → is_open m ≡ false → rounds_after m in_start before rounds rs ≡ flushed_after before rounds rs
 after_same m in_start before rounds [] shown = refl
 after_same m in_start before rounds (PageOf continued r ∷ rs) shown = after_same m in_start (before ++ r ∷ []) rounds rs shown
 after_same m in_start before rounds (FlushMark ∷ rs) shown =
@@ -80,7 +86,10 @@ after_same m in_start before rounds (FlushMark ∷ rs) shown =
     ∙ ap (λ (ends : Bool). rounds_after m in_start [] (flush_rounds ends rounds before) rs) (ends_same m in_start none shown)
     ∙ after_same m in_start [] (rounds ++ before ∷ []) rs shown
 
-pub records_same : (m : Mode) (in_start : Bool) (before : List PageRecord) (sections : List (List Record)) → is_open m ≡ false → records_behind m in_start before sections ≡ records_fixed m before sections
+-- where FLUSH alone or EOS alone ends rounds, the records since the last end are the same by both
+-- definitions
+pub records_same : (m : Mode) (in_start : Bool) (before : List PageRecord) (sections : List (List Record)) → is_open m ≡ false
+    → records_behind m in_start before sections ≡ records_fixed m before sections
 records_same m in_start before [] shown = refl
 records_same m in_start before (rs ∷ sections) shown =
     let last : List PageRecord = records_after before rs in
@@ -88,16 +97,21 @@ records_same m in_start before (rs ∷ sections) shown =
     ∙ ap (λ (x : Mode). records_behind x false (open_records x (eos_records m last)) sections) (eos_same m in_start shown)
     ∙ records_same m false (open_records m (eos_records m last)) sections shown
 
+-- where FLUSH alone or EOS alone ends rounds, the rounds are the same by both definitions
 pub rounds_same : (m : Mode) (in_start : Bool) (before : List PageRecord) (rounds : List (List PageRecord)) (sections : List (List Record)) → is_open m ≡ false
     → rounds_behind m in_start before rounds sections ≡ rounds_fixed m before rounds sections
 rounds_same m in_start before rounds [] shown = refl
 rounds_same m in_start before rounds (rs ∷ sections) shown =
     let last : List PageRecord = records_after before rs in
     let whole : List (List PageRecord) = rounds_after m in_start before rounds rs in
-    ap (λ (x : Mode). rounds_behind (eos_mode x in_start) false (records_left x in_start last) (rounds_left x in_start whole last) sections) (mode_same m in_start before rs shown)
-    ∙ ap (λ (x : Mode). rounds_behind x false (open_records x (eos_records m last)) (whole_rounds x (eos_rounds m whole last) (eos_records m last)) sections) (eos_same m in_start shown)
-    ∙ ap (λ (x : List (List PageRecord)). rounds_behind m false (open_records m (eos_records m last)) (whole_rounds m (eos_rounds m x last) (eos_records m last)) sections) (after_same m in_start before rounds rs shown)
-    ∙ rounds_same m false (open_records m (eos_records m last)) (whole_rounds m (eos_rounds m (flushed_after before rounds rs) last) (eos_records m last)) sections shown
+    ap (λ (x : Mode). rounds_behind (eos_mode x in_start) false (records_left x in_start last)
+    (rounds_left x in_start whole last) sections) (mode_same m in_start before rs shown)
+    ∙ ap (λ (x : Mode). rounds_behind x false (open_records x (eos_records m last))
+    (whole_rounds x (eos_rounds m whole last) (eos_records m last)) sections) (eos_same m in_start shown)
+    ∙ ap (λ (x : List (List PageRecord)). rounds_behind m false (open_records m (eos_records m last))
+    (whole_rounds m (eos_rounds m x last) (eos_records m last)) sections) (after_same m in_start before rounds rs shown)
+    ∙ rounds_same m false (open_records m (eos_records m last))
+    (whole_rounds m (eos_rounds m (flushed_after before rounds rs) last) (eos_records m last)) sections shown
 
 -- ---- a mode that the stream shows
 
@@ -110,7 +124,8 @@ start_shows before rounds (FlushMark ∷ rs) has = (mode_same Main true [] rs re
 
 -- and without one
 start_is_open : (before : List PageRecord) (rounds : List (List PageRecord)) (rs : List Record) → has_flush rs ≡ false
-    → (mode_after MainAsShown true before rs ≡ MainAsShown) × (rounds_after MainAsShown true before rounds rs ≡ rounds) × (flushed_after before rounds rs ≡ rounds)
+    → (mode_after MainAsShown true before rs ≡ MainAsShown) × (rounds_after MainAsShown true before rounds rs ≡ rounds)
+    × (flushed_after before rounds rs ≡ rounds)
 start_is_open before rounds [] none = (refl, refl, refl)
 start_is_open before rounds (PageOf continued r ∷ rs) none = start_is_open (before ++ r ∷ []) rounds rs none
 start_is_open before rounds (FlushMark ∷ rs) none = absurd cc
@@ -124,7 +139,8 @@ late_shows : (b : PageRecord) (before : List PageRecord) (rounds : List (List Pa
     → IsLate (mode_after MainAsShown false (b ∷ before) rs) × (rounds_after MainAsShown false (b ∷ before) rounds rs ≡ flushed_after (b ∷ before) rounds rs)
 late_shows b before rounds [] = (inl refl, refl)
 late_shows b before rounds (PageOf continued r ∷ rs) = late_shows b (before ++ r ∷ []) rounds rs
-late_shows b before rounds (FlushMark ∷ rs) = (inr (mode_same MainBySection false [] rs refl), after_same MainBySection false [] (rounds ++ (b ∷ before) ∷ []) rs refl)
+late_shows b before rounds (FlushMark ∷ rs) =
+    (inr (mode_same MainBySection false [] rs refl), after_same MainBySection false [] (rounds ++ (b ∷ before) ∷ []) rs refl)
 
 -- the records left and the rounds are those of a mode that stays
 abbrev AreFixed : Mode → List PageRecord → List (List PageRecord) → List PageRecord → List (List PageRecord) → List (List Record) → Type 0
@@ -149,14 +165,18 @@ shown false = MainBySection
 
 -- the sections behind a START that has no FLUSH, whose EOS ended the first round
 behind_start : (start : List Record) (others : List (List Record)) → has_flush start ≡ false
-    → AreFixed (shown (begin_with_flush others)) (records_behind MainAsShown false [] others) (rounds_behind MainAsShown false [] (records_after [] start ∷ []) others) [] [] (start ∷ others)
+    → AreFixed (shown (begin_with_flush others)) (records_behind MainAsShown false [] others)
+    (rounds_behind MainAsShown false [] (records_after [] start ∷ []) others) [] [] (start ∷ others)
 behind_start start [] none =
     let first : List PageRecord = records_after [] start in
     (refl, ap (λ (x : List (List PageRecord)). x ++ first ∷ []) (sym (start_is_open [] [] start none).2))
 behind_start start ([] ∷ sections) none =
     let first : List PageRecord = records_after [] start in
-    let late = late_eos MainAsShown (first ∷ []) [] sections (inl refl) in
-    (late.0, late.1 ∙ ap (λ (x : List (List PageRecord)). rounds_fixed MainBySection [] ((x ++ first ∷ []) ++ [] ∷ []) sections) (sym (start_is_open [] [] start none).2))
+    let late = late_eos MainAsShown (first ∷ []) [] sections (inl refl) in (
+      late.0,
+      late.1 ∙ ap (λ (x : List (List PageRecord)). rounds_fixed MainBySection [] ((x ++ first ∷ []) ++ [] ∷ []) sections)
+          (sym (start_is_open [] [] start none).2),
+    )
 behind_start start ((PageOf continued r ∷ rs) ∷ sections) none =
     let first : List PageRecord = records_after [] start in
     let last : List PageRecord = records_after (r ∷ []) rs in
@@ -165,17 +185,20 @@ behind_start start ((PageOf continued r ∷ rs) ∷ sections) none =
       late.0,
       late.1
           ∙ ap (λ (x : List (List PageRecord)). rounds_fixed MainBySection [] (x ++ last ∷ []) sections) there.1
-          ∙ ap (λ (x : List (List PageRecord)). rounds_fixed MainBySection [] (flushed_after (r ∷ []) (x ++ first ∷ []) rs ++ last ∷ []) sections) (sym (start_is_open [] [] start none).2),
+          ∙ ap (λ (x : List (List PageRecord)). rounds_fixed MainBySection []
+          (flushed_after (r ∷ []) (x ++ first ∷ []) rs ++ last ∷ []) sections) (sym (start_is_open [] [] start none).2),
     )
 behind_start start ((FlushMark ∷ rs) ∷ sections) none =
     let first : List PageRecord = records_after [] start in (
       records_same Main false [] (rs ∷ sections) refl,
       rounds_same Main false [] (first ∷ []) (rs ∷ sections) refl
-          ∙ ap (λ (x : List (List PageRecord)). rounds_fixed Main (records_after [] rs) (flushed_after [] (x ++ first ∷ []) rs) sections) (sym (start_is_open [] [] start none).2),
+          ∙ ap (λ (x : List (List PageRecord)). rounds_fixed Main (records_after [] rs)
+          (flushed_after [] (x ++ first ∷ []) rs) sections) (sym (start_is_open [] [] start none).2),
     )
 
 from_start : (start : List Record) (others : List (List Record)) (b : Bool) → has_flush start ≡ b
-    → AreFixed (shown (b || begin_with_flush others)) (records_behind MainAsShown true [] (start ∷ others)) (rounds_behind MainAsShown true [] [] (start ∷ others)) [] [] (start ∷ others)
+    → AreFixed (shown (b || begin_with_flush others)) (records_behind MainAsShown true [] (start ∷ others))
+    (rounds_behind MainAsShown true [] [] (start ∷ others)) [] [] (start ∷ others)
 from_start start others true has =
     let first : List PageRecord = records_after [] start in
     let there = start_shows [] [] start has in
@@ -197,6 +220,7 @@ from_start start others false none =
     )
 
 -- The rounds of a stream that shows what ends them are those of the mode that it shows.
-pub as_shown : (sections : List (List Record)) → AreFixed (shown (show_flush sections)) (records_behind MainAsShown true [] sections) (rounds_behind MainAsShown true [] [] sections) [] [] sections
+pub as_shown : (sections : List (List Record))
+    → AreFixed (shown (show_flush sections)) (records_behind MainAsShown true [] sections) (rounds_behind MainAsShown true [] [] sections) [] [] sections
 as_shown [] = (refl, refl)
 as_shown (start ∷ others) = from_start start others (has_flush start) refl

@@ -72,16 +72,20 @@ named_first item some named =
 pub empty_id : (item : List ℕ) → 1 ≤ length item → get_or item 0 0 ≡ 0 → is_id (id_in item) ≡ false
 empty_id item some none = false_from_ne_true (is_id (id_in item)) (λ named. eqb-false (get_or item 0 0) 0 (named_first item some named) none)
 
+-- eight bytes that begin with another byte than 0 are no page size
 pub first_unsized : (item : List ℕ) → eqb (get_or item 0 0) 0 ≡ false → is_page_size item ≡ false
 first_unsized item some = ap (λ (b : Bool). b && (not (eqb (be64_at 0 item) 0) && eqb (be64_at 0 item % least_page_size) 0)) some
 
 -- ---- what is due before a record head is judged doesn't matter
 
-pub known_kind : (c : StreamProgress) (flags : ℕ) (kind : Option RecordKind) (page : ℕ) → first_of (head_faults c flags kind page) ≡ None → (known : RecordKind) × (kind ≡ Some known)
+-- a head of a record without a fault is of a known kind
+pub known_kind : (c : StreamProgress) (flags : ℕ) (kind : Option RecordKind) (page : ℕ)
+    → first_of (head_faults c flags kind page) ≡ None → (known : RecordKind) × (kind ≡ Some known)
 known_kind c flags None page free = absurd cc
 known_kind c flags (Some kind) page free = (kind, refl)
 
-due_faults : (c : StreamProgress) (d e : Due) (flags : ℕ) (kind : Option RecordKind) (page : ℕ) → head_faults (record c { due = d }) flags kind page ≡ head_faults (record c { due = e }) flags kind page
+due_faults : (c : StreamProgress) (d e : Due) (flags : ℕ) (kind : Option RecordKind) (page : ℕ)
+    → head_faults (record c { due = d }) flags kind page ≡ head_faults (record c { due = e }) flags kind page
 due_faults c d e flags None page = refl
 due_faults c d e flags (Some SizeList) page = refl
 due_faults c d e flags (Some (Named f)) page = refl
@@ -89,7 +93,8 @@ due_faults c d e flags (Some (Continued f)) page = refl
 due_faults c d e flags (Some EndOfSection) page = refl
 due_faults c d e flags (Some Flush) page = refl
 
-due_after : (c : StreamProgress) (d e : Due) (kind : RecordKind) (page : ℕ) → after_kind (record c { due = d }) kind page ≡ after_kind (record c { due = e }) kind page
+due_after : (c : StreamProgress) (d e : Due) (kind : RecordKind) (page : ℕ)
+    → after_kind (record c { due = d }) kind page ≡ after_kind (record c { due = e }) kind page
 due_after c d e SizeList page = refl
 due_after c d e (Named f) page = refl
 due_after c d e (Continued f) page = refl
@@ -99,10 +104,12 @@ due_after c d e Flush page = refl
 -- ---- fronts
 
 -- records after the last entry
-pub unsized_record : (c d : StreamProgress) (bytes : List ℕ) → IsPageSize c.page_size → (d.due ≡ RecordHead → ⊥) → Front (record c { due = RecordHead }) bytes d → Front (record c { due = PageSize true }) bytes d
+pub unsized_record : (c d : StreamProgress) (bytes : List ℕ) → IsPageSize c.page_size → (d.due ≡ RecordHead → ⊥)
+    → Front (record c { due = RecordHead }) bytes d → Front (record c { due = PageSize true }) bytes d
 unsized_record c d bytes size other f = go f.items f.has_bytes f.are_faultless f.leads_to
   where
-    go : (items : List (List ℕ)) → bytes ≡ concat items → AreFaultless (record c { due = RecordHead }) items → d ≡ after_all (record c { due = RecordHead }) items → Front (record c { due = PageSize true }) bytes d
+    go : (items : List (List ℕ)) → bytes ≡ concat items → AreFaultless (record c { due = RecordHead }) items
+        → d ≡ after_all (record c { due = RecordHead }) items → Front (record c { due = PageSize true }) bytes d
     go [] has free leads = absurd (other (ap (λ (x : StreamProgress). x.due) leads))
     go (item ∷ items) has free leads =
         let h : StreamProgress = record c { due = RecordHead } in
@@ -112,22 +119,29 @@ unsized_record c d bytes size other f = go f.items f.has_bytes f.are_faultless f
         let known = known_kind h flags (record_kind flags) page free.1 in
         let isnt : is_page_size item ≡ false = head_unsized c.page_size item known.0 size (kind_found flags known.0 known.1) in
         let none : first_fault s item ≡ None =
-        ap (λ (b : Bool). first_of (cond b [] (record_faults s item))) isnt ∙ ap first_of (due_faults c (PageSize true) RecordHead flags (record_kind flags) page) ∙ free.1 in
+        ap (λ (b : Bool). first_of (cond b [] (record_faults s item))) isnt
+        ∙ ap first_of (due_faults c (PageSize true) RecordHead flags (record_kind flags) page) ∙ free.1 in
         let new : after s item ≡ after h item =
         ap (λ (b : Bool). cond b (record s { due = RecordHead }) (after_record s item)) isnt ∙ ap (λ (k : Option RecordKind). after_head s k page) known.1
         ∙ due_after c (PageSize true) RecordHead known.0 page ∙ sym (ap (λ (k : Option RecordKind). after_head h k page) known.1) in
         record {
           items = item ∷ items;
           has_bytes = has;
-          are_faultless = (record { is_due = λ e. absurd cc; is_whole = free.0.is_whole }, none, subst (λ (x : StreamProgress). AreFaultless x items) (sym new) free.2);
+          are_faultless = (
+            record { is_due = λ e. absurd cc; is_whole = free.0.is_whole },
+            none,
+            subst (λ (x : StreamProgress). AreFaultless x items) (sym new) free.2,
+          );
           leads_to = leads ∙ ap (λ (x : StreamProgress). after_all x items) (sym new);
         }
 
 -- an entry after another one
-pub unsized_entry : (c d : StreamProgress) (bytes : List ℕ) → (d.due ≡ ListEntry → ⊥) → Front (record c { due = ListEntry }) bytes d → Front (record c { due = PageSize false }) bytes d
+pub unsized_entry : (c d : StreamProgress) (bytes : List ℕ) → (d.due ≡ ListEntry → ⊥)
+    → Front (record c { due = ListEntry }) bytes d → Front (record c { due = PageSize false }) bytes d
 unsized_entry c d bytes other f = go f.items f.has_bytes f.are_faultless f.leads_to
   where
-    go : (items : List (List ℕ)) → bytes ≡ concat items → AreFaultless (record c { due = ListEntry }) items → d ≡ after_all (record c { due = ListEntry }) items → Front (record c { due = PageSize false }) bytes d
+    go : (items : List (List ℕ)) → bytes ≡ concat items → AreFaultless (record c { due = ListEntry }) items
+        → d ≡ after_all (record c { due = ListEntry }) items → Front (record c { due = PageSize false }) bytes d
     go [] has free leads = absurd (other (ap (λ (x : StreamProgress). x.due) leads))
     go (item ∷ items) has free leads =
         let h : StreamProgress = record c { due = ListEntry } in
@@ -148,6 +162,7 @@ unsized_entry c d bytes other f = go f.items f.has_bytes f.are_faultless f.leads
         }
 
 -- A closed front from what is due after an entry is one from its page size, which isn't there.
-pub unsized_front : (c d : StreamProgress) (last : Bool) (bytes : List ℕ) → IsPageSize c.page_size → d.due ≡ Nothing → Front (record c { due = list_due last }) bytes d → Front (record c { due = PageSize last }) bytes d
+pub unsized_front : (c d : StreamProgress) (last : Bool) (bytes : List ℕ) → IsPageSize c.page_size → d.due ≡ Nothing
+    → Front (record c { due = list_due last }) bytes d → Front (record c { due = PageSize last }) bytes d
 unsized_front c d true bytes size closed f = unsized_record c d bytes size (λ e. let clash : Nothing ≡ RecordHead = sym closed ∙ e in absurd cc) f
 unsized_front c d false bytes size closed f = unsized_entry c d bytes (λ e. let clash : Nothing ≡ ListEntry = sym closed ∙ e in absurd cc) f

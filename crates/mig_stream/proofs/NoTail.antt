@@ -77,7 +77,8 @@ type_empty c b e =
     cond_both (eqb b 3) _ _ StaysEmpty (λ _. e) (λ _. e))))
 
 type_byte_empty : (c : StreamProgress) (before : Before) (b : ℕ) → c.records ≡ [] → StaysEmpty (after_type_byte c before b)
-type_byte_empty c before b e = cond_both (is_passed c.frame before b) _ _ StaysEmpty (λ _. empty_due (Passed (passed_by before b)) c.records e) (λ _. type_empty c b e)
+type_byte_empty c before b e = cond_both (is_passed c.frame before b) _ _ StaysEmpty
+    (λ _. empty_due (Passed (passed_by before b)) c.records e) (λ _. type_empty c b e)
 
 -- after the guest address of a block stands another entry, or a record
 passed_empty : (c : StreamProgress) (passed : PassedItem) (item : List ℕ) → IsEmpty (Passed passed) c.records → IsEmpty (behind_passed passed item) c.records
@@ -146,7 +147,8 @@ never false single = refl
 no_tail : (ends : Bool) (c : StreamProgress) → c.records ≡ [] → has_tail ends c ≡ false
 no_tail ends c e = ap (λ (r : List PageRecord). ends && not (is_single c.mode) && not (length r == 0)) e ∙ never ends (is_single c.mode)
 
-tail_last : (x ends : Bool) (f : StreamFault) (c : StreamProgress) → c.records ≡ [] → f ≢ fault.Tail → first_of ((x, f) ∷ (has_tail ends c, fault.Tail) ∷ []) ≡ Some fault.Tail → ⊥
+tail_last : (x ends : Bool) (f : StreamFault) (c : StreamProgress) → c.records ≡ [] → f ≢ fault.Tail
+    → first_of ((x, f) ∷ (has_tail ends c, fault.Tail) ∷ []) ≡ Some fault.Tail → ⊥
 tail_last x ends f c none other e =
     two x (ap (λ (t : Bool). first_of ((x, f) ∷ (t, fault.Tail) ∷ [])) (sym (no_tail ends c none)) ∙ e)
   where
@@ -183,8 +185,10 @@ item_fault c StartHead item h e = other_fault (faults c StartHead item) ((λ e. 
 item_fault c SectionHead item h e = other_fault (faults c SectionHead item) ((λ e. absurd cc), tt) e
 item_fault c RecordHead item h e = other_fault (faults c RecordHead item) (head_others c _ _ _) e
 item_fault c ListEntry item h e = other_fault (faults c ListEntry item) (entry_others c item) e
-item_fault c (PageSize true) item h e = other_fault (faults c (PageSize true) item) (cond_both (is_page_size item) [] (record_faults c item) AreOthers (λ _. tt) (λ _. head_others c _ _ _)) e
-item_fault c (PageSize false) item h e = other_fault (faults c (PageSize false) item) (cond_both (is_page_size item) [] (entry_faults c item) AreOthers (λ _. tt) (λ _. entry_others c item)) e
+item_fault c (PageSize true) item h e = other_fault (faults c (PageSize true) item)
+    (cond_both (is_page_size item) [] (record_faults c item) AreOthers (λ _. tt) (λ _. head_others c _ _ _)) e
+item_fault c (PageSize false) item h e =
+    other_fault (faults c (PageSize false) item) (cond_both (is_page_size item) [] (entry_faults c item) AreOthers (λ _. tt) (λ _. entry_others c item)) e
 item_fault c (BlockName f page) item h e = other_fault (faults c (BlockName f page) item) ((λ e. absurd cc), ((λ e. absurd cc), tt)) e
 item_fault c (Content Zero place) item h e = other_fault (faults c (Content Zero place) item) ((λ e. absurd cc), tt) e
 item_fault c (Content Normal place) item h e = absurd cc
@@ -192,6 +196,7 @@ item_fault c Footer item h e = tail_last _ (closes c.frame c.section) fault.Foot
 item_fault c (Passed passed) item h e = other_fault (passed_faults c.page_size c.form passed item) (passed_others c.page_size c.form passed item) e
 item_fault c Nothing item h e = absurd cc
 
+-- the law: where each EOS ends a round no page record is without an end of its round
 pub sections_have_no_tail : SectionsHaveNoTail
 sections_have_no_tail = λ given text reading by is bad.
     let f = is.reads.leads in

@@ -30,7 +30,7 @@ use Rattle.mig_stream.specs.Fields.{be32_at}
 use Rattle.mig_stream.specs.PageRecord.{PageRecord}
 use Rattle.mig_stream.specs.Progress.{StreamProgress, start}
 use Rattle.mig_mem.specs.First.{first_of}
-use Rattle.mig_stream.specs.Items.{is_passed, closes, subsection_of, body_of, capabilities_due, entry_due, behind_passed, behind_footer, after_type_byte, id_in, length_in, is_page_size, has_page, is_full, kind_faults, head_faults, record_faults, faults, after_type, after_kind, after_head, after_entry, open_records, whole_rounds, after_item, after, eos_records, eos_rounds, is_start, has_none, flush_ends, flush_rounds}
+use Rattle.mig_stream.specs.Items.{is_passed, closes, subsection_of, body_of, capabilities_due, entry_due, behind_passed, after_footer, after_type_byte, id_in, length_in, is_page_size, has_page, is_full, kind_faults, head_faults, record_faults, faults, after_type, after_kind, after_head, after_entry, open_records, whole_rounds, after_item, after, eos_records, eos_rounds, is_start, has_none, flush_ends, flush_rounds}
 use Rattle.mig_stream.specs.Reading.{AreFaultless, after_all, Front}
 use Rattle.mig_stream.proofs.Steps.{passed, not_size}
 
@@ -86,7 +86,8 @@ placed_type c b v =
     record { due = tt; records = v.records; rounds = v.rounds }))))
 
 placed_type_byte : (c : StreamProgress) (before : Before) (b : ℕ) → Placed c → Placed (after_type_byte c before b)
-placed_type_byte c before b v = cond_both (is_passed c.frame before b) _ _ Placed (λ _. record { due = tt; records = v.records; rounds = v.rounds }) (λ _. placed_type c b v)
+placed_type_byte c before b v = cond_both (is_passed c.frame before b) _ _ Placed
+    (λ _. record { due = tt; records = v.records; rounds = v.rounds }) (λ _. placed_type c b v)
 
 -- no page is due after what is passed over, or after a footer
 capabilities_in : (blocks : List Block) (others : ℕ) → DueIn blocks (capabilities_due others)
@@ -112,7 +113,7 @@ entry_in blocks Plain false = tt
 entry_in blocks Addressed last = tt
 entry_in blocks Sized last = tt
 
-footer_in : (blocks : List Block) (frame : Frame) (kind : Section) → DueIn blocks (behind_footer frame kind)
+footer_in : (blocks : List Block) (frame : Frame) (kind : Section) → DueIn blocks (after_footer frame kind)
 footer_in blocks frame kind = cond_both (closes frame kind) _ _ (DueIn blocks) (λ _. tt) (λ _. tt)
 
 eos_in : (m : Mode) (blocks : List Block) (records : List PageRecord) → AreIn blocks records → AreIn blocks (eos_records m records)
@@ -121,17 +122,20 @@ eos_in Main blocks records all = all
 eos_in MainBySection blocks records all = All-nil (λ r. HasPage blocks r.place)
 eos_in MainAsShown blocks records all = All-nil (λ r. HasPage blocks r.place)
 
-eos_whole_in : (m : Mode) (blocks : List Block) (rounds : List (List PageRecord)) (records : List PageRecord) → All (AreIn blocks) rounds → AreIn blocks records → All (AreIn blocks) (eos_rounds m rounds records)
+eos_whole_in : (m : Mode) (blocks : List Block) (rounds : List (List PageRecord)) (records : List PageRecord)
+    → All (AreIn blocks) rounds → AreIn blocks records → All (AreIn blocks) (eos_rounds m rounds records)
 eos_whole_in Single blocks rounds records all last = all
 eos_whole_in Main blocks rounds records all last = all
 eos_whole_in MainBySection blocks rounds records all last = All-push (AreIn blocks) rounds records all last
 eos_whole_in MainAsShown blocks rounds records all last = All-push (AreIn blocks) rounds records all last
 
-flush_in : (ends : Bool) (blocks : List Block) (rounds : List (List PageRecord)) (records : List PageRecord) → All (AreIn blocks) rounds → AreIn blocks records → All (AreIn blocks) (flush_rounds ends rounds records)
+flush_in : (ends : Bool) (blocks : List Block) (rounds : List (List PageRecord)) (records : List PageRecord)
+    → All (AreIn blocks) rounds → AreIn blocks records → All (AreIn blocks) (flush_rounds ends rounds records)
 flush_in true blocks rounds records all last = All-push (AreIn blocks) rounds records all last
 flush_in false blocks rounds records all last = all
 
-placed_kind : (c : StreamProgress) (k : RecordKind) (page : ℕ) → Placed c → DueIn c.blocks c.due → first_of (kind_faults c k page) ≡ None → Placed (after_kind c k page)
+placed_kind : (c : StreamProgress) (k : RecordKind) (page : ℕ) → Placed c → DueIn c.blocks c.due
+    → first_of (kind_faults c k page) ≡ None → Placed (after_kind c k page)
 placed_kind c SizeList page v d free = record { due = tt; records = v.records; rounds = v.rounds }
 placed_kind c (Named f) page v d free = record { due = tt; records = v.records; rounds = v.rounds }
 placed_kind c (Continued f) page v d free =
@@ -141,14 +145,19 @@ placed_kind c (Continued f) page v d free =
     let two = passed (is_none c.named) fault.NoBlock ((not (has_page c.blocks c.named page), fault.OffsetOut) ∷ []) one.1 in
     let three = passed (not (has_page c.blocks c.named page)) fault.OffsetOut [] two.1 in
     record { due = judged c.blocks c.named page three.0; records = v.records; rounds = v.rounds }
-placed_kind c EndOfSection page v d free = record { due = tt; records = eos_in c.mode c.blocks c.records v.records; rounds = eos_whole_in c.mode c.blocks c.rounds c.records v.rounds v.records }
+placed_kind c EndOfSection page v d free = record {
+  due = tt;
+  records = eos_in c.mode c.blocks c.records v.records;
+  rounds = eos_whole_in c.mode c.blocks c.rounds c.records v.rounds v.records;
+}
 placed_kind c Flush page v d free = record {
   due = tt;
   records = All-nil (λ r. HasPage c.blocks r.place);
   rounds = flush_in (flush_ends c.mode (is_start c.section) (has_none c.records)) c.blocks c.rounds c.records v.rounds v.records;
 }
 
-placed_head : (c : StreamProgress) (flags : ℕ) (k : Option RecordKind) (page : ℕ) → Placed c → DueIn c.blocks c.due → first_of (head_faults c flags k page) ≡ None → Placed (after_head c k page)
+placed_head : (c : StreamProgress) (flags : ℕ) (k : Option RecordKind) (page : ℕ) → Placed c → DueIn c.blocks c.due
+    → first_of (head_faults c flags k page) ≡ None → Placed (after_head c k page)
 placed_head c flags None page v d free = v
 placed_head c flags (Some k) page v d free = placed_kind c k page v d free
 
@@ -158,7 +167,8 @@ open_in Main blocks records all = all
 open_in MainBySection blocks records all = all
 open_in MainAsShown blocks records all = all
 
-whole_in : (m : Mode) (blocks : List Block) (rounds : List (List PageRecord)) (records : List PageRecord) → All (AreIn blocks) rounds → AreIn blocks records → All (AreIn blocks) (whole_rounds m rounds records)
+whole_in : (m : Mode) (blocks : List Block) (rounds : List (List PageRecord)) (records : List PageRecord)
+    → All (AreIn blocks) rounds → AreIn blocks records → All (AreIn blocks) (whole_rounds m rounds records)
 whole_in Single blocks rounds records all last = All-push (AreIn blocks) rounds records all last
 whole_in Main blocks rounds records all last = all
 whole_in MainBySection blocks rounds records all last = all
@@ -174,7 +184,12 @@ placed_entry c item v = record {
 placed_item : (c : StreamProgress) (d : Due) (item : List ℕ) → Placed c → DueIn c.blocks d → first_of (faults c d item) ≡ None → Placed (after_item c d item)
 placed_item c FileHeader item v d free = record { due = tt; records = v.records; rounds = v.rounds }
 placed_item c (TypeByte b) item v d free = placed_type_byte c b (slice_index item 0) v
-placed_item c ConfigLength item v d free = record { due = cond_both (eqb (be32_at 0 item) 0) _ _ (DueIn c.blocks) (λ _. tt) (λ _. tt); records = v.records; rounds = v.rounds }
+placed_item c ConfigLength item v d free = record {
+  due = cond_both (eqb (be32_at 0 item) 0) _ _ (DueIn c.blocks) (λ _. tt)
+      (λ _. tt);
+  records = v.records;
+  rounds = v.rounds;
+}
 placed_item c (ConfigName n) item v d free = record { due = tt; records = v.records; rounds = v.rounds }
 placed_item c StartHead item v d free = record { due = tt; records = v.records; rounds = v.rounds }
 placed_item c SectionHead item v d free = record { due = tt; records = v.records; rounds = v.rounds }
@@ -183,15 +198,28 @@ placed_item c ListEntry item v d free = placed_entry c item v
 placed_item c (PageSize true) item v d free =
     cond_both (is_page_size item) _ _ Placed (λ _. record { due = tt; records = v.records; rounds = v.rounds })
     (λ isnt. placed_head c _ _ _ v v.due (not_size (is_page_size item) (record_faults c item) isnt free))
-placed_item c (PageSize false) item v d free = cond_both (is_page_size item) _ _ Placed (λ _. record { due = tt; records = v.records; rounds = v.rounds }) (λ _. placed_entry c item v)
+placed_item c (PageSize false) item v d free =
+    cond_both (is_page_size item) _ _ Placed (λ _. record { due = tt; records = v.records; rounds = v.rounds }) (λ _. placed_entry c item v)
 placed_item c (BlockName f page) item v d free =
     let named : Option ℕ = block_of c.blocks (id_in item) in
     let one = passed (is_none named) fault.UnknownBlock ((not (has_page c.blocks named page), fault.OffsetOut) ∷ []) free in
     let two = passed (not (has_page c.blocks named page)) fault.OffsetOut [] one.1 in
     record { due = judged c.blocks named page two.0; records = v.records; rounds = v.rounds }
-placed_item c (Content Zero place) item v d free = record { due = tt; records = All-push (λ r. HasPage c.blocks r.place) c.records (record { place = place; content = None }) v.records d; rounds = v.rounds }
-placed_item c (Content Normal place) item v d free = record { due = tt; records = All-push (λ r. HasPage c.blocks r.place) c.records (record { place = place; content = Some item }) v.records d; rounds = v.rounds }
-placed_item c Footer item v d free = record { due = footer_in c.blocks c.frame c.section; records = open_in c.mode c.blocks c.records v.records; rounds = whole_in c.mode c.blocks c.rounds c.records v.rounds v.records }
+placed_item c (Content Zero place) item v d free = record {
+  due = tt;
+  records = All-push (λ r. HasPage c.blocks r.place) c.records (record { place = place; content = None }) v.records d;
+  rounds = v.rounds;
+}
+placed_item c (Content Normal place) item v d free = record {
+  due = tt;
+  records = All-push (λ r. HasPage c.blocks r.place) c.records (record { place = place; content = Some item }) v.records d;
+  rounds = v.rounds;
+}
+placed_item c Footer item v d free = record {
+  due = footer_in c.blocks c.frame c.section;
+  records = open_in c.mode c.blocks c.records v.records;
+  rounds = whole_in c.mode c.blocks c.rounds c.records v.rounds v.records;
+}
 placed_item c (Passed passed) item v d free = record { due = passed_in c.blocks passed item; records = v.records; rounds = v.rounds }
 placed_item c Nothing item v d free = v
 
@@ -201,7 +229,9 @@ placed_all c (item ∷ items) v free = placed_all (after c item) items (placed_i
 
 -- Each page record that was read has its page in the blocks that were read by then, and in those
 -- after them.
-pub placed_so_far : (frame : Frame) (m : Mode) (p limit : ℕ) (waiting : Option ℕ) (bytes : List ℕ) (to : StreamProgress) (more : List Block) (table : RamTable) → Front (start frame m p limit waiting) bytes to → table.blocks ≡ to.blocks ++ more
+pub placed_so_far : (frame : Frame) (m : Mode)
+    (p limit : ℕ) (waiting : Option ℕ) (bytes : List ℕ) (to : StreamProgress) (more : List Block) (table : RamTable)
+    → Front (start frame m p limit waiting) bytes to → table.blocks ≡ to.blocks ++ more
     → All (λ rs. All (λ r. IsPlace table r.place) rs) to.rounds × All (λ r. IsPlace table r.place) to.records
 placed_so_far frame m p limit waiting bytes to more table f same =
     let first : Placed (start frame m p limit waiting) = record { due = tt; records = All-nil (λ r. HasPage [] r.place); rounds = All-nil (AreIn []) } in
@@ -215,10 +245,13 @@ placed_so_far frame m p limit waiting bytes to more table f same =
     )
 
 -- Each page record of a whole round has its page in the blocks that were read.
-pub placed_front : (frame : Frame) (m : Mode) (p limit : ℕ) (waiting : Option ℕ) (bytes : List ℕ) (to : StreamProgress) (table : RamTable) → Front (start frame m p limit waiting) bytes to → table.blocks ≡ to.blocks → All (λ rs. All (λ r. IsPlace table r.place) rs) to.rounds
+pub placed_front : (frame : Frame) (m : Mode)
+    (p limit : ℕ) (waiting : Option ℕ) (bytes : List ℕ) (to : StreamProgress) (table : RamTable)
+    → Front (start frame m p limit waiting) bytes to → table.blocks ≡ to.blocks → All (λ rs. All (λ r. IsPlace table r.place) rs) to.rounds
 placed_front frame m p limit waiting bytes to table f same =
     let first : Placed (start frame m p limit waiting) = record { due = tt; records = All-nil (λ r. HasPage [] r.place); rounds = All-nil (AreIn []) } in
     let last : Placed to = subst Placed (sym f.leads_to) (placed_all (start frame m p limit waiting) f.items first f.are_faultless) in
     λ i rs lt j r within.
-    let h : HasPage table.blocks (get_or (get_or to.rounds i rs) j r).place = subst (λ (b : List Block). HasPage b (get_or (get_or to.rounds i rs) j r).place) (sym same) (last.rounds i rs lt j r within) in
+    let h : HasPage table.blocks (get_or (get_or to.rounds i rs) j r).place =
+    subst (λ (b : List Block). HasPage b (get_or (get_or to.rounds i rs) j r).place) (sym same) (last.rounds i rs lt j r within) in
     record { has_block = h.has_block; has_page = h.has_page }

@@ -30,7 +30,7 @@ use Rattle.mig_stream.specs.declared.fault.StreamFault.TheVariants.{Waiting, Siz
 use Rattle.mig_stream.specs.Fields.{be32_at, be64_at}
 use Rattle.mig_stream.specs.PageRecord.{PageRecord}
 use Rattle.mig_stream.specs.Progress.{StreamProgress}
-use Rattle.mig_stream.specs.Items.{has_page, is_page_size, id_in, is_passed, is_full, subsection_of, body_of, capabilities_due, list_due, entry_due, behind_passed, behind_footer, closes, record_kind, kind_faults, head_faults, record_faults, entry_faults, passed_faults, faults, after_type, after_type_byte, after_kind, after_head, after_entry, after_item, after, with_record, is_start, has_none, flush_ends, flush_rounds, eos_room, eos_records, eos_rounds, less_room, open_room, open_records, whole_rounds}
+use Rattle.mig_stream.specs.Items.{has_page, is_page_size, id_in, is_passed, is_full, subsection_of, body_of, capabilities_due, list_due, entry_due, behind_passed, after_footer, closes, record_kind, kind_faults, head_faults, record_faults, entry_faults, passed_faults, faults, after_type, after_type_byte, after_kind, after_head, after_entry, after_item, after, with_record, is_start, has_none, flush_ends, flush_rounds, eos_room, eos_records, eos_rounds, less_room, open_room, open_records, whole_rounds}
 use Rattle.mig_stream.specs.Reading.{Settings, AreFaultless, after_all, Front}
 use Rattle.mig_stream.specs.Flushed.{from}
 use Rattle.mig_stream.specs.Limited.{WaitingIsBounded, FullRoundIsRefused}
@@ -55,7 +55,8 @@ abbrev pub FitsAt : ℕ → StreamProgress → Type 0
 FitsAt limit c = Fits limit c.waiting c.room c.records c.rounds c.due
 
 -- another item is due, and no record is begun
-fits_due : (limit : ℕ) (waiting room : Option ℕ) (records : List PageRecord) (rounds : List (List PageRecord)) (d e : Due) → Fits limit waiting room records rounds d → is_coming e ≡ false → Fits limit waiting room records rounds e
+fits_due : (limit : ℕ) (waiting room : Option ℕ) (records : List PageRecord) (rounds : List (List PageRecord)) (d e : Due)
+    → Fits limit waiting room records rounds d → is_coming e ≡ false → Fits limit waiting room records rounds e
 fits_due limit waiting room records rounds d e f none = record {
   waits = f.waits;
   left = f.left;
@@ -66,7 +67,8 @@ fits_due limit waiting room records rounds d e f none = record {
 }
 
 -- the open round is whole
-fits_ended : (limit : ℕ) (waiting room : Option ℕ) (records : List PageRecord) (rounds : List (List PageRecord)) (d e : Due) → Fits limit waiting room records rounds d → is_coming e ≡ false
+fits_ended : (limit : ℕ) (waiting room : Option ℕ) (records : List PageRecord) (rounds : List (List PageRecord)) (d e : Due)
+    → Fits limit waiting room records rounds d → is_coming e ≡ false
     → Fits limit waiting waiting [] (rounds ++ records ∷ []) e
 fits_ended limit waiting room records rounds d e f none = record {
   waits = f.waits;
@@ -75,11 +77,13 @@ fits_ended limit waiting room records rounds d e f none = record {
   adds = omega arith;
   has_room = λ coming. absurd (let clash : true ≡ false = sym coming ∙ none in cc);
   are_few = All-append (λ (round : List PageRecord). length round ≤ limit) rounds (records ∷ []) f.are_few
-      (All-cons (λ (round : List PageRecord). length round ≤ limit) records [] (omega (arith, f.adds)) (All-nil (λ (round : List PageRecord). length round ≤ limit)));
+      (All-cons (λ (round : List PageRecord). length round ≤ limit) records [] (omega (arith, f.adds))
+      (All-nil (λ (round : List PageRecord). length round ≤ limit)));
 }
 
 -- it is dropped: its records are an empty round that no FLUSH ended
-fits_flushed : (ends : Bool) (limit : ℕ) (waiting room : Option ℕ) (records : List PageRecord) (rounds : List (List PageRecord)) (d e : Due) → Fits limit waiting room records rounds d → is_coming e ≡ false
+fits_flushed : (ends : Bool) (limit : ℕ) (waiting room : Option ℕ) (records : List PageRecord) (rounds : List (List PageRecord))
+    (d e : Due) → Fits limit waiting room records rounds d → is_coming e ≡ false
     → Fits limit waiting waiting [] (flush_rounds ends rounds records) e
 fits_flushed true limit waiting room records rounds d e f none = fits_ended limit waiting room records rounds d e f none
 fits_flushed false limit waiting room records rounds d e f none = record {
@@ -91,37 +95,43 @@ fits_flushed false limit waiting room records rounds d e f none = record {
   are_few = f.are_few;
 }
 
-fits_eos : (m : Mode) (limit : ℕ) (waiting room : Option ℕ) (records : List PageRecord) (rounds : List (List PageRecord)) (d : Due) → Fits limit waiting room records rounds d
+fits_eos : (m : Mode) (limit : ℕ) (waiting room : Option ℕ) (records : List PageRecord) (rounds : List
+    (List PageRecord)) (d : Due) → Fits limit waiting room records rounds d
     → Fits limit waiting (eos_room m waiting room) (eos_records m records) (eos_rounds m rounds records) Footer
 fits_eos Single limit waiting room records rounds d f = fits_due limit waiting room records rounds d Footer f refl
 fits_eos Main limit waiting room records rounds d f = fits_due limit waiting room records rounds d Footer f refl
 fits_eos MainBySection limit waiting room records rounds d f = fits_ended limit waiting room records rounds d Footer f refl
 fits_eos MainAsShown limit waiting room records rounds d f = fits_ended limit waiting room records rounds d Footer f refl
 
-footer_none : (frame : Frame) (kind : Section) → is_coming (behind_footer frame kind) ≡ false
+footer_none : (frame : Frame) (kind : Section) → is_coming (after_footer frame kind) ≡ false
 footer_none frame kind = cond_both (closes frame kind) _ _ (λ (d : Due). is_coming d ≡ false) (λ _. refl) (λ _. refl)
 
 -- (the limit is there, so the room of a section that was opened is its own)
 opened : (m : Mode) (limit : ℕ) (waiting room : Option ℕ) → waiting ≡ Some limit → open_room m waiting room ≡ open_room m (Some limit) room
 opened m limit waiting room e = ap (λ (w : Option ℕ). open_room m w room) e
 
-fits_section : (m : Mode) (limit : ℕ) (waiting room : Option ℕ) (records : List PageRecord) (rounds : List (List PageRecord)) (d e : Due) → Fits limit waiting room records rounds d → is_coming e ≡ false
+fits_section : (m : Mode) (limit : ℕ) (waiting room : Option ℕ) (records : List PageRecord) (rounds : List (List PageRecord))
+    (d e : Due) → Fits limit waiting room records rounds d → is_coming e ≡ false
     → Fits limit waiting (open_room m waiting room) (open_records m records) (whole_rounds m rounds records) e
 fits_section Single limit waiting room records rounds d e f none =
     let whole = fits_ended limit waiting room records rounds d e f none in
     subst (λ (r : Option ℕ). Fits limit waiting r [] (rounds ++ records ∷ []) e) (f.waits ∙ sym (opened Single limit waiting room f.waits)) whole
 fits_section Main limit waiting room records rounds d e f none =
-    subst (λ (r : Option ℕ). Fits limit waiting r records rounds e) (sym (opened Main limit waiting room f.waits)) (fits_due limit waiting room records rounds d e f none)
+    subst (λ (r : Option ℕ). Fits limit waiting r records rounds e) (sym (opened Main limit waiting room f.waits))
+    (fits_due limit waiting room records rounds d e f none)
 fits_section MainBySection limit waiting room records rounds d e f none =
-    subst (λ (r : Option ℕ). Fits limit waiting r records rounds e) (sym (opened MainBySection limit waiting room f.waits)) (fits_due limit waiting room records rounds d e f none)
+    subst (λ (r : Option ℕ). Fits limit waiting r records rounds e) (sym (opened MainBySection limit waiting room f.waits))
+    (fits_due limit waiting room records rounds d e f none)
 fits_section MainAsShown limit waiting room records rounds d e f none =
-    subst (λ (r : Option ℕ). Fits limit waiting r records rounds e) (sym (opened MainAsShown limit waiting room f.waits)) (fits_due limit waiting room records rounds d e f none)
+    subst (λ (r : Option ℕ). Fits limit waiting r records rounds e) (sym (opened MainAsShown limit waiting room f.waits))
+    (fits_due limit waiting room records rounds d e f none)
 
 -- ---- an item
 
 fits_type : (limit : ℕ) (c : StreamProgress) (byte : ℕ) → FitsAt limit c → FitsAt limit (after_type c byte)
 fits_type limit c byte f =
-    let other : (e : Due) → is_coming e ≡ false → Fits limit c.waiting c.room c.records c.rounds e = λ e none. fits_due limit c.waiting c.room c.records c.rounds c.due e f none in
+    let other : (e : Due) → is_coming e ≡ false
+    → Fits limit c.waiting c.room c.records c.rounds e = λ e none. fits_due limit c.waiting c.room c.records c.rounds c.due e f none in
     cond_both (eqb byte 7) _ _ (FitsAt limit) (λ _. other ConfigLength refl) (λ _.
     cond_both (eqb byte 1) _ _ (FitsAt limit) (λ _. other StartHead refl) (λ _.
     cond_both (eqb byte 2) _ _ (FitsAt limit) (λ _. other SectionHead refl) (λ _.
@@ -129,7 +139,8 @@ fits_type limit c byte f =
 
 fits_type_byte : (limit : ℕ) (c : StreamProgress) (b : Before) (byte : ℕ) → FitsAt limit c → FitsAt limit (after_type_byte c b byte)
 fits_type_byte limit c b byte f =
-    cond_both (is_passed c.frame b byte) _ _ (FitsAt limit) (λ _. fits_due limit c.waiting c.room c.records c.rounds c.due _ f refl) (λ _. fits_type limit c byte f)
+    cond_both (is_passed c.frame b byte) _ _ (FitsAt limit)
+    (λ _. fits_due limit c.waiting c.room c.records c.rounds c.due _ f refl) (λ _. fits_type limit c byte f)
 
 body_none : (o : Option Subsection) → is_coming (body_of o) ≡ false
 body_none None = refl
@@ -159,7 +170,8 @@ passed_none (Address last) item = list_none last
 -- a record's head without a fault has room
 some_room : (limit : ℕ) (c : StreamProgress) (f : FitsAt limit c) → is_full c.room ≡ false → 1 ≤ f.left
 some_room limit c f free = elim (cases_zero f.left) [
-  | inl none ↦ absurd (let full : is_full c.room ≡ true = ap is_full (f.is_left ∙ ap (λ (n : ℕ). Some n) none) in let clash : true ≡ false = sym full ∙ free in cc)
+  | inl none ↦ absurd (let full : is_full c.room ≡ true = ap is_full (f.is_left ∙ ap (λ (n : ℕ). Some n) none) in
+      let clash : true ≡ false = sym full ∙ free in cc)
   | inr some ↦ some
 ]
   where
@@ -168,27 +180,39 @@ some_room limit c f free = elim (cases_zero f.left) [
     cases_zero (suc n) = inr (omega arith)
 
 fits_begun : (limit : ℕ) (c : StreamProgress) (e : Due) (f : FitsAt limit c) → is_full c.room ≡ false → Fits limit c.waiting c.room c.records c.rounds e
-fits_begun limit c e f free = record { waits = f.waits; left = f.left; is_left = f.is_left; adds = f.adds; has_room = λ _. some_room limit c f free; are_few = f.are_few }
+fits_begun limit c e f free = record {
+  waits = f.waits;
+  left = f.left;
+  is_left = f.is_left;
+  adds = f.adds;
+  has_room = λ _. some_room limit c f free;
+  are_few = f.are_few;
+}
 
-fits_kind : (limit : ℕ) (c : StreamProgress) (kind : RecordKind) (page : ℕ) → FitsAt limit c → first_of (kind_faults c kind page) ≡ None → FitsAt limit (after_kind c kind page)
+fits_kind : (limit : ℕ) (c : StreamProgress) (kind : RecordKind) (page : ℕ) → FitsAt limit c
+    → first_of (kind_faults c kind page) ≡ None → FitsAt limit (after_kind c kind page)
 fits_kind limit c SizeList page f free = fits_due limit c.waiting c.room c.records c.rounds c.due ListEntry f refl
 fits_kind limit c (Named filling) page f free =
-    fits_begun limit c (BlockName filling page) f (passed (is_full c.room) Waiting [] (passed (is_none c.left) SizePlace ((is_full c.room, Waiting) ∷ []) free).1).0
+    fits_begun limit c (BlockName filling page) f
+    (passed (is_full c.room) Waiting [] (passed (is_none c.left) SizePlace ((is_full c.room, Waiting) ∷ []) free).1).0
 fits_kind limit c (Continued filling) page f free =
     let more : List (Bool × StreamFault) = (is_none c.named, NoBlock) ∷ (not (has_page c.blocks c.named page), OffsetOut) ∷ [] in
     fits_begun limit c (Content filling (place_at (unwrap_or c.named 0) page)) f
     (passed (is_full c.room) Waiting more (passed (is_none c.left) SizePlace ((is_full c.room, Waiting) ∷ more) free).1).0
 fits_kind limit c EndOfSection page f free = fits_eos c.mode limit c.waiting c.room c.records c.rounds c.due f
-fits_kind limit c Flush page f free = fits_flushed (flush_ends c.mode (is_start c.section) (has_none c.records)) limit c.waiting c.room c.records c.rounds c.due RecordHead f refl
+fits_kind limit c Flush page f free = fits_flushed
+    (flush_ends c.mode (is_start c.section) (has_none c.records)) limit c.waiting c.room c.records c.rounds c.due RecordHead f refl
 
-fits_head : (limit : ℕ) (c : StreamProgress) (flags : ℕ) (kind : Option RecordKind) (page : ℕ) → FitsAt limit c → first_of (head_faults c flags kind page) ≡ None → FitsAt limit (after_head c kind page)
+fits_head : (limit : ℕ) (c : StreamProgress) (flags : ℕ) (kind : Option RecordKind) (page : ℕ) → FitsAt limit c
+    → first_of (head_faults c flags kind page) ≡ None → FitsAt limit (after_head c kind page)
 fits_head limit c flags None page f free = f
 fits_head limit c flags (Some kind) page f free = fits_kind limit c kind page f free
 
 fits_entry : (limit : ℕ) (c : StreamProgress) (item : List ℕ) → FitsAt limit c → FitsAt limit (after_entry c item)
 fits_entry limit c item f = fits_due limit c.waiting c.room c.records c.rounds c.due _ f (entry_none c.form _)
 
-fits_record : (limit : ℕ) (c : StreamProgress) (place : Place) (content : Option (List ℕ)) → is_coming c.due ≡ true → FitsAt limit c → FitsAt limit (with_record c place content)
+fits_record : (limit : ℕ) (c : StreamProgress) (place : Place) (content : Option (List ℕ)) → is_coming c.due ≡ true
+    → FitsAt limit c → FitsAt limit (with_record c place content)
 fits_record limit c place content coming f = record {
   waits = f.waits;
   left = f.left - 1;
@@ -198,11 +222,14 @@ fits_record limit c place content coming f = record {
   are_few = f.are_few;
 }
 
-pub fits_item : (limit : ℕ) (c : StreamProgress) (d : Due) (item : List ℕ) → c.due ≡ d → FitsAt limit c → first_of (faults c d item) ≡ None → FitsAt limit (after_item c d item)
+-- an item without a fault leaves the reader within its limit
+pub fits_item : (limit : ℕ) (c : StreamProgress) (d : Due) (item : List ℕ) → c.due ≡ d → FitsAt limit c
+    → first_of (faults c d item) ≡ None → FitsAt limit (after_item c d item)
 fits_item limit c FileHeader item here f free = fits_due limit c.waiting c.room c.records c.rounds c.due _ f refl
 fits_item limit c (TypeByte b) item here f free = fits_type_byte limit c b (slice_index item 0) f
 fits_item limit c ConfigLength item here f free =
-    fits_due limit c.waiting c.room c.records c.rounds c.due _ f (cond_both (eqb (be32_at 0 item) 0) _ _ (λ (d : Due). is_coming d ≡ false) (λ _. refl) (λ _. refl))
+    fits_due limit c.waiting c.room c.records c.rounds c.due _ f
+    (cond_both (eqb (be32_at 0 item) 0) _ _ (λ (d : Due). is_coming d ≡ false) (λ _. refl) (λ _. refl))
 fits_item limit c (ConfigName n) item here f free = fits_due limit c.waiting c.room c.records c.rounds c.due _ f refl
 fits_item limit c StartHead item here f free = fits_due limit c.waiting c.room c.records c.rounds c.due _ f refl
 fits_item limit c SectionHead item here f free = fits_due limit c.waiting c.room c.records c.rounds c.due _ f refl
@@ -212,7 +239,8 @@ fits_item limit c (PageSize true) item here f free =
     cond_both (is_page_size item) _ _ (FitsAt limit) (λ _. fits_due limit c.waiting c.room c.records c.rounds c.due RecordHead f refl)
     (λ other. fits_head limit c _ _ _ f (not_size (is_page_size item) (record_faults c item) other free))
 fits_item limit c (PageSize false) item here f free =
-    cond_both (is_page_size item) _ _ (FitsAt limit) (λ _. fits_due limit c.waiting c.room c.records c.rounds c.due ListEntry f refl) (λ _. fits_entry limit c item f)
+    cond_both (is_page_size item) _ _ (FitsAt limit)
+    (λ _. fits_due limit c.waiting c.room c.records c.rounds c.due ListEntry f refl) (λ _. fits_entry limit c item f)
 fits_item limit c (BlockName filling page) item here f free = record {
   waits = f.waits;
   left = f.left;
@@ -231,13 +259,24 @@ fits_all : (limit : ℕ) (c : StreamProgress) (items : List (List ℕ)) → Fits
 fits_all limit c [] f free = f
 fits_all limit c (item ∷ items) f free = fits_all limit (after c item) items (fits_item limit c c.due item refl f free.1) free.2
 
+-- a new reader is within its limit
 pub first_fits : (given : Settings) (limit : ℕ) → given.waiting ≡ Some limit → FitsAt limit (from given)
-first_fits given limit waits = record { waits = waits; left = limit; is_left = waits; adds = omega arith; has_room = λ e. absurd cc; are_few = All-nil (λ (round : List PageRecord). length round ≤ limit) }
+first_fits given limit waits = record {
+  waits = waits;
+  left = limit;
+  is_left = waits;
+  adds = omega arith;
+  has_room = λ e. absurd cc;
+  are_few = All-nil (λ (round : List PageRecord). length round ≤ limit);
+}
 
-pub fits_front : (given : Settings) (limit : ℕ) (front : List ℕ) (to : StreamProgress) → given.waiting ≡ Some limit → Front (from given) front to → FitsAt limit to
+-- items without a fault leave the reader within its limit
+pub fits_front : (given : Settings) (limit : ℕ) (front : List ℕ) (to : StreamProgress) → given.waiting ≡ Some limit
+    → Front (from given) front to → FitsAt limit to
 fits_front given limit front to waits leads =
     subst (FitsAt limit) (sym leads.leads_to) (fits_all limit (from given) leads.items (first_fits given limit waits) leads.are_faultless)
 
+-- no round has more page records than the limit
 pub bounded_law : WaitingIsBounded
 bounded_law given limit front to waits leads =
     let f = fits_front given limit front to waits leads in
@@ -249,6 +288,7 @@ abbrev pub is_waiting : StreamFault → Bool
 is_waiting Waiting = true
 is_waiting other = false
 
+-- the fault that is tested for is the one of the limit
 pub waiting_is : (f : StreamFault) → is_waiting f ≡ true → f ≡ Waiting
 waiting_is f e = search rules
 
@@ -257,19 +297,23 @@ abbrev pub unwaiting : List (Bool × StreamFault) → Bool
 unwaiting [] = true
 unwaiting (test ∷ tests) = not (is_waiting test.1) && unwaiting tests
 
+-- tests that aren't of the limit never find the fault of the limit
 pub never : (tests : List (Bool × StreamFault)) → unwaiting tests ≡ true → first_of tests ≡ Some Waiting → ⊥
 never [] other e = absurd cc
 never ((true, f) ∷ tests) other e = absurd (
     let same : f ≡ Waiting = cc in
-    let clash : not (is_waiting Waiting) ≡ true = ap (λ (g : StreamFault). not (is_waiting g)) (sym same) ∙ (and_parts (not (is_waiting f)) (unwaiting tests) other).0 in cc)
+    let clash : not (is_waiting Waiting) ≡ true = ap (λ (g : StreamFault). not (is_waiting g)) (sym same)
+    ∙ (and_parts (not (is_waiting f)) (unwaiting tests) other).0 in cc)
 never ((false, f) ∷ tests) other e = never tests (and_parts (not (is_waiting f)) (unwaiting tests) other).1 e
 
+-- a reader without room has as many page records as the limit
 pub no_room : (limit : ℕ) (c : StreamProgress) → FitsAt limit c → is_full c.room ≡ true → length c.records ≡ limit
 no_room limit c f full =
     let none : (f.left == 0) ≡ true = sym (ap is_full f.is_left) ∙ full in
     omega (arith, f.adds, eqb-true f.left 0 none)
 
-full_second : (a b : Bool) (more : List (Bool × StreamFault)) → unwaiting more ≡ true → first_of ((a, SizePlace) ∷ (b, Waiting) ∷ more) ≡ Some Waiting → b ≡ true
+full_second : (a b : Bool) (more : List (Bool × StreamFault)) → unwaiting more ≡ true
+    → first_of ((a, SizePlace) ∷ (b, Waiting) ∷ more) ≡ Some Waiting → b ≡ true
 full_second true b more other e = absurd cc
 full_second false true more other e = refl
 full_second false false more other e = absurd (never more other e)
@@ -282,7 +326,8 @@ full_kind c (Continued filling) page e =
 full_kind c EndOfSection page e = absurd (never (kind_faults c EndOfSection page) refl e)
 full_kind c Flush page e = absurd (never (kind_faults c Flush page) refl e)
 
-full_head : (c : StreamProgress) (flags : ℕ) (kind : Option RecordKind) (page : ℕ) → first_of (head_faults c flags kind page) ≡ Some Waiting → is_full c.room ≡ true
+full_head : (c : StreamProgress) (flags : ℕ) (kind : Option RecordKind) (page : ℕ)
+    → first_of (head_faults c flags kind page) ≡ Some Waiting → is_full c.room ≡ true
 full_head c flags None page e = absurd cc
 full_head c flags (Some kind) page e = full_kind c kind page e
 
@@ -301,6 +346,7 @@ pub sized : (b : Bool) (tests : List (Bool × StreamFault)) → first_of (cond b
 sized true tests e = absurd cc
 sized false tests e = e
 
+-- the fault of the limit comes only if there is no room
 pub full_item : (c : StreamProgress) (d : Due) (item : List ℕ) → first_of (faults c d item) ≡ Some Waiting → is_full c.room ≡ true
 full_item c FileHeader item e = absurd (never (faults c FileHeader item) refl e)
 full_item c (TypeByte b) item e = absurd (never (faults c (TypeByte b) item) refl e)
@@ -311,7 +357,8 @@ full_item c SectionHead item e = absurd (never (faults c SectionHead item) refl 
 full_item c RecordHead item e = full_head c (be64_at 0 item % c.page_size) (record_kind (be64_at 0 item % c.page_size)) (be64_at 0 item / c.page_size) e
 full_item c ListEntry item e = absurd (never (faults c ListEntry item) refl e)
 full_item c (PageSize true) item e =
-    full_head c (be64_at 0 item % c.page_size) (record_kind (be64_at 0 item % c.page_size)) (be64_at 0 item / c.page_size) (sized (is_page_size item) (record_faults c item) e)
+    full_head c (be64_at 0 item % c.page_size) (record_kind (be64_at 0 item % c.page_size)) (be64_at 0 item / c.page_size)
+    (sized (is_page_size item) (record_faults c item) e)
 full_item c (PageSize false) item e = absurd (never (entry_faults c item) refl (sized (is_page_size item) (entry_faults c item) e))
 full_item c (BlockName filling page) item e = absurd (never (faults c (BlockName filling page) item) refl e)
 full_item c (Content Zero place) item e = absurd (never (faults c (Content Zero place) item) refl e)
@@ -320,6 +367,7 @@ full_item c Footer item e = absurd (never (faults c Footer item) refl e)
 full_item c (Passed p) item e = absurd (never (passed_faults c.page_size c.form p item) (passed_unwaiting c.page_size c.form p item) e)
 full_item c Nothing item e = absurd (never (faults c Nothing item) refl e)
 
+-- the limit refuses a record only if the open round has as many as the limit
 pub full_law : FullRoundIsRefused
 full_law given limit front item to waits leads e =
     no_room limit to (fits_front given limit front to waits leads) (full_item to to.due item e)

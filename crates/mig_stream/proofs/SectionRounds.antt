@@ -19,6 +19,7 @@ records_after-append before [] ys = refl
 records_after-append before (PageOf continued r ∷ xs) ys = records_after-append (before ++ r ∷ []) xs ys
 records_after-append before (FlushMark ∷ xs) ys = records_after-append [] xs ys
 
+-- the rounds after records are those after their front and then the rest
 pub flushed_after-append : (before : List PageRecord) (rounds : List (List PageRecord)) (xs ys : List Record)
     → flushed_after before rounds (xs ++ ys) ≡ flushed_after (records_after before xs) (flushed_after before rounds xs) ys
 flushed_after-append before rounds [] ys = refl
@@ -28,17 +29,21 @@ flushed_after-append before rounds (FlushMark ∷ xs) ys = flushed_after-append 
 -- records without a FLUSH are added to those before them, and end no round
 pub records_after-no_flush : (before : List PageRecord) (rs : List Record) → HasNoFlush rs → records_after before rs ≡ before ++ page_records rs
 records_after-no_flush before [] none = sym (append-nil before)
-records_after-no_flush before (PageOf continued r ∷ rs) none = records_after-no_flush (before ++ r ∷ []) rs none ∙ append_assoc before (r ∷ []) (page_records rs)
+records_after-no_flush before (PageOf continued r ∷ rs) none = records_after-no_flush (before ++ r ∷ []) rs none
+    ∙ append_assoc before (r ∷ []) (page_records rs)
 records_after-no_flush before (FlushMark ∷ rs) none = absurd none
 
-pub flushed_after-no_flush : (before : List PageRecord) (rounds : List (List PageRecord)) (rs : List Record) → HasNoFlush rs → flushed_after before rounds rs ≡ rounds
+-- records without a FLUSH end no round
+pub flushed_after-no_flush : (before : List PageRecord) (rounds : List (List PageRecord)) (rs : List Record) → HasNoFlush rs
+    → flushed_after before rounds rs ≡ rounds
 flushed_after-no_flush before rounds [] none = refl
 flushed_after-no_flush before rounds (PageOf continued r ∷ rs) none = flushed_after-no_flush (before ++ r ∷ []) rounds rs none
 flushed_after-no_flush before rounds (FlushMark ∷ rs) none = absurd none
 
 -- ---- a single stream: each section is a round
 
-single_rounds : (rounds : List (List PageRecord)) (sections : List (List Record)) → AllByRecursion HasNoFlush sections → rounds_fixed Single [] rounds sections ≡ rounds ++ map page_records sections
+single_rounds : (rounds : List (List PageRecord)) (sections : List (List Record)) → AllByRecursion HasNoFlush sections
+    → rounds_fixed Single [] rounds sections ≡ rounds ++ map page_records sections
 single_rounds rounds [] none = sym (append-nil rounds)
 single_rounds rounds (rs ∷ sections) none =
     let records : records_after [] rs ≡ page_records rs = records_after-no_flush [] rs none.0 in
@@ -55,7 +60,8 @@ main_records : (before : List PageRecord) (sections : List (List Record)) → re
 main_records before [] = refl
 main_records before (rs ∷ sections) = main_records (records_after before rs) sections ∙ sym (records_after-append before rs (all_records sections))
 
-main_rounds : (before : List PageRecord) (rounds : List (List PageRecord)) (sections : List (List Record)) → rounds_fixed Main before rounds sections ≡ flushed_after before rounds (all_records sections)
+main_rounds : (before : List PageRecord) (rounds : List (List PageRecord)) (sections : List (List Record))
+    → rounds_fixed Main before rounds sections ≡ flushed_after before rounds (all_records sections)
 main_rounds before rounds [] = refl
 main_rounds before rounds (rs ∷ sections) =
     main_rounds (records_after before rs) (flushed_after before rounds rs) sections ∙ sym (flushed_after-append before rounds rs (all_records sections))
@@ -68,9 +74,11 @@ records_after-flushed : (groups : List (List Record)) → records_after [] (flus
 records_after-flushed [] = refl
 records_after-flushed (group ∷ groups) =
     let one : records_after [] (group ++ FlushMark ∷ []) ≡ [] = records_after-append [] group (FlushMark ∷ []) in
-    records_after-append [] (group ++ FlushMark ∷ []) (flushed groups) ∙ ap (λ (x : List PageRecord). records_after x (flushed groups)) one ∙ records_after-flushed groups
+    records_after-append [] (group ++ FlushMark ∷ []) (flushed groups)
+    ∙ ap (λ (x : List PageRecord). records_after x (flushed groups)) one ∙ records_after-flushed groups
 
-flushed_after-flushed : (rounds : List (List PageRecord)) (groups : List (List Record)) → AllByRecursion HasNoFlush groups → flushed_after [] rounds (flushed groups) ≡ rounds ++ map page_records groups
+flushed_after-flushed : (rounds : List (List PageRecord)) (groups : List (List Record)) → AllByRecursion HasNoFlush groups
+    → flushed_after [] rounds (flushed groups) ≡ rounds ++ map page_records groups
 flushed_after-flushed rounds [] none = sym (append-nil rounds)
 flushed_after-flushed rounds (group ∷ groups) none =
     let end : List Record = FlushMark ∷ [] in
@@ -110,7 +118,8 @@ no_record [] none e = refl
 no_record (PageOf k x ∷ front) none e = absurd cc
 no_record (FlushMark ∷ front) none e = absurd none
 
-grouped : (front : List Record) (rounds : List (List PageRecord)) (records : List Record) → HasNoFlush front → records_after (page_records front) records ≡ [] → AreGrouped front rounds records
+grouped : (front : List Record) (rounds : List (List PageRecord)) (records : List Record) → HasNoFlush front
+    → records_after (page_records front) records ≡ [] → AreGrouped front rounds records
 grouped front rounds [] none end = record {
   groups = [];
   none = tt;
@@ -141,7 +150,8 @@ grouped front rounds (FlushMark ∷ records) none end =
 records_after-with_flush : (before : List PageRecord) (rs : List Record) → records_after before (with_flush rs) ≡ []
 records_after-with_flush before rs = records_after-append before rs (FlushMark ∷ [])
 
-flushed_after-with_flush : (before : List PageRecord) (rounds : List (List PageRecord)) (rs : List Record) → flushed_after before rounds (with_flush rs) ≡ flushed_after before rounds rs ++ records_after before rs ∷ []
+flushed_after-with_flush : (before : List PageRecord) (rounds : List (List PageRecord)) (rs : List Record)
+    → flushed_after before rounds (with_flush rs) ≡ flushed_after before rounds rs ++ records_after before rs ∷ []
 flushed_after-with_flush before rounds rs = flushed_after-append before rounds rs (FlushMark ∷ [])
 
 section_records : (sections : List (List Record)) → records_fixed MainBySection [] sections ≡ []
@@ -150,14 +160,17 @@ section_records (rs ∷ sections) = section_records sections
 
 flush_records : (sections : List (List Record)) → records_fixed Main [] (map with_flush sections) ≡ []
 flush_records [] = refl
-flush_records (rs ∷ sections) = ap (λ (x : List PageRecord). records_fixed Main x (map with_flush sections)) (records_after-with_flush [] rs) ∙ flush_records sections
+flush_records (rs ∷ sections) = ap (λ (x : List PageRecord). records_fixed Main x (map with_flush sections))
+    (records_after-with_flush [] rs) ∙ flush_records sections
 
-section_rounds : (rounds : List (List PageRecord)) (sections : List (List Record)) → rounds_fixed MainBySection [] rounds sections ≡ rounds_fixed Main [] rounds (map with_flush sections)
+section_rounds : (rounds : List (List PageRecord)) (sections : List (List Record))
+    → rounds_fixed MainBySection [] rounds sections ≡ rounds_fixed Main [] rounds (map with_flush sections)
 section_rounds rounds [] = refl
 section_rounds rounds (rs ∷ sections) =
     section_rounds (flushed_after [] rounds rs ++ records_after [] rs ∷ []) sections
     ∙ ap (λ (x : List (List PageRecord)). rounds_fixed Main [] x (map with_flush sections)) (sym (flushed_after-with_flush [] rounds rs))
-    ∙ ap (λ (x : List PageRecord). rounds_fixed Main x (flushed_after [] rounds (with_flush rs)) (map with_flush sections)) (sym (records_after-with_flush [] rs))
+    ∙ ap (λ (x : List PageRecord). rounds_fixed Main x (flushed_after [] rounds (with_flush rs)) (map with_flush sections))
+    (sym (records_after-with_flush [] rs))
 
 -- ---- all modes
 
@@ -183,21 +196,26 @@ shown_read : (sections : List (List Record)) (rounds : List (List PageRecord)) (
 shown_read sections rounds true are = flushed_read sections rounds are
 shown_read sections rounds false are = (section_records sections, section_rounds [] sections ∙ (flushed_read (map with_flush sections) rounds are).1)
 
+-- sections with a FLUSH before each EOS have a round a section
 pub section_spelled : (sections : List (List Record)) → AreFlushed (map with_flush sections) (rounds_fixed MainBySection [] [] sections)
-section_spelled sections = subst (AreFlushed (map with_flush sections)) (sym (section_rounds [] sections)) (flushed_spelled (map with_flush sections) (flush_records sections))
+section_spelled sections = subst (AreFlushed (map with_flush sections)) (sym (section_rounds [] sections))
+    (flushed_spelled (map with_flush sections) (flush_records sections))
 
-shown_spelled : (sections : List (List Record)) (b : Bool) → records_fixed (shown b) [] sections ≡ [] → AreFlushed (cond b sections (map with_flush sections)) (rounds_fixed (shown b) [] [] sections)
+shown_spelled : (sections : List (List Record)) (b : Bool) → records_fixed (shown b) [] sections ≡ []
+    → AreFlushed (cond b sections (map with_flush sections)) (rounds_fixed (shown b) [] [] sections)
 shown_spelled sections true none = flushed_spelled sections none
 shown_spelled sections false none = section_spelled sections
 
 -- a main stream's records that no FLUSH follows
-none_left : (mode : Mode) (sections : List (List Record)) → is_single mode ≡ false → HasNoTail (mode_behind mode true [] sections) (records_behind mode true [] sections) → records_behind mode true [] sections ≡ []
+none_left : (mode : Mode) (sections : List (List Record)) → is_single mode ≡ false
+    → HasNoTail (mode_behind mode true [] sections) (records_behind mode true [] sections) → records_behind mode true [] sections ≡ []
 none_left mode sections main (inl e) = absurd (let clash : true ≡ false = sym e ∙ single_behind mode true [] sections ∙ main in cc)
 none_left mode sections main (inr none) = none
 
 -- The rounds that a stream says are read after its sections, and no record is left.
 pub rounds_read : (mode : Mode) (sections : List (List Record)) (rounds : List (List PageRecord)) → AreRounds mode sections rounds
-    → FlushesFit (is_single mode) sections × HasNoTail (mode_behind mode true [] sections) (records_behind mode true [] sections) × (rounds_behind mode true [] [] sections ≡ rounds)
+    → FlushesFit (is_single mode) sections × HasNoTail (mode_behind mode true [] sections) (records_behind mode true [] sections)
+    × (rounds_behind mode true [] [] sections ≡ rounds)
 rounds_read Single sections rounds are =
     let none : AllByRecursion HasNoFlush sections = recursion_from_All HasNoFlush sections are.0 in
     (inr none, inl (single_behind Single true [] sections), rounds_same Single true [] [] sections refl ∙ single_rounds [] sections none ∙ sym are.1)
@@ -205,22 +223,28 @@ rounds_read Main sections rounds are =
     let read = flushed_read sections rounds are in
     (inl refl, inr (records_same Main true [] sections refl ∙ read.0), rounds_same Main true [] [] sections refl ∙ read.1)
 rounds_read MainBySection sections rounds are =
-    let read = flushed_read (map with_flush sections) rounds are in
-    (inl refl, inr (records_same MainBySection true [] sections refl ∙ section_records sections), rounds_same MainBySection true [] [] sections refl ∙ section_rounds [] sections ∙ read.1)
+    let read = flushed_read (map with_flush sections) rounds are in (
+      inl refl,
+      inr (records_same MainBySection true [] sections refl ∙ section_records sections),
+      rounds_same MainBySection true [] [] sections refl ∙ section_rounds [] sections ∙ read.1,
+    )
 rounds_read MainAsShown sections rounds are =
     let same = as_shown sections in
     let read = shown_read sections rounds (show_flush sections) are in
     (inl refl, inr (same.0 ∙ read.0), same.1 ∙ read.1)
 
 -- What is read after sections is what a stream says of them, if no record is left.
-pub rounds_spelled : (mode : Mode) (sections : List (List Record)) → FlushesFit (is_single mode) sections → HasNoTail (mode_behind mode true [] sections) (records_behind mode true [] sections)
+pub rounds_spelled : (mode : Mode) (sections : List (List Record)) → FlushesFit (is_single mode) sections
+    → HasNoTail (mode_behind mode true [] sections) (records_behind mode true [] sections)
     → AreRounds mode sections (rounds_behind mode true [] [] sections)
 rounds_spelled Single sections (inl e) tail = absurd cc
-rounds_spelled Single sections (inr none) tail = (All-from_recursion HasNoFlush sections none, rounds_same Single true [] [] sections refl ∙ single_rounds [] sections none)
+rounds_spelled Single sections (inr none) tail =
+    (All-from_recursion HasNoFlush sections none, rounds_same Single true [] [] sections refl ∙ single_rounds [] sections none)
 rounds_spelled Main sections flushes tail =
     subst (AreFlushed sections) (sym (rounds_same Main true [] [] sections refl))
     (flushed_spelled sections (sym (records_same Main true [] sections refl) ∙ none_left Main sections refl tail))
-rounds_spelled MainBySection sections flushes tail = subst (AreFlushed (map with_flush sections)) (sym (rounds_same MainBySection true [] [] sections refl)) (section_spelled sections)
+rounds_spelled MainBySection sections flushes tail =
+    subst (AreFlushed (map with_flush sections)) (sym (rounds_same MainBySection true [] [] sections refl)) (section_spelled sections)
 rounds_spelled MainAsShown sections flushes tail =
     let same = as_shown sections in
     subst (AreFlushed (cond (show_flush sections) sections (map with_flush sections))) (sym same.1)

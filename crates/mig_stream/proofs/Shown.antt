@@ -26,7 +26,9 @@ in_mode m n limit text table old rounds is are = record {
   has_rounds = are;
 }
 
-pub machine_in_mode : (m n : Mode) (limit : ℕ) (text : List ℕ) (table : RamTable) (old rounds : List (List PageRecord)) → (is : IsMachineText m limit text table old)
+-- a machine's stream is one in another mode, too, with the rounds of that mode
+pub machine_in_mode : (m n : Mode) (limit : ℕ) (text : List ℕ) (table : RamTable) (old rounds : List (List PageRecord))
+    → (is : IsMachineText m limit text table old)
     → AreRounds n (is.first ∷ parts_of is.others ++ is.last ∷ []) rounds → IsMachineText n limit text table rounds
 machine_in_mode m n limit text table old rounds is are = record {
   id = is.id;
@@ -57,14 +59,17 @@ by_one : (sections : List (List Record)) (rounds : List (List PageRecord)) (b : 
 by_one sections rounds true are = inl are
 by_one sections rounds false are = inr are
 
-by_flush : (sections : List (List Record)) (rounds : List (List PageRecord)) → show_flush sections ≡ true → AreRounds Main sections rounds → AreRounds MainAsShown sections rounds
+by_flush : (sections : List (List Record)) (rounds : List (List PageRecord)) → show_flush sections ≡ true
+    → AreRounds Main sections rounds → AreRounds MainAsShown sections rounds
 by_flush sections rounds shows are = subst (λ (b : Bool). AreFlushed (cond b sections (map with_flush sections)) rounds) (sym shows) are
 
-by_eos : (sections : List (List Record)) (rounds : List (List PageRecord)) → show_flush sections ≡ false → AreRounds MainBySection sections rounds → AreRounds MainAsShown sections rounds
+by_eos : (sections : List (List Record)) (rounds : List (List PageRecord)) → show_flush sections ≡ false
+    → AreRounds MainBySection sections rounds → AreRounds MainAsShown sections rounds
 by_eos sections rounds shows are = subst (λ (b : Bool). AreFlushed (cond b sections (map with_flush sections)) rounds) (sym shows) are
 
 -- ---- the streams
 
+-- the law: a stream that shows what ends its rounds is one of FLUSH or one of each EOS
 pub shown_law : ShownIsOneOfBoth
 shown_law = λ limit text table rounds is.
     let sections : List (List Record) = is.first ∷ is.parts ++ is.last ∷ [] in
@@ -73,6 +78,7 @@ shown_law = λ limit text table rounds is.
       | inr are ↦ inr (in_mode MainAsShown MainBySection limit text table rounds rounds is are)
     ]
 
+-- the same law of a machine's stream
 pub machine_shown_law : MachineShownIsOneOfBoth
 machine_shown_law = λ limit text table rounds is.
     let sections : List (List Record) = is.first ∷ parts_of is.others ++ is.last ∷ [] in
@@ -81,18 +87,23 @@ machine_shown_law = λ limit text table rounds is.
       | inr are ↦ inr (machine_in_mode MainAsShown MainBySection limit text table rounds rounds is are)
     ]
 
+-- the law: rounds by FLUSH are shown where START has one or the first record behind it is one
 pub flush_law : FlushIsShown
 flush_law = λ limit text table rounds is shows.
     in_mode Main MainAsShown limit text table rounds rounds is (by_flush (is.first ∷ is.parts ++ is.last ∷ []) rounds shows is.has_rounds)
 
+-- the same law of a machine's stream with FLUSHes
 pub machine_flush_law : MachineFlushIsShown
 machine_flush_law = λ limit text table rounds is shows.
     machine_in_mode Main MainAsShown limit text table rounds rounds is (by_flush (is.first ∷ parts_of is.others ++ is.last ∷ []) rounds shows is.has_rounds)
 
+-- the law: rounds by each EOS are shown where neither is
 pub eos_law : EosIsShown
 eos_law = λ limit text table rounds is shows.
     in_mode MainBySection MainAsShown limit text table rounds rounds is (by_eos (is.first ∷ is.parts ++ is.last ∷ []) rounds shows is.has_rounds)
 
+-- the same law of a machine's stream without FLUSHes
 pub machine_eos_law : MachineEosIsShown
 machine_eos_law = λ limit text table rounds is shows.
-    machine_in_mode MainBySection MainAsShown limit text table rounds rounds is (by_eos (is.first ∷ parts_of is.others ++ is.last ∷ []) rounds shows is.has_rounds)
+    machine_in_mode MainBySection MainAsShown limit text table rounds rounds is
+    (by_eos (is.first ∷ parts_of is.others ++ is.last ∷ []) rounds shows is.has_rounds)

@@ -28,7 +28,8 @@ use Rattle.mig_stream.proofs.Fronts.{Front-none, Front-push, Front-append}
 use Rattle.mig_stream.proofs.After.{HasNoTail}
 
 -- whole bytes without a fault are a front of one item
-pub item_front : (c : StreamProgress) (item : List ℕ) → c.due ≢ Nothing → length item ≡ size c.page_size c.due item → first_fault c item ≡ None → Front c item (after c item)
+pub item_front : (c : StreamProgress) (item : List ℕ) → c.due ≢ Nothing → length item ≡ size c.page_size c.due item
+    → first_fault c item ≡ None → Front c item (after c item)
 item_front c item open_ whole free = Front-push c c [] item (Front-none c) (record { is_due = open_; is_whole = whole }) free
 
 -- ---- numbers are read as they are spelled
@@ -130,7 +131,8 @@ section_front c small =
     item_front (record c { due = SectionHead }) (be32 c.section_id) (λ e. absurd cc) refl (rw same refl)
 
 -- a footer, with START's section id
-pub footer_front : (c : StreamProgress) → c.section_id < 2 ^ 32 → has_tail (closes c.frame c.section) c ≡ false → Front (record c { due = Footer }) (footer c.section_id) (end_section c)
+pub footer_front : (c : StreamProgress) → c.section_id < 2 ^ 32 → has_tail (closes c.frame c.section) c ≡ false
+    → Front (record c { due = Footer }) (footer c.section_id) (end_section c)
 footer_front c small whole =
     let same : eqb (be32_at 1 (footer c.section_id)) c.section_id ≡ true = eq-eqb _ _ (be32_footer c.section_id small) in
     item_front (record c { due = Footer }) (footer c.section_id) (λ e. absurd cc) refl (rw (same, whole) refl)
@@ -150,7 +152,8 @@ is_empty mode records (inl e) = inl e
 is_empty mode records (inr e) = inr (ap (λ (x : List PageRecord). eqb (length x) 0) e)
 
 -- the end byte, if no record is left that no FLUSH followed
-pub end_front : (c : StreamProgress) → HasNoTail c.mode c.records → Front (record c { due = TypeByte before.LastFooter }) (end_byte ∷ []) (record c { due = Nothing })
+pub end_front : (c : StreamProgress) → HasNoTail c.mode c.records
+    → Front (record c { due = TypeByte before.LastFooter }) (end_byte ∷ []) (record c { due = Nothing })
 end_front c none =
     let free = no_tail (is_single c.mode) (eqb (length c.records) 0) (is_empty c.mode c.records none) in
     item_front (record c { due = TypeByte before.LastFooter }) (end_byte ∷ []) (λ e. absurd cc) refl
@@ -164,7 +167,8 @@ unfolding be32_at file_header
 header_front c = item_front (record c { due = FileHeader }) file_header (λ e. absurd cc) refl refl
 
 -- the length of a configuration's name
-pub length_front : (c : StreamProgress) (len : ℕ) → len ≤ most_name_bytes → Front (record c { due = ConfigLength }) (be32 len) (record c { due = cond (eqb len 0) (TypeByte before.Configuration) (ConfigName len) })
+pub length_front : (c : StreamProgress) (len : ℕ) → len ≤ most_name_bytes
+    → Front (record c { due = ConfigLength }) (be32 len) (record c { due = cond (eqb len 0) (TypeByte before.Configuration) (ConfigName len) })
 length_front c len small =
     let item : List ℕ = be32 len in
     let d : StreamProgress = record c { due = ConfigLength } in
@@ -175,12 +179,15 @@ length_front c len small =
     subst (λ (x : StreamProgress). Front d item x) new (item_front d item (λ e. absurd cc) refl free)
 
 -- a configuration's name: an item, or nothing where it has no bytes
-pub name_front : (c : StreamProgress) (name : List ℕ) → Front (record c { due = cond (eqb (length name) 0) (TypeByte before.Configuration) (ConfigName (length name)) }) name (record c { due = TypeByte before.Configuration })
+pub name_front : (c : StreamProgress) (name : List ℕ)
+    → Front (record c { due = cond (eqb (length name) 0) (TypeByte before.Configuration) (ConfigName (length name)) }) name
+    (record c { due = TypeByte before.Configuration })
 name_front c [] = Front-none (record c { due = TypeByte before.Configuration })
 name_front c (byte ∷ name) =
     let n : ℕ = length (byte ∷ name) in
     let some : eqb n 0 ≡ false = ne_eqb n 0 (λ e. omega arith) in
-    subst (λ (x : Bool). Front (record c { due = cond x (TypeByte before.Configuration) (ConfigName n) }) (byte ∷ name) (record c { due = TypeByte before.Configuration })) (sym some)
+    subst (λ (x : Bool). Front (record c { due = cond x (TypeByte before.Configuration) (ConfigName n) }) (byte ∷ name)
+    (record c { due = TypeByte before.Configuration })) (sym some)
     (item_front (record c { due = ConfigName n }) (byte ∷ name) (λ e. absurd cc) refl refl)
 
 -- where START's type byte may stand
@@ -193,7 +200,8 @@ pub configuration_front : (c : StreamProgress) (name : Option (List ℕ)) → If
     → Front (record c { due = TypeByte before.FileHeader }) (configuration name) (record c { due = TypeByte (before_start name) })
 configuration_front c None small = Front-none (record c { due = TypeByte before.FileHeader })
 configuration_front c (Some name) small =
-    Front-append _ _ _ _ _ (type_front c before.FileHeader configuration_type refl refl refl) (Front-append _ _ _ _ _ (length_front c (length name) small) (name_front c name))
+    Front-append _ _ _ _ _ (type_front c before.FileHeader configuration_type refl refl refl)
+    (Front-append _ _ _ _ _ (length_front c (length name) small) (name_front c name))
 
 -- START's head after its type byte
 abbrev head_bytes : ℕ → List ℕ
@@ -205,7 +213,8 @@ unfolding be32_at
 start_free c id = refl
 
 -- and it says START's section id
-pub start_front : (c : StreamProgress) (id : ℕ) → id < 2 ^ 32 → Front (record c { due = StartHead }) (head_bytes id) (record c { due = RecordHead; section_id = id })
+pub start_front : (c : StreamProgress) (id : ℕ) → id < 2 ^ 32
+    → Front (record c { due = StartHead }) (head_bytes id) (record c { due = RecordHead; section_id = id })
 start_front c id small =
     let item : List ℕ = head_bytes id in
     let d : StreamProgress = record c { due = StartHead } in
@@ -214,13 +223,15 @@ start_front c id small =
     subst (λ (x : StreamProgress). Front d item x) new (item_front d item (λ e. absurd cc) refl (start_free c id))
 
 -- START's type byte may stand after a configuration, and where there is none
-start_allowed : (name : Option (List ℕ)) → (is_allowed (before_start name) (section_type sections.Start) ≡ true) × (may_pass (before_start name) (section_type sections.Start) ≡ false)
+start_allowed : (name : Option (List ℕ))
+    → (is_allowed (before_start name) (section_type sections.Start) ≡ true) × (may_pass (before_start name) (section_type sections.Start) ≡ false)
 start_allowed None = (refl, refl)
 start_allowed (Some name) = (refl, refl)
 
 -- all that stands before the size list
 pub opening_front : (c : StreamProgress) (name : Option (List ℕ)) (id : ℕ) → IfSome name (λ bytes. length bytes ≤ most_name_bytes) → id < 2 ^ 32
-    → Front (record c { due = FileHeader }) (file_header ++ configuration name ++ start_head id) (record c { due = RecordHead; section = sections.Start; section_id = id })
+    → Front (record c { due = FileHeader }) (file_header ++ configuration name ++ start_head id)
+    (record c { due = RecordHead; section = sections.Start; section_id = id })
 opening_front c name id short small =
     let d : StreamProgress = record c { section = sections.Start } in
     let first : Front (record c { due = TypeByte (before_start name) }) (section_type sections.Start ∷ []) (record d { due = StartHead }) =

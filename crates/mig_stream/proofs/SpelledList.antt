@@ -34,7 +34,8 @@ use Rattle.mig_stream.proofs.Tails.{no_tails, no_tails_length, no_tails_plain, n
 -- ---- what follows an entry
 
 -- a guest address
-address_front : (c : StreamProgress) (last : Bool) (tail : List ℕ) → length tail ≡ 8 → Front (record c { due = Passed (Address last) }) tail (record c { due = list_due last })
+address_front : (c : StreamProgress) (last : Bool) (tail : List ℕ) → length tail ≡ 8
+    → Front (record c { due = Passed (Address last) }) tail (record c { due = list_due last })
 address_front c last tail len = item_front (record c { due = Passed (Address last) }) tail (λ e. absurd cc) len refl
 
 -- a page size is told from all else
@@ -46,11 +47,13 @@ size_told n is =
     let value : be64_at 0 (be64 n) ≡ n = be64_back n (omega (arith, is.fits)) in
     let zero : eqb (get_or (be64 n) 0 0) 0 ≡ true = ap (λ (x : ℕ). eqb x 0) (first_zero n is.fits) in
     let some : eqb (be64_at 0 (be64 n)) 0 ≡ false = ap (λ (x : ℕ). eqb x 0) value ∙ ne_eqb n 0 (λ e. omega (arith, e, is.is_some)) in
-    let whole : eqb (be64_at 0 (be64 n) % least_page_size) 0 ≡ true = ap (λ (x : ℕ). eqb (x % least_page_size) 0) value ∙ ap (λ (x : ℕ). eqb x 0) is.is_multiple in
+    let whole : eqb (be64_at 0 (be64 n) % least_page_size) 0 ≡ true = ap (λ (x : ℕ). eqb (x % least_page_size) 0) value
+    ∙ ap (λ (x : ℕ). eqb x 0) is.is_multiple in
     ap (λ (x : Bool). x && (not (eqb (be64_at 0 (be64 n)) 0) && eqb (be64_at 0 (be64 n) % least_page_size) 0)) zero
     ∙ ap (λ (x : Bool). not x && eqb (be64_at 0 (be64 n) % least_page_size) 0) some ∙ whole
 
-page_size_front : (c : StreamProgress) (last : Bool) (n : ℕ) → IsBlockPageSize n → Front (record c { due = PageSize last }) (be64 n) (record c { due = list_due last })
+page_size_front : (c : StreamProgress) (last : Bool) (n : ℕ) → IsBlockPageSize n
+    → Front (record c { due = PageSize last }) (be64 n) (record c { due = list_due last })
 page_size_front c true n is =
     let d : StreamProgress = record c { due = PageSize true } in
     let told = size_told n is in
@@ -70,14 +73,17 @@ tail_front : (c d : StreamProgress) (form : EntryForm) (last : Bool) (tail more 
     → Front (record c { due = list_due last }) more d → Front (record c { due = entry_due form last }) (tail ++ more) d
 tail_front c d Plain last tail more size is closed f = subst (λ (t : List ℕ). Front (record c { due = list_due last }) (t ++ more) d) (sym is) f
 tail_front c d Addressed last tail more size is closed f = Front-append _ _ _ _ _ (address_front c last tail is) f
-tail_front c d Sized last tail more size (inl none) closed f = subst (λ (t : List ℕ). Front (record c { due = PageSize last }) (t ++ more) d) (sym none) (unsized_front c d last more size closed f)
+tail_front c d Sized last tail more size (inl none) closed f =
+    subst (λ (t : List ℕ). Front (record c { due = PageSize last }) (t ++ more) d) (sym none) (unsized_front c d last more size closed f)
 tail_front c d Sized last tail more size (inr is) closed f =
-    Front-append _ _ _ _ _ (subst (λ (t : List ℕ). Front (record c { due = PageSize last }) t (record c { due = list_due last })) (sym is.1) (page_size_front c last is.0 is.2)) f
+    Front-append _ _ _ _ _ (subst (λ (t : List ℕ). Front (record c { due = PageSize last }) t (record c { due = list_due last }))
+    (sym is.1) (page_size_front c last is.0 is.2)) f
 
 -- ---- entries
 
 -- an entry, where `left` bytes of the total are left
-entry_front : (c : StreamProgress) (before : List Block) (b : Block) (left : ℕ) → IsPageSize c.page_size → length before < max_blocks → is_id b.id ≡ true → block_of before b.id ≡ None
+entry_front : (c : StreamProgress) (before : List Block) (b : Block) (left : ℕ) → IsPageSize c.page_size
+    → length before < max_blocks → is_id b.id ≡ true → block_of before b.id ≡ None
     → 0 < b.pages → b.pages * c.page_size ≤ left → left < 2 ^ 64
     → Front (record c { due = ListEntry; left = Some left; blocks = before }) (entry c.page_size b)
     (record c { due = entry_due c.form (eqb (left - b.pages * c.page_size) 0); left = Some (left - b.pages * c.page_size); blocks = before ++ b ∷ [] })
@@ -88,7 +94,8 @@ entry_front c before b left size few named apart some fits small =
     let len : ℕ = b.pages * c.page_size in
     let id_is : id_in item ≡ b.id = rw add-sub_cancel_left (take_at b.id (be64 len) (length b.id) refl) in
     let len_is : length_in item ≡ len = be64_behind (counted b.id) (1 + length b.id) len (omega arith) (omega arith) in
-    let pages_are : len / c.page_size ≡ b.pages = ap (λ (x : ℕ). x / c.page_size) (sym (add-zero len)) ∙ div-mul-add b.pages c.page_size 0 (omega (arith, large)) in
+    let pages_are : len / c.page_size ≡ b.pages = ap (λ (x : ℕ). x / c.page_size) (sym (add-zero len))
+    ∙ div-mul-add b.pages c.page_size 0 (omega (arith, large)) in
     let whole : len % c.page_size ≡ 0 = ap (λ (x : ℕ). x % c.page_size) (sym (add-zero len)) ∙ mod-mul-add b.pages c.page_size 0 (omega (arith, large)) in
     let positive : 0 < len = omega (arith, mul-le 1 c.page_size b.pages c.page_size some (omega arith), large) in
     let t1 : leb max_blocks (length before) ≡ false = lt-leb _ _ few in
@@ -97,31 +104,41 @@ entry_front c before b left size few named apart some fits small =
     let t4 : eqb len 0 ≡ false = ne_eqb len 0 (λ e. omega arith) in
     let t5 : ltb left len ≡ false = le-ltb _ _ fits in
     let free : first_fault d item ≡ None = rw (t1, t2, t3, len_is, t4, whole, t5) refl in
-    let new : after d item ≡ record c { due = entry_due c.form (eqb (left - len) 0); left = Some (left - len); blocks = before ++ b ∷ [] } = rw (len_is, id_is, pages_are) refl in
+    let new : after d item ≡ record c {
+      due = entry_due c.form (eqb (left - len) 0);
+      left = Some (left - len);
+      blocks = before ++ b ∷ [];
+    } = rw (len_is, id_is, pages_are) refl in
     subst (λ (x : StreamProgress). Front d item x) new (item_front d item (λ e. absurd cc) (omega (arith, length-append b.id (be64 len))) free)
 
 -- the entry goes on to what is left after it
 entry_to : (c : StreamProgress) (before : List Block) (b : Block) (left more : ℕ) (last : Bool) → left - b.pages * c.page_size ≡ more → eqb more 0 ≡ last
     → Front (record c { due = ListEntry; left = Some left; blocks = before }) (entry c.page_size b)
     (record c { due = entry_due c.form (eqb (left - b.pages * c.page_size) 0); left = Some (left - b.pages * c.page_size); blocks = before ++ b ∷ [] })
-    → Front (record c { due = ListEntry; left = Some left; blocks = before }) (entry c.page_size b) (record c { due = entry_due c.form last; left = Some more; blocks = before ++ b ∷ [] })
+    → Front (record c { due = ListEntry; left = Some left; blocks = before }) (entry c.page_size b)
+    (record c { due = entry_due c.form last; left = Some more; blocks = before ++ b ∷ [] })
 entry_to c before b left more last more_is last_is front =
     let from : StreamProgress = record c { due = ListEntry; left = Some left; blocks = before } in
     subst (λ (x : Bool). Front from (entry c.page_size b) (record c { due = entry_due c.form x; left = Some more; blocks = before ++ b ∷ [] })) last_is
-    (subst (λ (n : ℕ). Front from (entry c.page_size b) (record c { due = entry_due c.form (eqb n 0); left = Some n; blocks = before ++ b ∷ [] })) more_is front)
+    (subst (λ (n : ℕ). Front from (entry c.page_size b)
+    (record c { due = entry_due c.form (eqb n 0); left = Some n; blocks = before ++ b ∷ [] })) more_is front)
 
 -- the entries of the blocks that are still to come, and all that is left after them
-entries_front : (c d : StreamProgress) (before : List Block) (b : Block) (blocks : List Block) (tail : List ℕ) (tails : List (List ℕ)) (more : List ℕ) → IsPageSize c.page_size
-    → length before + length (b ∷ blocks) ≤ max_blocks → AreBlocks before (b ∷ blocks) → sum_of c.page_size (b ∷ blocks) < 2 ^ 64 → length tails ≡ length blocks → AllByRecursion (IsTail c.form) (tail ∷ tails) → d.due ≡ Nothing
+entries_front : (c d : StreamProgress) (before : List Block) (b : Block) (blocks : List Block) (tail : List ℕ) (tails : List
+    (List ℕ)) (more : List ℕ) → IsPageSize c.page_size
+    → length before + length (b ∷ blocks) ≤ max_blocks → AreBlocks before (b ∷ blocks) → sum_of c.page_size (b ∷ blocks) < 2 ^ 64
+    → length tails ≡ length blocks → AllByRecursion (IsTail c.form) (tail ∷ tails) → d.due ≡ Nothing
     → Front (record c { due = RecordHead; left = Some 0; blocks = before ++ b ∷ blocks }) more d
-    → Front (record c { due = ListEntry; left = Some (sum_of c.page_size (b ∷ blocks)); blocks = before }) (entries c.page_size (b ∷ blocks) (tail ∷ tails) ++ more) d
+    → Front (record c { due = ListEntry; left = Some (sum_of c.page_size (b ∷ blocks)); blocks = before })
+    (entries c.page_size (b ∷ blocks) (tail ∷ tails) ++ more) d
 entries_front c d before b [] tail [] more size few are small len tailed closed f =
     let left : ℕ = b.pages * c.page_size + 0 in
     let one = entry_front c before b left size (omega arith) are.0 are.1 are.2 (omega arith) small in
     let end = entry_to c before b left 0 true (omega arith) refl one in
     let here : StreamProgress = record c { left = Some 0; blocks = before ++ b ∷ [] } in
     let behind : Front (record here { due = entry_due c.form true }) (tail ++ more) d = tail_front here d c.form true tail more size tailed.0 closed f in
-    subst (λ (x : List ℕ). Front (record c { due = ListEntry; left = Some left; blocks = before }) x d) (sym (regroup_entry (entry c.page_size b) tail [] more)) (Front-append _ _ _ _ _ end behind)
+    subst (λ (x : List ℕ). Front (record c { due = ListEntry; left = Some left; blocks = before }) x d)
+    (sym (regroup_entry (entry c.page_size b) tail [] more)) (Front-append _ _ _ _ _ end behind)
 entries_front c d before b [] tail (other ∷ tails) more size few are small len tailed closed f = absurd (omega (arith, len))
 entries_front c d before b (next ∷ blocks) tail [] more size few are small len tailed closed f = absurd (omega (arith, len))
 entries_front c d before b (next ∷ blocks) tail (other ∷ tails) more size few are small len tailed closed f =
@@ -133,14 +150,19 @@ entries_front c d before b (next ∷ blocks) tail (other ∷ tails) more size fe
     let here : StreamProgress = record c { left = Some after_it; blocks = before ++ b ∷ [] } in
     let rest : List ℕ = entries c.page_size (next ∷ blocks) (other ∷ tails) in
     let whole : Front (record c { due = RecordHead; left = Some 0; blocks = (before ++ b ∷ []) ++ next ∷ blocks }) more d =
-    subst (λ (x : List Block). Front (record c { due = RecordHead; left = Some 0; blocks = x }) more d) (sym (append_assoc before (b ∷ []) (next ∷ blocks))) f in
+    subst (λ (x : List Block). Front (record c { due = RecordHead; left = Some 0; blocks = x }) more d)
+    (sym (append_assoc before (b ∷ []) (next ∷ blocks))) f in
     let others : Front (record here { due = ListEntry }) (rest ++ more) d =
-    entries_front c d (before ++ b ∷ []) next blocks other tails more size (omega (arith, length-append before (b ∷ []))) are.3 (omega arith) (omega (arith, len)) tailed.1 closed whole in
-    let behind : Front (record here { due = entry_due c.form false }) (tail ++ (rest ++ more)) d = tail_front here d c.form false tail (rest ++ more) size tailed.0 closed others in
-    subst (λ (x : List ℕ). Front (record c { due = ListEntry; left = Some left; blocks = before }) x d) (sym (regroup_entry (entry c.page_size b) tail rest more)) (Front-append _ _ _ _ _ first behind)
+    entries_front c d (before ++ b ∷ []) next blocks other tails more size (omega (arith, length-append before (b ∷ []))) are.3
+    (omega arith) (omega (arith, len)) tailed.1 closed whole in
+    let behind : Front (record here { due = entry_due c.form false }) (tail ++ (rest ++ more)) d =
+    tail_front here d c.form false tail (rest ++ more) size tailed.0 closed others in
+    subst (λ (x : List ℕ). Front (record c { due = ListEntry; left = Some left; blocks = before }) x d)
+    (sym (regroup_entry (entry c.page_size b) tail rest more)) (Front-append _ _ _ _ _ first behind)
 
 -- the entries of any blocks but none, and all that is left after them
-all_entries_front : (c d : StreamProgress) (blocks : List Block) (tails : List (List ℕ)) (more : List ℕ) → IsPageSize c.page_size → 0 < length blocks → length blocks ≤ max_blocks → AreBlocks [] blocks
+all_entries_front : (c d : StreamProgress) (blocks : List Block) (tails : List (List ℕ)) (more : List ℕ) → IsPageSize c.page_size
+    → 0 < length blocks → length blocks ≤ max_blocks → AreBlocks [] blocks
     → sum_of c.page_size blocks < 2 ^ 64 → length tails ≡ length blocks → AllByRecursion (IsTail c.form) tails → d.due ≡ Nothing
     → Front (record c { due = RecordHead; left = Some 0; blocks = blocks }) more d
     → Front (record c { due = ListEntry; left = Some (sum_of c.page_size blocks); blocks = [] }) (entries c.page_size blocks tails ++ more) d
@@ -162,7 +184,8 @@ some_pages [] are some = absurd (omega arith)
 some_pages (b ∷ blocks) are some = omega (arith, sum_by-cons (λ (x : Block). x.pages) b blocks, are.2)
 
 -- A whole size list, in front of all that is left.
-pub tailed_front : (c d : StreamProgress) (table : RamTable) (tails : List (List ℕ)) (more : List ℕ) → IsTable table → total_bytes table ≤ c.limit → length tails ≡ length table.blocks → AllByRecursion (IsTail c.form) tails
+pub tailed_front : (c d : StreamProgress) (table : RamTable) (tails : List (List ℕ)) (more : List ℕ) → IsTable table
+    → total_bytes table ≤ c.limit → length tails ≡ length table.blocks → AllByRecursion (IsTail c.form) tails
     → d.due ≡ Nothing → Front (record c { page_size = table.page_size; due = RecordHead; left = Some 0; blocks = table.blocks }) more d
     → Front (record c { page_size = table.page_size; due = RecordHead; left = None; blocks = [] }) (tailed_list table tails ++ more) d
 unfolding tailed_list
@@ -187,5 +210,12 @@ pub list_front : (c d : StreamProgress) (table : RamTable) (more : List ℕ) →
     → d.due ≡ Nothing → Front (record c { form = Plain; page_size = table.page_size; due = RecordHead; left = Some 0; blocks = table.blocks }) more d
     → Front (record c { form = Plain; page_size = table.page_size; due = RecordHead; left = None; blocks = [] }) (size_list table ++ more) d
 list_front c d table more is fits closed f =
-    subst (λ (x : List ℕ). Front (record c { form = Plain; page_size = table.page_size; due = RecordHead; left = None; blocks = [] }) (x ++ more) d) (no_tails_list table)
-    (tailed_front (record c { form = Plain }) d table (no_tails table.blocks) more is fits (no_tails_length table.blocks) (no_tails_plain table.blocks) closed f)
+    subst (λ (x : List ℕ). Front (record c {
+      form = Plain;
+      page_size = table.page_size;
+      due = RecordHead;
+      left = None;
+      blocks = [];
+    }) (x ++ more) d) (no_tails_list table)
+    (tailed_front (record c { form = Plain }) d table (no_tails table.blocks) more is fits (no_tails_length table.blocks)
+    (no_tails_plain table.blocks) closed f)

@@ -38,9 +38,11 @@ before_commands None = before.FileHeader
 before_commands (Some x) = before.Configuration
 
 configured_front : (c : StreamProgress) (o : Option Configuration) → is_machine c.frame ≡ true → IfSome o (IsConfiguration c.page_size)
-    → Front (record c { due = TypeByte before.FileHeader }) (configured o) (record c { due = TypeByte (before_commands o); form = cond (ignores_shared o) Addressed c.form })
+    → Front (record c { due = TypeByte before.FileHeader }) (configured o)
+    (record c { due = TypeByte (before_commands o); form = cond (ignores_shared o) Addressed c.form })
 configured_front c None machine is = Front-none (record c { due = TypeByte before.FileHeader })
-configured_front c (Some x) machine is = Front-append _ _ _ _ _ (configuration_front c (Some x.name) is.has_name) (subsections_front c x.subsections machine is.are_bodies)
+configured_front c (Some x) machine is =
+    Front-append _ _ _ _ _ (configuration_front c (Some x.name) is.has_name) (subsections_front c x.subsections machine is.are_bodies)
 
 may_command : (o : Option Configuration) → may_pass (before_commands o) 8 ≡ true
 may_command None = refl
@@ -64,24 +66,34 @@ may_start (Some x) [] = (refl, refl)
 may_start None (x ∷ xs) = start_behind xs
 may_start (Some y) (x ∷ xs) = start_behind xs
 
-opening_front : (c : StreamProgress) (o : Option Configuration) (xs : List Command) (id : ℕ) → is_machine c.frame ≡ true → IfSome o (IsConfiguration c.page_size) → AllByRecursion IsCommand xs
+opening_front : (c : StreamProgress) (o : Option Configuration) (xs : List Command) (id : ℕ) → is_machine c.frame ≡ true
+    → IfSome o (IsConfiguration c.page_size) → AllByRecursion IsCommand xs
     → (is_addressed (cond (ignores_shared o) Addressed c.form) ≡ true → list_any is_advise xs ≡ false) → id < 2 ^ 32
     → Front (record c { due = FileHeader }) (file_header ++ configured o ++ flat_map command xs ++ start_head id)
-    (record c { due = RecordHead; section = sections.Start; section_id = id; form = cond (list_any is_advise xs) Sized (cond (ignores_shared o) Addressed c.form) })
+    (record c {
+      due = RecordHead;
+      section = sections.Start;
+      section_id = id;
+      form = cond (list_any is_advise xs) Sized (cond (ignores_shared o) Addressed c.form);
+    })
 opening_front c o xs id machine is are one small =
     let named : StreamProgress = record c { form = cond (ignores_shared o) Addressed c.form } in
     let told : StreamProgress = record named { form = cond (list_any is_advise xs) Sized named.form } in
     let d : StreamProgress = record told { section = sections.Start } in
     let b : Before = behind_commands (before_commands o) xs in
     let may : MayStart b = may_start o xs in
-    let first : Front (record told { due = TypeByte b }) (section_type sections.Start ∷ []) (record d { due = StartHead }) = type_front told b (section_type sections.Start) may.0 may.1 refl in
-    let passed : Front (record named { due = TypeByte (before_commands o) }) (flat_map command xs) (record told { due = TypeByte b }) = commands_front named (before_commands o) xs machine (may_command o) (opens o) are one in
-    Front-append _ _ _ _ _ (Front-append _ _ _ _ _ (Front-append _ _ _ _ _ (header_front c) (configured_front c o machine is)) passed) (Front-append _ _ _ _ _ first (start_front d id small))
+    let first : Front (record told { due = TypeByte b }) (section_type sections.Start ∷ []) (record d { due = StartHead }) =
+    type_front told b (section_type sections.Start) may.0 may.1 refl in
+    let passed : Front (record named { due = TypeByte (before_commands o) }) (flat_map command xs)
+    (record told { due = TypeByte b }) = commands_front named (before_commands o) xs machine (may_command o) (opens o) are one in
+    Front-append _ _ _ _ _ (Front-append _ _ _ _ _
+    (Front-append _ _ _ _ _ (header_front c) (configured_front c o machine is)) passed) (Front-append _ _ _ _ _ first (start_front d id small))
 
 -- ---- what stands after START's footer
 
 -- after the last records no FLUSH is missing
-no_tail_left : (mode : Mode) (records : List PageRecord) → HasNoTail mode (open_records mode records) → (not (is_single mode) && not (length records == 0)) ≡ false
+no_tail_left : (mode : Mode) (records : List PageRecord) → HasNoTail mode (open_records mode records)
+    → (not (is_single mode) && not (length records == 0)) ≡ false
 no_tail_left Single records none = refl
 no_tail_left Main records (inl e) = absurd cc
 no_tail_left Main records (inr e) = ap (λ (x : List PageRecord). not (length x == 0)) e
@@ -91,23 +103,32 @@ no_tail_left MainAsShown records (inl e) = absurd cc
 no_tail_left MainAsShown records (inr e) = ap (λ (x : List PageRecord). not (length x == 0)) e
 
 -- END, whose footer closes the stream
-end_front_of : (c : StreamProgress) (records : List Record) → is_machine c.frame ≡ true → IsTable (table_of c) → c.section_id < 2 ^ 32 → is_none c.left ≡ false → is_single c.mode ≡ false ⊎ HasNoFlush records
+end_front_of : (c : StreamProgress) (records : List Record) → is_machine c.frame ≡ true → IsTable (table_of c)
+    → c.section_id < 2 ^ 32 → is_none c.left ≡ false → is_single c.mode ≡ false ⊎ HasNoFlush records
     → Follow (table_of c) c.named records → HasNoTail (mode_behind c.mode false c.records (records ∷ [])) (records_behind c.mode false c.records (records ∷ []))
-    → Front (record (unlimited c) { due = TypeByte before.Footer }) (section (table_of c) sections.End c.section_id records) (at_end (unlimited c) (records ∷ []))
+    → Front (record (unlimited c) { due = TypeByte before.Footer }) (section (table_of c) sections.End c.section_id records)
+    (at_end (unlimited c) (records ∷ []))
 end_front_of c records machine is small begun flushes follow none =
     let u : StreamProgress = unlimited c in
     let d : StreamProgress = record u { section = sections.End } in
     let e : StreamProgress = end_records (after_records d records) in
     let whole : has_tail (is_machine u.frame) e ≡ false = ap (λ (x : Bool). has_tail x e) machine ∙ no_tail_left e.mode e.records none in
-    let due : after_body d records ≡ at_end u (records ∷ []) = ap (λ (x : Bool). record (after_body d records) { due = cond x Nothing (TypeByte before.LastFooter) }) machine in
+    let due : after_body d records ≡ at_end u (records ∷ []) =
+    ap (λ (x : Bool). record (after_body d records) { due = cond x Nothing (TypeByte before.LastFooter) }) machine in
     let there : Front (record d { due = RecordHead }) (body (table_of u) u.section_id records) (at_end u (records ∷ [])) =
-    subst (λ (x : StreamProgress). Front (record d { due = RecordHead }) (body (table_of u) u.section_id records) x) due (body_front d records is small begun flushes follow whole) in
+    subst (λ (x : StreamProgress). Front (record d { due = RecordHead }) (body (table_of u) u.section_id records) x) due
+    (body_front d records is small begun flushes follow whole) in
     Front-append _ _ _ _ _ (type_front u before.Footer (section_type sections.End) refl refl refl) (Front-append _ _ _ _ _ (section_front d small) there)
 
 -- PARTs and COMMANDs, and END
-others_front : (c : StreamProgress) (others : List PartOrCommand) (last : List Record) → is_machine c.frame ≡ true → AllByRecursion IsPartOrCommand others → IsTable (table_of c) → c.section_id < 2 ^ 32 → is_none c.left ≡ false
-    → FlushesFit (is_single c.mode) (parts_of others ++ last ∷ []) → Follow (table_of c) c.named (all_records (parts_of others) ++ last) → HasNoTail (mode_behind c.mode false c.records (parts_of others ++ last ∷ [])) (records_behind c.mode false c.records (parts_of others ++ last ∷ []))
-    → Front (record (unlimited c) { due = TypeByte before.Footer }) (flat_map (part_or_command (table_of c) c.section_id) others ++ section (table_of c) sections.End c.section_id last) (at_end (unlimited c) (parts_of others ++ last ∷ []))
+others_front : (c : StreamProgress) (others : List PartOrCommand) (last : List Record) → is_machine c.frame ≡ true
+    → AllByRecursion IsPartOrCommand others → IsTable (table_of c) → c.section_id < 2 ^ 32 → is_none c.left ≡ false
+    → FlushesFit (is_single c.mode) (parts_of others ++ last ∷ [])
+    → Follow (table_of c) c.named (all_records (parts_of others) ++ last)
+    → HasNoTail (mode_behind c.mode false c.records (parts_of others ++ last ∷ [])) (records_behind c.mode false c.records (parts_of others ++ last ∷ []))
+    → Front (record (unlimited c) { due = TypeByte before.Footer })
+    (flat_map (part_or_command (table_of c) c.section_id) others ++ section (table_of c) sections.End c.section_id last)
+    (at_end (unlimited c) (parts_of others ++ last ∷ []))
 others_front c [] last machine may is small begun flushes follow none =
     let u : StreamProgress = unlimited c in
     end_front_of u last machine is small begun (FlushesFit-first (is_single u.mode) last [] flushes) follow none
@@ -125,12 +146,15 @@ others_front c (PartOf records ∷ others) last machine may is small begun flush
     let f : Follow (table_of u) u.named (records ++ more) = subst (Follow (table_of u) u.named) all follow in
     let d : StreamProgress = after_body (record u { section = sections.Part }) records in
     let end : List ℕ = section (table_of u) sections.End u.section_id last in
-    let one = part_front u records is small begun (FlushesFit-first (is_single u.mode) records (parts_of others ++ last ∷ []) flushes) (Follow-first (table_of u) u.named records more f) in
+    let one = part_front u records is small begun
+    (FlushesFit-first (is_single u.mode) records (parts_of others ++ last ∷ []) flushes) (Follow-first (table_of u) u.named records more f) in
     let fit : FlushesFit (is_single d.mode) (parts_of others ++ last ∷ []) =
-    subst (λ (single : Bool). FlushesFit single (parts_of others ++ last ∷ [])) (sym (single_kept u.mode false u.records records)) (FlushesFit-rest (is_single u.mode) records (parts_of others ++ last ∷ []) flushes) in
+    subst (λ (single : Bool). FlushesFit single (parts_of others ++ last ∷ [])) (sym (single_kept u.mode false u.records records))
+    (FlushesFit-rest (is_single u.mode) records (parts_of others ++ last ∷ []) flushes) in
     let rest = others_front d others last machine may.1 is small begun fit (Follow-rest (table_of u) u.named records more f) none in
     let bytes = append_assoc (section (table_of u) sections.Part u.section_id records) (flat_map (part_or_command (table_of u) u.section_id) others) end in
-    subst (λ (z : List ℕ). Front (record u { due = TypeByte before.Footer }) z (at_end u ((records ∷ parts_of others) ++ last ∷ []))) (sym bytes) (Front-append _ _ _ _ _ one rest)
+    subst (λ (z : List ℕ). Front (record u { due = TypeByte before.Footer }) z
+    (at_end u ((records ∷ parts_of others) ++ last ∷ []))) (sym bytes) (Front-append _ _ _ _ _ one rest)
 
 -- ---- the complete stream
 
@@ -139,23 +163,28 @@ regroup : (a b c d e f g h : List ℕ) → ((((((a ++ b) ++ c) ++ d) ++ e) ++ f)
 regroup a b c d e f g h = simp append_assoc refl
 
 -- Each machine's stream is read closed, whatever follows it.
-pub machine_is_read : (mode : Mode) (limit : ℕ) (text rest : List ℕ) (table : RamTable) (rounds : List (List PageRecord)) → IsMachineText mode limit text table rounds
+pub machine_is_read : (mode : Mode) (limit : ℕ) (text rest : List ℕ) (table : RamTable) (rounds : List (List PageRecord))
+    → IsMachineText mode limit text table rounds
     → IsReading (in_frame Machine (settings mode table.page_size limit)) (text ++ rest) (closed table rounds)
 machine_is_read mode limit text rest table rounds is =
     let others : List (List Record) = parts_of is.others ++ is.last ∷ [] in
     let behind : List Record = all_records (parts_of is.others) ++ is.last in
     let told = rounds_read mode (is.first ∷ others) rounds is.has_rounds in
-    let follow : Follow table None (is.first ++ behind) = subst (Follow table None) (append_assoc is.first (all_records (parts_of is.others)) is.last) is.follow in
+    let follow : Follow table None (is.first ++ behind) =
+    subst (Follow table None) (append_assoc is.first (all_records (parts_of is.others)) is.last) is.follow in
     let from : StreamProgress = start Machine mode table.page_size limit None in
     let begun : StreamProgress = record from { due = RecordHead; section_id = is.id; form = form_of is.machine is.commands } in
     let listed : StreamProgress = record begun { left = Some 0; blocks = table.blocks } in
     let first : StreamProgress = after_body listed is.first in
-    let opening = opening_front from is.machine is.commands is.id refl is.has_machine is.are_commands (λ e. is.is_one_form (addressed_told (ignores_shared is.machine) e)) is.has_id in
+    let opening = opening_front from is.machine is.commands is.id refl is.has_machine is.are_commands
+    (λ e. is.is_one_form (addressed_told (ignores_shared is.machine) e)) is.has_id in
     let fit : FlushesFit (is_single first.mode) others =
     subst (λ (single : Bool). FlushesFit single others) (sym (single_kept mode true [] is.first)) (FlushesFit-rest (is_single mode) is.first others told.0) in
-    let start_body = body_front listed is.first is.has_table is.has_id refl (FlushesFit-first (is_single mode) is.first others told.0) (Follow-first table None is.first behind follow) refl in
+    let start_body = body_front listed is.first is.has_table is.has_id refl
+    (FlushesFit-first (is_single mode) is.first others told.0) (Follow-first table None is.first behind follow) refl in
     let end = others_front first is.others is.last refl is.are_others is.has_table is.has_id refl fit (Follow-rest table None is.first behind follow) told.1 in
-    let spelled = is.is_spelled ∙ regroup file_header (configured is.machine) (flat_map command is.commands) (start_head is.id) (tailed_list table is.tails) (body table is.id is.first) (flat_map (part_or_command table is.id) is.others)
+    let spelled = is.is_spelled ∙ regroup file_header (configured is.machine) (flat_map command is.commands) (start_head is.id)
+    (tailed_list table is.tails) (body table is.id is.first) (flat_map (part_or_command table is.id) is.others)
     (section table sections.End is.id is.last) in
     let to : StreamProgress = at_end first others in
     let list = tailed_front begun to table is.tails _ is.has_table is.has_limit is.has_tails is.are_tails refl (Front-append _ _ _ _ _ start_body end) in

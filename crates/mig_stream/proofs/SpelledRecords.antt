@@ -34,7 +34,13 @@ use Rattle.mig_stream.proofs.Steps.{flush_keeps}
 page_fits : (table : RamTable) (b page : ℕ) (kind : RecordKind) → IsTable table → b < length table.blocks → page < (block table.blocks b).pages
     → page * table.page_size + flags_of kind < 2 ^ 64
 page_fits table b page kind is known in_range =
-    omega (arith, flags_small kind, page_size_large table.page_size is.has_page_size, page_before table.page_size (block table.blocks b).pages page in_range, block_room table b is known)
+    omega (
+      arith,
+      flags_small kind,
+      page_size_large table.page_size is.has_page_size,
+      page_before table.page_size (block table.blocks b).pages page in_range,
+      block_room table b is known,
+    )
 
 -- a page's content, as a mark or whole
 pub content_front : (c : StreamProgress) (at : Place) (content : Option (List ℕ)) → IfSome content (λ bytes. length bytes ≡ c.page_size)
@@ -81,13 +87,16 @@ page_front c true r is begun fits =
     let inside : ltb page (block u.blocks b).pages ≡ true = lt-ltb page (block u.blocks b).pages fits.has_place.has_page in
     let head = head_front d (Continued filling) page is.has_page_size small (rw (begun, inside) refl) in
     let content = content_front d r.place r.content fits.has_size in
-    subst (λ (n : Option ℕ). Front (record u { due = RecordHead; named = n }) (page_record (table_of u) true r) (after_page u r)) (sym (fits.is_carried refl)) (Front-append _ _ _ _ _ head content)
+    subst (λ (n : Option ℕ). Front (record u { due = RecordHead; named = n }) (page_record (table_of u) true r) (after_page u r))
+    (sym (fits.is_carried refl)) (Front-append _ _ _ _ _ head content)
 
 -- ---- records one after another
 
 -- page records and FLUSHes, as far as the mode has them
-records_front : (c : StreamProgress) (records : List Record) → IsTable (table_of c) → is_none c.left ≡ false → is_single c.mode ≡ false ⊎ HasNoFlush records → Follow (table_of c) c.named records
-    → Front (record (unlimited c) { due = RecordHead }) (flat_map (record_bytes (table_of c)) records) (record (after_records (unlimited c) records) { due = RecordHead })
+records_front : (c : StreamProgress) (records : List Record) → IsTable (table_of c) → is_none c.left ≡ false
+    → is_single c.mode ≡ false ⊎ HasNoFlush records → Follow (table_of c) c.named records
+    → Front (record (unlimited c) { due = RecordHead }) (flat_map (record_bytes (table_of c)) records)
+    (record (after_records (unlimited c) records) { due = RecordHead })
 records_front c [] is begun flushes follow =
     let u : StreamProgress = unlimited c in
     Front-none (record u { due = RecordHead })
@@ -107,7 +116,8 @@ records_front c (FlushMark ∷ records) is begun (inr none) follow =
     absurd none
 
 -- a section's records, EOS and footer
-pub body_front : (c : StreamProgress) (records : List Record) → IsTable (table_of c) → c.section_id < 2 ^ 32 → is_none c.left ≡ false → is_single c.mode ≡ false ⊎ HasNoFlush records
+pub body_front : (c : StreamProgress) (records : List Record) → IsTable (table_of c) → c.section_id < 2 ^ 32
+    → is_none c.left ≡ false → is_single c.mode ≡ false ⊎ HasNoFlush records
     → Follow (table_of c) c.named records → has_tail (closes c.frame c.section) (end_records (after_records (unlimited c) records)) ≡ false
     → Front (record (unlimited c) { due = RecordHead }) (body (table_of c) c.section_id records) (after_body (unlimited c) records)
 body_front c records is small begun flushes follow whole =

@@ -20,7 +20,8 @@ use Rattle.mig_stream.proofs.SpelledRecords.{body_front}
 -- ---- what holds of sections holds of the first and of the others
 
 -- the FLUSHes of the first section fit the mode
-pub FlushesFit-first : (single : Bool) (records : List Record) (others : List (List Record)) → FlushesFit single (records ∷ others) → single ≡ false ⊎ HasNoFlush records
+pub FlushesFit-first : (single : Bool) (records : List Record) (others : List (List Record))
+    → FlushesFit single (records ∷ others) → single ≡ false ⊎ HasNoFlush records
 FlushesFit-first single records others (inl e) = inl e
 FlushesFit-first single records others (inr h) = inr h.0
 
@@ -60,33 +61,45 @@ at_end c others = record c {
 }
 
 -- a PART
-pub part_front : (c : StreamProgress) (records : List Record) → IsTable (table_of c) → c.section_id < 2 ^ 32 → is_none c.left ≡ false → is_single c.mode ≡ false ⊎ HasNoFlush records
+pub part_front : (c : StreamProgress) (records : List Record) → IsTable (table_of c) → c.section_id < 2 ^ 32
+    → is_none c.left ≡ false → is_single c.mode ≡ false ⊎ HasNoFlush records
     → Follow (table_of c) c.named records
-    → Front (record (unlimited c) { due = TypeByte before.Footer }) (section (table_of c) sections.Part c.section_id records) (after_body (record (unlimited c) { section = sections.Part }) records)
+    → Front (record (unlimited c) { due = TypeByte before.Footer }) (section (table_of c) sections.Part c.section_id records)
+    (after_body (record (unlimited c) { section = sections.Part }) records)
 part_front c records is small begun flushes follow =
     let u : StreamProgress = unlimited c in
     let d : StreamProgress = record u { section = sections.Part } in
-    Front-append _ _ _ _ _ (type_front u before.Footer (section_type sections.Part) refl refl refl) (Front-append _ _ _ _ _ (section_front d small) (body_front d records is small begun flushes follow refl))
+    Front-append _ _ _ _ _ (type_front u before.Footer (section_type sections.Part) refl refl refl)
+    (Front-append _ _ _ _ _ (section_front d small) (body_front d records is small begun flushes follow refl))
 
 -- END and the end byte
-end_front_of : (c : StreamProgress) (records : List Record) → is_machine c.frame ≡ false → IsTable (table_of c) → c.section_id < 2 ^ 32 → is_none c.left ≡ false → is_single c.mode ≡ false ⊎ HasNoFlush records
+end_front_of : (c : StreamProgress) (records : List Record) → is_machine c.frame ≡ false → IsTable (table_of c)
+    → c.section_id < 2 ^ 32 → is_none c.left ≡ false → is_single c.mode ≡ false ⊎ HasNoFlush records
     → Follow (table_of c) c.named records → HasNoTail (mode_behind c.mode false c.records (records ∷ [])) (records_behind c.mode false c.records (records ∷ []))
-    → Front (record (unlimited c) { due = TypeByte before.Footer }) (section (table_of c) sections.End c.section_id records ++ end_byte ∷ []) (at_end (unlimited c) (records ∷ []))
+    → Front (record (unlimited c) { due = TypeByte before.Footer })
+    (section (table_of c) sections.End c.section_id records ++ end_byte ∷ []) (at_end (unlimited c) (records ∷ []))
 end_front_of c records ram is small begun flushes follow none =
     let u : StreamProgress = unlimited c in
     let d : StreamProgress = record u { section = sections.End } in
     let e : StreamProgress = record (after_body d records) { due = TypeByte before.LastFooter } in
-    let whole : has_tail (is_machine u.frame) (end_records (after_records d records)) ≡ false = ap (λ (x : Bool). has_tail x (end_records (after_records d records))) ram in
+    let whole : has_tail (is_machine u.frame) (end_records (after_records d records)) ≡ false =
+    ap (λ (x : Bool). has_tail x (end_records (after_records d records))) ram in
     let due : after_body d records ≡ e = ap (λ (x : Bool). record (after_body d records) { due = cond x Nothing (TypeByte before.LastFooter) }) ram in
     let body_there : Front (record d { due = RecordHead }) (body (table_of u) u.section_id records) e =
-    subst (λ (x : StreamProgress). Front (record d { due = RecordHead }) (body (table_of u) u.section_id records) x) due (body_front d records is small begun flushes follow whole) in
-    let first = Front-append _ _ _ _ _ (type_front u before.Footer (section_type sections.End) refl refl refl) (Front-append _ _ _ _ _ (section_front d small) body_there) in
+    subst (λ (x : StreamProgress). Front (record d { due = RecordHead }) (body (table_of u) u.section_id records) x) due
+    (body_front d records is small begun flushes follow whole) in
+    let first = Front-append _ _ _ _ _ (type_front u before.Footer (section_type sections.End) refl refl refl)
+    (Front-append _ _ _ _ _ (section_front d small) body_there) in
     Front-append _ _ _ _ _ first (end_front (after_body d records) none)
 
 -- PARTs, END and the end byte
-pub sections_front : (c : StreamProgress) (parts : List (List Record)) (last : List Record) → is_machine c.frame ≡ false → IsTable (table_of c) → c.section_id < 2 ^ 32 → is_none c.left ≡ false
-    → FlushesFit (is_single c.mode) (parts ++ last ∷ []) → Follow (table_of c) c.named (all_records parts ++ last) → HasNoTail (mode_behind c.mode false c.records (parts ++ last ∷ [])) (records_behind c.mode false c.records (parts ++ last ∷ []))
-    → Front (record (unlimited c) { due = TypeByte before.Footer }) (flat_map (section (table_of c) sections.Part c.section_id) parts ++ (section (table_of c) sections.End c.section_id last ++ end_byte ∷ [])) (at_end (unlimited c) (parts ++ last ∷ []))
+pub sections_front : (c : StreamProgress) (parts : List (List Record)) (last : List Record) → is_machine c.frame ≡ false
+    → IsTable (table_of c) → c.section_id < 2 ^ 32 → is_none c.left ≡ false
+    → FlushesFit (is_single c.mode) (parts ++ last ∷ []) → Follow (table_of c) c.named (all_records parts ++ last)
+    → HasNoTail (mode_behind c.mode false c.records (parts ++ last ∷ [])) (records_behind c.mode false c.records (parts ++ last ∷ []))
+    → Front (record (unlimited c) { due = TypeByte before.Footer })
+    (flat_map (section (table_of c) sections.Part c.section_id) parts
+    ++ (section (table_of c) sections.End c.section_id last ++ end_byte ∷ [])) (at_end (unlimited c) (parts ++ last ∷ []))
 sections_front c [] last ram is small begun flushes follow none =
     let u : StreamProgress = unlimited c in
     end_front_of u last ram is small begun (FlushesFit-first (is_single u.mode) last [] flushes) follow none
@@ -97,9 +110,12 @@ sections_front c (records ∷ parts) last ram is small begun flushes follow none
     let f : Follow (table_of u) u.named (records ++ others) = subst (Follow (table_of u) u.named) all follow in
     let d : StreamProgress = after_body (record u { section = sections.Part }) records in
     let end : List ℕ = section (table_of u) sections.End u.section_id last ++ end_byte ∷ [] in
-    let one = part_front u records is small begun (FlushesFit-first (is_single u.mode) records (parts ++ last ∷ []) flushes) (Follow-first (table_of u) u.named records others f) in
+    let one = part_front u records is small begun (FlushesFit-first (is_single u.mode) records (parts ++ last ∷ []) flushes)
+    (Follow-first (table_of u) u.named records others f) in
     let fit : FlushesFit (is_single d.mode) (parts ++ last ∷ []) =
-    subst (λ (single : Bool). FlushesFit single (parts ++ last ∷ [])) (sym (single_kept u.mode false u.records records)) (FlushesFit-rest (is_single u.mode) records (parts ++ last ∷ []) flushes) in
+    subst (λ (single : Bool). FlushesFit single (parts ++ last ∷ [])) (sym (single_kept u.mode false u.records records))
+    (FlushesFit-rest (is_single u.mode) records (parts ++ last ∷ []) flushes) in
     let rest = sections_front d parts last ram is small begun fit (Follow-rest (table_of u) u.named records others f) none in
     let bytes = append_assoc (section (table_of u) sections.Part u.section_id records) (flat_map (section (table_of u) sections.Part u.section_id) parts) end in
-    subst (λ (x : List ℕ). Front (record u { due = TypeByte before.Footer }) x (at_end u ((records ∷ parts) ++ last ∷ []))) (sym bytes) (Front-append _ _ _ _ _ one rest)
+    subst (λ (x : List ℕ). Front (record u { due = TypeByte before.Footer }) x (at_end u ((records ∷ parts) ++ last ∷ [])))
+    (sym bytes) (Front-append _ _ _ _ _ one rest)

@@ -39,7 +39,8 @@ regroup : (a b c d e f g h : List ℕ) → ((((((a ++ b) ++ c) ++ d) ++ e) ++ f)
 regroup a b c d e f g h = simp append_assoc refl
 
 -- Each stream is read completely.
-pub text_is_read : (mode : Mode) (limit : ℕ) (text : List ℕ) (table : RamTable) (rounds : List (List PageRecord)) → IsText mode limit text table rounds → IsReadWhole mode limit text table rounds
+pub text_is_read : (mode : Mode) (limit : ℕ) (text : List ℕ) (table : RamTable) (rounds : List (List PageRecord))
+    → IsText mode limit text table rounds → IsReadWhole mode limit text table rounds
 text_is_read mode limit text table rounds is =
     let others : List (List Record) = is.parts ++ is.last ∷ [] in
     let behind : List Record = all_records is.parts ++ is.last in
@@ -52,12 +53,14 @@ text_is_read mode limit text table rounds is =
     let opening = opening_front from is.name is.id is.has_name is.has_id in
     let fit : FlushesFit (is_single first.mode) others =
     subst (λ (single : Bool). FlushesFit single others) (sym (single_kept mode true [] is.first)) (FlushesFit-rest (is_single mode) is.first others told.0) in
-    let start_body = body_front listed is.first is.has_table is.has_id refl (FlushesFit-first (is_single mode) is.first others told.0) (Follow-first table None is.first behind follow) refl in
+    let start_body = body_front listed is.first is.has_table is.has_id refl
+    (FlushesFit-first (is_single mode) is.first others told.0) (Follow-first table None is.first behind follow) refl in
     let end = sections_front first is.parts is.last refl is.has_table is.has_id refl fit (Follow-rest table None is.first behind follow) told.1 in
     let parts : List ℕ = flat_map (section table sections.Part is.id) is.parts in
     let to : StreamProgress = at_end first others in
     let list = list_front begun to table _ is.has_table is.has_limit refl (Front-append _ _ _ _ _ start_body end) in
-    let spelled = is.is_spelled ∙ regroup file_header (configuration is.name) (start_head is.id) (size_list table) (body table is.id is.first) parts (section table sections.End is.id is.last) (end_byte ∷ []) in
+    let spelled = is.is_spelled ∙ regroup file_header (configuration is.name) (start_head is.id) (size_list table)
+    (body table is.id is.first) parts (section table sections.End is.id is.last) (end_byte ∷ []) in
     record {
       to = to;
       leads = subst (λ (x : List ℕ). Front from x to) (sym spelled) (Front-append _ _ _ _ _ opening list);
@@ -67,7 +70,8 @@ text_is_read mode limit text table rounds is =
     }
 
 -- The reading of a stream ends with it, whatever follows it.
-text_reads : (mode : Mode) (limit : ℕ) (text rest : List ℕ) (table : RamTable) (rounds : List (List PageRecord)) → (is : IsReadWhole mode limit text table rounds)
+text_reads : (mode : Mode) (limit : ℕ) (text rest : List ℕ) (table : RamTable) (rounds : List (List PageRecord))
+    → (is : IsReadWhole mode limit text table rounds)
     → Reads (start Ram mode table.page_size limit None) (text ++ rest) is.to rest Closed
 text_reads mode limit text rest table rounds is = record { front = text; has_text = refl; leads = is.leads; ends = is.is_closed }
 
@@ -84,13 +88,16 @@ spelled_law = λ mode limit text rest table rounds is_text.
     }
 
 -- two whole readings of the same bytes are one
-one_whole : (mode : Mode) (limit : ℕ) (a b x y : List ℕ) (s t : RamTable) (p q : List (List PageRecord)) → s.page_size ≡ t.page_size → IsReadWhole mode limit a s p → IsReadWhole mode limit b t q
+one_whole : (mode : Mode) (limit : ℕ) (a b x y : List ℕ) (s t : RamTable) (p q : List (List PageRecord))
+    → s.page_size ≡ t.page_size → IsReadWhole mode limit a s p → IsReadWhole mode limit b t q
     → a ++ x ≡ b ++ y → (a ≡ b) × (s ≡ t) × (p ≡ q)
 one_whole mode limit a b x y s t p q size f g e =
     let from : StreamProgress = start Ram mode t.page_size limit None in
     let one : Reads (start Ram mode s.page_size limit None) (a ++ x) f.to x Closed = text_reads mode limit a x s p f in
     let two : Reads from (b ++ y) g.to y Closed = text_reads mode limit b y t q g in
-    let here : Reads from (b ++ y) f.to x Closed = subst (λ (n : ℕ). Reads (start Ram mode n limit None) (b ++ y) f.to x Closed) size (subst (λ (z : List ℕ). Reads (start Ram mode s.page_size limit None) z f.to x Closed) e one) in
+    let here : Reads from (b ++ y) f.to x Closed =
+    subst (λ (n : ℕ). Reads (start Ram mode n limit None) (b ++ y) f.to x Closed) size
+    (subst (λ (z : List ℕ). Reads (start Ram mode s.page_size limit None) z f.to x Closed) e one) in
     let same = one_reading from (b ++ y) f.to g.to x y Closed Closed here two in
     let fronts : a ++ x ≡ b ++ x = e ∙ ap (λ (z : List ℕ). b ++ z) (sym same.1) in
     let tables : Some s ≡ Some t = sym f.has_table ∙ ap whole_table same.0 ∙ g.has_table in

@@ -11,7 +11,7 @@ use Rattle.mig_stream.specs.PageRecord.{PageRecord}
 use Rattle.mig_stream.specs.Progress.{StreamProgress, start, is_used_up, table_of, whole_table}
 use Rattle.mig_stream.specs.Reading.{Settings, Reads, StreamReading, IsReading, state_at}
 use Rattle.mig_stream.specs.Round.{RoundOfRecords}
-use Rattle.mig_stream.specs.Reader.{Reader, ReadsOn, with_taken, SoFar, nothing_yet, with_piece, one_taken, Stands, StepsOn, Tells, waiting, HasState, IsSettled, HasTable, HasRound}
+use Rattle.mig_stream.specs.Reader.{Reader, ReadsOn, with_taken, SoFar, nothing_yet, with_piece, one_taken, Stands, StepsOn, Tells, waiting, HasState, IsFinal, HasTable, HasRound}
 use Rattle.mig_stream.proofs.Feeding.{reads_short}
 use Rattle.mig_stream.proofs.Later.{Reads-on, Reads-more}
 use Rattle.mig_stream.proofs.Steps.{IsLater-front}
@@ -22,7 +22,10 @@ use Rattle.mig_stream.proofs.Placing.{placed_front}
 abbrev from : Settings → StreamProgress
 from given = start given.frame given.mode given.page_size given.limit given.waiting
 
-pub stands_first : (given : Settings) (r : Reader) → r.progress ≡ start given.frame given.mode given.page_size given.limit given.waiting → r.pending ≡ [] → r.found ≡ Reading → r.valid_up_to ≡ 0 → r.fed ≡ 0 → r.ended ≡ false
+-- a reader stands before the first byte
+pub stands_first : (given : Settings) (r : Reader)
+    → r.progress ≡ start given.frame given.mode given.page_size given.limit given.waiting → r.pending ≡ [] → r.found ≡ Reading
+    → r.valid_up_to ≡ 0 → r.fed ≡ 0 → r.ended ≡ false
     → Stands given nothing_yet r
 stands_first given r progress pending found valid fed ended = record {
   has_fed = fed;
@@ -56,12 +59,21 @@ fed_on old mid piece left valid_up_to at_is reading run same_fed same_ended give
       has_pending = run.has_rest;
       has_valid_up_to =
           let bytes : length (text ++ piece) ≡ length s.reads.front + length run.reads.front + length run.rest =
-          length-append text piece ∙ omega (arith, ap length s.reads.has_text, length-append s.reads.front s.rest, ap length kept, ap length run.reads.has_text, length-append old.pending piece, length-append run.reads.front run.rest) in
+          length-append text piece ∙ omega (
+            arith,
+            ap length s.reads.has_text,
+            length-append s.reads.front s.rest,
+            ap length kept,
+            ap length run.reads.has_text,
+            length-append old.pending piece,
+            length-append run.reads.front run.rest,
+          ) in
           omega (arith, at_is, bytes, run.has_left, same_fed, s.has_fed, length-append text piece);
     }
 
 -- after a complete stream that was read at once
-pub text_read : (given : Settings) (r : Reader) (text : List ℕ) (left : ℕ) → ReadsOn (from given) text r.progress r.pending left r.found → r.valid_up_to ≡ length text - left → r.fed ≡ length text → r.ended ≡ false
+pub text_read : (given : Settings) (r : Reader) (text : List ℕ) (left : ℕ)
+    → ReadsOn (from given) text r.progress r.pending left r.found → r.valid_up_to ≡ length text - left → r.fed ≡ length text → r.ended ≡ false
     → Stands given (with_piece text nothing_yet) r
 text_read given r text left run valid fed ended = record {
   has_fed = fed;
@@ -89,10 +101,12 @@ fed_past old piece other given so_far s = record {
 
 -- after a round that was taken
 taken_on : (old new : Reader) (round : List PageRecord)
-    → old.progress ≡ with_taken (round ∷ []) new.progress → new.pending ≡ old.pending → new.found ≡ old.found → new.valid_up_to ≡ old.valid_up_to → new.fed ≡ old.fed → new.ended ≡ old.ended → StepsOn one_taken old new
+    → old.progress ≡ with_taken (round ∷ []) new.progress → new.pending ≡ old.pending → new.found ≡ old.found
+    → new.valid_up_to ≡ old.valid_up_to → new.fed ≡ old.fed → new.ended ≡ old.ended → StepsOn one_taken old new
 taken_on old new round same same_pending same_found same_valid same_fed same_ended given so_far s =
     let all : with_taken s.rounds old.progress ≡ with_taken (s.rounds ++ round ∷ []) new.progress =
-    ap (with_taken s.rounds) same ∙ ap (λ (x : List (List PageRecord)). record new.progress { rounds = x }) (sym (append_assoc s.rounds (round ∷ []) new.progress.rounds)) in
+    ap (with_taken s.rounds) same ∙ ap (λ (x : List (List PageRecord)). record new.progress { rounds = x })
+    (sym (append_assoc s.rounds (round ∷ []) new.progress.rounds)) in
     record {
       has_fed = same_fed ∙ s.has_fed;
       has_ended = same_ended ∙ s.has_ended;
@@ -105,12 +119,14 @@ taken_on old new round same same_pending same_found same_valid same_fed same_end
       has_valid_up_to = omega (arith, s.has_valid_up_to, same_valid);
     }
 
+-- a round that is taken leaves the reader as it stands after that
 pub taken_each : (o : Option RoundOfRecords) (old new : Reader) (p0 p1 : StreamProgress) → old.progress ≡ p0 → new ≡ record old { progress = p1 }
     → IfSome o (λ r. p0 ≡ with_taken (r.records ∷ []) p1) → IfSome o (λ r. StepsOn one_taken old new)
 taken_each None old new p0 p1 e f h = tt
 taken_each (Some r) old new p0 p1 e f h =
     taken_on old new r.records (e ∙ h ∙ ap (λ (x : Reader). with_taken (r.records ∷ []) x.progress) (sym f))
-    (ap (λ (x : Reader). x.pending) f) (ap (λ (x : Reader). x.found) f) (ap (λ (x : Reader). x.valid_up_to) f) (ap (λ (x : Reader). x.fed) f) (ap (λ (x : Reader). x.ended) f)
+    (ap (λ (x : Reader). x.pending) f) (ap (λ (x : Reader). x.found) f) (ap (λ (x : Reader). x.valid_up_to) f)
+    (ap (λ (x : Reader). x.fed) f) (ap (λ (x : Reader). x.ended) f)
 
 -- and one waits less
 pub fewer_each : (o : Option RoundOfRecords) (old new : Reader) (p0 p1 : StreamProgress) → old.progress ≡ p0 → new ≡ record old { progress = p1 }
@@ -130,16 +146,19 @@ told r taken = record { table = whole_table r.progress; rounds = taken ++ r.prog
 is_told : (given : Settings) (so_far : SoFar) (r : Reader) (s : Stands given so_far r) → IsReading given so_far.text (told r s.rounds)
 is_told given so_far r s = record { to = with_taken s.rounds r.progress; rest = s.rest; reads = s.reads; has_table = refl; has_rounds = refl }
 
-pub state_stands : (r : Reader) (state : StreamState) → state ≡ state_at r.ended r.found → Tells r (λ given so_far. HasState given so_far.text so_far.ended state)
+-- the state that a reader computes is the one of its stream so far
+pub state_stands : (r : Reader) (state : StreamState) → state ≡ state_at r.ended r.found
+    → Tells r (λ given so_far. HasState given so_far.text so_far.ended state)
 state_stands r state e given so_far s = (told r s.rounds, is_told given so_far r s, e ∙ ap (λ (x : Bool). state_at x r.found) s.has_ended)
 
 -- a reader that reads on isn't settled
-pub unsettled : (r : Reader) → r.found ≡ Reading → Tells r (λ given so_far. IsSettled given so_far.text → ⊥)
+pub unsettled : (r : Reader) → r.found ≡ Reading → Tells r (λ given so_far. IsFinal given so_far.text → ⊥)
 unsettled r reading given so_far s settled =
     let is : IsReading given so_far.text settled.0 = settled.1 in
     let same = one_reading (from given) so_far.text (with_taken s.rounds r.progress) is.to s.rest is.rest r.found settled.0.state s.reads is.reads in
     settled.2 (sym same.2 ∙ reading)
 
+-- the table that a reader keeps is the one of its stream so far
 pub table_stands : (r : Reader) (table : Option RamTable) → table ≡ whole_table r.progress → Tells r (λ given so_far. HasTable given so_far.text table)
 table_stands r table e given so_far s = (told r s.rounds, is_told given so_far r s, e)
 
@@ -161,6 +180,7 @@ same_page_size given so_far r s = (IsLater-front (from given) (with_taken s.roun
 abbrev pub RoundIs : (old : Reader) → RoundOfRecords → Type 0
 RoundIs old r = Tells old (λ given so_far. (r.page_size ≡ given.page_size) × HasRound given so_far.text so_far.taken r.records)
 
+-- a round that is taken is the stream's next one
 pub round_each : (o : Option RoundOfRecords) (old : Reader) (p0 p1 : StreamProgress) → old.progress ≡ p0 → IfSome o (λ r. p0 ≡ with_taken (r.records ∷ []) p1)
     → IfSome o (λ r. r.page_size ≡ p0.page_size) → IfSome o (RoundIs old)
 round_each None old p0 p1 e h size = tt
@@ -168,15 +188,18 @@ round_each (Some r) old p0 p1 e h size = λ given so_far s.
     (size ∙ ap (λ (x : StreamProgress). x.page_size) (sym e) ∙ same_page_size given so_far old s, round_stands given so_far old p1 r.records (e ∙ h) s)
 
 -- The table of a stream has the place of each page record of its complete rounds.
-places_in : (given : Settings) (text : List ℕ) (i : ℕ) (round : List PageRecord) (table : RamTable) → HasRound given text i round → HasTable given text (Some table) → All (λ x. IsPlace table x.place) round
+places_in : (given : Settings) (text : List ℕ) (i : ℕ) (round : List PageRecord) (table : RamTable) → HasRound given text i round
+    → HasTable given text (Some table) → All (λ x. IsPlace table x.place) round
 places_in given text i round table h f =
     let a : IsReading given text h.0 = h.1 in
     let b : IsReading given text f.0 = f.1 in
     let same = one_reading (from given) text a.to b.to a.rest b.rest h.0.state f.0.state a.reads b.reads in
     let whole : whole_table a.to ≡ Some table = ap whole_table same.0 ∙ sym (f.2 ∙ b.has_table) in
     let blocks : table.blocks ≡ a.to.blocks = ap (λ (t : RamTable). t.blocks) (table_there (is_used_up a.to.left) (table_of a.to) table whole) in
-    let all : All (λ rs. All (λ x. IsPlace table x.place) rs) a.to.rounds = placed_front given.frame given.mode given.page_size given.limit given.waiting a.reads.front a.to table a.reads.leads blocks in
-    subst (λ (rs : List PageRecord). All (λ x. IsPlace table x.place) rs) (ap (λ (x : List (List PageRecord)). get_or x i []) (sym a.has_rounds) ∙ h.3) (all i [] (omega (arith, h.2, ap length a.has_rounds)))
+    let all : All (λ rs. All (λ x. IsPlace table x.place) rs) a.to.rounds =
+    placed_front given.frame given.mode given.page_size given.limit given.waiting a.reads.front a.to table a.reads.leads blocks in
+    subst (λ (rs : List PageRecord). All (λ x. IsPlace table x.place) rs)
+    (ap (λ (x : List (List PageRecord)). get_or x i []) (sym a.has_rounds) ∙ h.3) (all i [] (omega (arith, h.2, ap length a.has_rounds)))
   where
     table_there : (b : Bool) (t u : RamTable) → then_some b t ≡ Some u → u ≡ t
     table_there true t u e = let back : Some u ≡ Some t = sym e in cc
@@ -186,9 +209,12 @@ places_in given text i round table h f =
 abbrev pub PlacesAre : (old : Reader) → RoundOfRecords → Type 0
 PlacesAre old r = Tells old (λ given so_far. (table : RamTable) → HasTable given so_far.text (Some table) → All (λ x. IsPlace table x.place) r.records)
 
-pub places_each : (o : Option RoundOfRecords) (old : Reader) (p0 p1 : StreamProgress) → old.progress ≡ p0 → IfSome o (λ r. p0 ≡ with_taken (r.records ∷ []) p1) → IfSome o (PlacesAre old)
+-- the pages of a round that is taken lie in the stream's table
+pub places_each : (o : Option RoundOfRecords) (old : Reader) (p0 p1 : StreamProgress) → old.progress ≡ p0
+    → IfSome o (λ r. p0 ≡ with_taken (r.records ∷ []) p1) → IfSome o (PlacesAre old)
 places_each None old p0 p1 e h = tt
-places_each (Some r) old p0 p1 e h = λ given so_far s table f. places_in given so_far.text so_far.taken r.records table (round_stands given so_far old p1 r.records (e ∙ h) s) f
+places_each (Some r) old p0 p1 e h = λ given so_far s table f. places_in given so_far.text so_far.taken r.records table
+    (round_stands given so_far old p1 r.records (e ∙ h) s) f
 
 -- what it says where no round waits
 abbrev pub HasNoMore : (old : Reader) → Type 0
@@ -198,9 +224,12 @@ no_round : (old : Reader) → old.progress.rounds ≡ [] → HasNoMore old
 no_round old none given so_far s i round h =
     let is : IsReading given so_far.text h.0 = h.1 in
     let same = one_reading (from given) so_far.text (with_taken s.rounds old.progress) is.to s.rest is.rest old.found h.0.state s.reads is.reads in
-    let rounds : h.0.rounds ≡ s.rounds = is.has_rounds ∙ ap (λ (x : StreamProgress). x.rounds) (sym same.0) ∙ ap (λ (x : List (List PageRecord)). s.rounds ++ x) none ∙ append-nil s.rounds in
+    let rounds : h.0.rounds ≡ s.rounds = is.has_rounds ∙ ap (λ (x : StreamProgress). x.rounds) (sym same.0)
+    ∙ ap (λ (x : List (List PageRecord)). s.rounds ++ x) none ∙ append-nil s.rounds in
     omega (arith, h.2, ap length rounds, s.has_taken)
 
-pub none_each : (X : Type 0) (o : Option RoundOfRecords) (old : Reader) (p0 : StreamProgress) → old.progress ≡ p0 → IfNone o ((p0.rounds ≡ []) × X) → IfNone o (HasNoMore old)
+-- if no round is there, the stream has no further one
+pub none_each : (X : Type 0) (o : Option RoundOfRecords) (old : Reader) (p0 : StreamProgress) → old.progress ≡ p0
+    → IfNone o ((p0.rounds ≡ []) × X) → IfNone o (HasNoMore old)
 none_each X None old p0 e h = no_round old (ap (λ (x : StreamProgress). x.rounds) e ∙ h.0)
 none_each X (Some x) old p0 e h = tt

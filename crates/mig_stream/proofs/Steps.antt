@@ -27,13 +27,24 @@ use Rattle.mig_stream.specs.Later.{HasGrown, is_open, IsLater}
 same_log : (old new : StreamProgress) → new.rounds ≡ old.rounds → new.records ≡ old.records → HasGrown old new
 same_log old new e f = inl (e, [], f ∙ sym (append-nil old.records))
 
-grown_record : (old mid : StreamProgress) (r : PageRecord) (new : StreamProgress) → new.rounds ≡ mid.rounds → new.records ≡ mid.records ++ r ∷ [] → HasGrown old mid → HasGrown old new
+grown_record : (old mid : StreamProgress) (r : PageRecord) (new : StreamProgress) → new.rounds ≡ mid.rounds
+    → new.records ≡ mid.records ++ r ∷ [] → HasGrown old mid → HasGrown old new
 grown_record old mid r new e f (inl h) = inl (e ∙ h.0, h.1 ++ r ∷ [], f ∙ ap (λ (x : List PageRecord). x ++ r ∷ []) h.2 ∙ append_assoc old.records h.1 (r ∷ []))
 grown_record old mid r new e f (inr h) = inr (h.0, h.1, e ∙ h.2)
 
 grown_round : (old mid new : StreamProgress) → new.rounds ≡ mid.rounds ++ mid.records ∷ [] → HasGrown old mid → HasGrown old new
-grown_round old mid new e (inl h) = inr (h.1, [], e ∙ ap (λ (x : List (List PageRecord)). x ++ mid.records ∷ []) h.0 ∙ ap (λ (x : List PageRecord). old.rounds ++ x ∷ []) h.2)
-grown_round old mid new e (inr h) = inr (h.0, h.1 ++ mid.records ∷ [], e ∙ ap (λ (x : List (List PageRecord)). x ++ mid.records ∷ []) h.2 ∙ append_assoc old.rounds ((old.records ++ h.0) ∷ h.1) (mid.records ∷ []))
+grown_round old mid new e (inl h) = inr (
+  h.1,
+  [],
+  e ∙ ap (λ (x : List (List PageRecord)). x ++ mid.records ∷ []) h.0
+      ∙ ap (λ (x : List PageRecord). old.rounds ++ x ∷ []) h.2,
+)
+grown_round old mid new e (inr h) = inr (
+  h.0,
+  h.1 ++ mid.records ∷ [],
+  e
+      ∙ ap (λ (x : List (List PageRecord)). x ++ mid.records ∷ []) h.2 ∙ append_assoc old.rounds ((old.records ++ h.0) ∷ h.1) (mid.records ∷ []),
+)
 
 grown_same : (old mid new : StreamProgress) → new.rounds ≡ mid.rounds → new.records ≡ mid.records → HasGrown old mid → HasGrown old new
 grown_same old mid new e f (inl h) = inl (e ∙ h.0, h.1, f ∙ h.2)
@@ -54,6 +65,7 @@ pub record Keeps (old new : Mode) : Type 0 where
 same : {old new : Mode} → new ≡ old → Keeps old new
 same e = record { single = ap is_single e; settled = λ shown. e }
 
+-- an EOS leaves a mode that is fixed as it is
 pub eos_keeps : (m : Mode) (in_start : Bool) → Keeps m (eos_mode m in_start)
 eos_keeps Single in_start = same refl
 eos_keeps Main in_start = same refl
@@ -61,6 +73,7 @@ eos_keeps MainBySection in_start = same refl
 eos_keeps MainAsShown true = same refl
 eos_keeps MainAsShown false = record { single = refl; settled = λ e. absurd cc }
 
+-- a FLUSH leaves a mode that is fixed as it is
 pub flush_keeps : (m : Mode) (in_start empty : Bool) → Keeps m (flush_mode m in_start empty)
 flush_keeps Single in_start empty = same refl
 flush_keeps Main in_start empty = same refl
@@ -82,16 +95,46 @@ no_change c = record { frame = refl; mode = same refl; page_size = refl; limit =
 
 type_step : (c : StreamProgress) (b : ℕ) → Step c (after_type c b)
 type_step c b =
-    cond_both (eqb b 7) _ _ (Step c) (λ _. record { frame = refl; mode = same refl; page_size = refl; limit = refl; waiting = refl; change = none refl refl refl }) (λ _.
-    cond_both (eqb b 1) _ _ (Step c) (λ _. record { frame = refl; mode = same refl; page_size = refl; limit = refl; waiting = refl; change = none refl refl refl }) (λ _.
-    cond_both (eqb b 2) _ _ (Step c) (λ _. record { frame = refl; mode = same refl; page_size = refl; limit = refl; waiting = refl; change = none refl refl refl }) (λ _.
-    cond_both (eqb b 3) _ _ (Step c) (λ _. record { frame = refl; mode = same refl; page_size = refl; limit = refl; waiting = refl; change = none refl refl refl }) (λ _.
+    cond_both (eqb b 7) _ _ (Step c) (λ _. record {
+      frame = refl;
+      mode = same refl;
+      page_size = refl;
+      limit = refl;
+      waiting = refl;
+      change = none refl refl refl;
+    }) (λ _.
+    cond_both (eqb b 1) _ _ (Step c) (λ _. record {
+      frame = refl;
+      mode = same refl;
+      page_size = refl;
+      limit = refl;
+      waiting = refl;
+      change = none refl refl refl;
+    }) (λ _.
+    cond_both (eqb b 2) _ _ (Step c) (λ _. record {
+      frame = refl;
+      mode = same refl;
+      page_size = refl;
+      limit = refl;
+      waiting = refl;
+      change = none refl refl refl;
+    }) (λ _.
+    cond_both (eqb b 3) _ _ (Step c) (λ _. record {
+      frame = refl;
+      mode = same refl;
+      page_size = refl;
+      limit = refl;
+      waiting = refl;
+      change = none refl refl refl;
+    }) (λ _.
     record { frame = refl; mode = same refl; page_size = refl; limit = refl; waiting = refl; change = none refl refl refl }))))
 
 type_byte_step : (c : StreamProgress) (before : Before) (b : ℕ) → Step c (after_type_byte c before b)
-type_byte_step c before b = cond_both (is_passed c.frame before b) _ _ (Step c) (λ _. record { frame = refl; mode = same refl; page_size = refl; limit = refl; waiting = refl; change = none refl refl refl }) (λ _. type_step c b)
+type_byte_step c before b = cond_both (is_passed c.frame before b) _ _ (Step c)
+    (λ _. record { frame = refl; mode = same refl; page_size = refl; limit = refl; waiting = refl; change = none refl refl refl }) (λ _. type_step c b)
 
-eos_change : (c new : StreamProgress) (m : Mode) → new.blocks ≡ c.blocks → new.records ≡ eos_records m c.records → new.rounds ≡ eos_rounds m c.rounds c.records → Change c new
+eos_change : (c new : StreamProgress) (m : Mode) → new.blocks ≡ c.blocks → new.records ≡ eos_records m c.records
+    → new.rounds ≡ eos_rounds m c.rounds c.records → Change c new
 eos_change c new Single b r s = none b s r
 eos_change c new Main b r s = none b s r
 eos_change c new MainBySection b r s = whole b s
@@ -106,7 +149,8 @@ flush_ended MainAsShown true records e = absurd cc
 flush_ended MainAsShown false [] e = refl
 flush_ended MainAsShown false (r ∷ records) e = absurd cc
 
-flush_change : (c new : StreamProgress) (ends : Bool) → (ends ≡ false → [] ≡ c.records) → new.blocks ≡ c.blocks → new.records ≡ [] → new.rounds ≡ flush_rounds ends c.rounds c.records → Change c new
+flush_change : (c new : StreamProgress) (ends : Bool) → (ends ≡ false → [] ≡ c.records) → new.blocks ≡ c.blocks → new.records ≡ []
+    → new.rounds ≡ flush_rounds ends c.rounds c.records → Change c new
 flush_change c new true empty b r s = whole b s
 flush_change c new false empty b r s = none b s (r ∙ empty refl)
 
@@ -114,21 +158,30 @@ kind_step : (c : StreamProgress) (k : RecordKind) (page : ℕ) → Step c (after
 kind_step c SizeList page = record { frame = refl; mode = same refl; page_size = refl; limit = refl; waiting = refl; change = none refl refl refl }
 kind_step c (Named f) page = record { frame = refl; mode = same refl; page_size = refl; limit = refl; waiting = refl; change = none refl refl refl }
 kind_step c (Continued f) page = record { frame = refl; mode = same refl; page_size = refl; limit = refl; waiting = refl; change = none refl refl refl }
-kind_step c EndOfSection page = record { frame = refl; mode = eos_keeps c.mode (is_start c.section); page_size = refl; limit = refl; waiting = refl; change = eos_change c (end_records c) c.mode refl refl refl }
+kind_step c EndOfSection page = record {
+  frame = refl;
+  mode = eos_keeps c.mode (is_start c.section);
+  page_size = refl;
+  limit = refl;
+  waiting = refl;
+  change = eos_change c (end_records c) c.mode refl refl refl;
+}
 kind_step c Flush page = record {
   frame = refl;
   mode = flush_keeps c.mode (is_start c.section) (has_none c.records);
   page_size = refl;
   limit = refl;
   waiting = refl;
-  change = flush_change c (flush_records c) (flush_ends c.mode (is_start c.section) (has_none c.records)) (flush_ended c.mode (is_start c.section) c.records) refl refl refl;
+  change = flush_change c (flush_records c) (flush_ends c.mode (is_start c.section) (has_none c.records))
+      (flush_ended c.mode (is_start c.section) c.records) refl refl refl;
 }
 
 head_step : (c : StreamProgress) (k : Option RecordKind) (page : ℕ) → Step c (after_head c k page)
 head_step c None page = no_change c
 head_step c (Some k) page = kind_step c k page
 
-footer_change : (c new : StreamProgress) (m : Mode) → new.blocks ≡ c.blocks → new.records ≡ open_records m c.records → new.rounds ≡ whole_rounds m c.rounds c.records → Change c new
+footer_change : (c new : StreamProgress) (m : Mode) → new.blocks ≡ c.blocks → new.records ≡ open_records m c.records
+    → new.rounds ≡ whole_rounds m c.rounds c.records → Change c new
 footer_change c new Single b r s = whole b s
 footer_change c new Main b r s = none b s r
 footer_change c new MainBySection b r s = none b s r
@@ -143,14 +196,30 @@ item_step c StartHead item = record { frame = refl; mode = same refl; page_size 
 item_step c SectionHead item = record { frame = refl; mode = same refl; page_size = refl; limit = refl; waiting = refl; change = none refl refl refl }
 item_step c RecordHead item = head_step c _ _
 item_step c ListEntry item = record { frame = refl; mode = same refl; page_size = refl; limit = refl; waiting = refl; change = block _ refl refl refl }
-item_step c (PageSize true) item = cond_both (is_page_size item) _ _ (Step c) (λ _. record { frame = refl; mode = same refl; page_size = refl; limit = refl; waiting = refl; change = none refl refl refl }) (λ _. head_step c _ _)
+item_step c (PageSize true) item = cond_both (is_page_size item) _ _ (Step c)
+    (λ _. record { frame = refl; mode = same refl; page_size = refl; limit = refl; waiting = refl; change = none refl refl refl }) (λ _. head_step c _ _)
 item_step c (PageSize false) item =
-    cond_both (is_page_size item) _ _ (Step c) (λ _. record { frame = refl; mode = same refl; page_size = refl; limit = refl; waiting = refl; change = none refl refl refl })
+    cond_both (is_page_size item) _ _ (Step c)
+    (λ _. record { frame = refl; mode = same refl; page_size = refl; limit = refl; waiting = refl; change = none refl refl refl })
     (λ _. record { frame = refl; mode = same refl; page_size = refl; limit = refl; waiting = refl; change = block _ refl refl refl })
 item_step c (BlockName f page) item = record { frame = refl; mode = same refl; page_size = refl; limit = refl; waiting = refl; change = none refl refl refl }
 item_step c (Content Zero place) item = record { frame = refl; mode = same refl; page_size = refl; limit = refl; waiting = refl; change = one _ refl refl refl }
-item_step c (Content Normal place) item = record { frame = refl; mode = same refl; page_size = refl; limit = refl; waiting = refl; change = one _ refl refl refl }
-item_step c Footer item = record { frame = refl; mode = same refl; page_size = refl; limit = refl; waiting = refl; change = footer_change c (end_section c) c.mode refl refl refl }
+item_step c (Content Normal place) item = record {
+  frame = refl;
+  mode = same refl;
+  page_size = refl;
+  limit = refl;
+  waiting = refl;
+  change = one _ refl refl refl;
+}
+item_step c Footer item = record {
+  frame = refl;
+  mode = same refl;
+  page_size = refl;
+  limit = refl;
+  waiting = refl;
+  change = footer_change c (end_section c) c.mode refl refl refl;
+}
 item_step c (Passed passed) item = record { frame = refl; mode = same refl; page_size = refl; limit = refl; waiting = refl; change = none refl refl refl }
 item_step c Nothing item = no_change c
 
@@ -201,7 +270,8 @@ no_list o more e free =
     let none : is_some o ≡ false = (passed (is_some o) fault.SizePlace more free).0 in
     let clash : true ≡ false = ap is_some (sym e) ∙ none in absurd cc
 
-head_entries : (c : StreamProgress) (flags : ℕ) (k : Option RecordKind) (page : ℕ) → c.left ≡ Some 0 → first_of (head_faults c flags k page) ≡ None → SameEntries c (after_head c k page)
+head_entries : (c : StreamProgress) (flags : ℕ) (k : Option RecordKind) (page : ℕ) → c.left ≡ Some 0
+    → first_of (head_faults c flags k page) ≡ None → SameEntries c (after_head c k page)
 head_entries c flags None page e free = (refl, refl)
 head_entries c flags (Some SizeList) page e free = absurd (no_list c.left ((page == 0 || nat_lt c.limit (page * c.page_size), fault.Total) ∷ []) e free)
 head_entries c flags (Some (Named f)) page e free = (refl, refl)
@@ -211,7 +281,10 @@ head_entries c flags (Some Flush) page e free = (refl, refl)
 
 -- no entry has 0 bytes, and none more than are left
 no_entry : (a b d : Bool) (n m left : ℕ) → left ≡ 0
-    → first_of ((a, fault.TooManyBlocks) ∷ ((b, fault.Id) ∷ ((d, fault.IdTwice) ∷ ((n == 0 || not (m == 0), fault.Length) ∷ ((nat_lt left n, fault.SizeSum) ∷ []))))) ≡ None → ⊥
+    → first_of ((a, fault.TooManyBlocks) ∷ ((
+      b,
+      fault.Id,
+    ) ∷ ((d, fault.IdTwice) ∷ ((n == 0 || not (m == 0), fault.Length) ∷ ((nat_lt left n, fault.SizeSum) ∷ []))))) ≡ None → ⊥
 no_entry a b d n m left nothing free =
     let length_tests : List (Bool × StreamFault) = (n == 0 || not (m == 0), fault.Length) ∷ ((nat_lt left n, fault.SizeSum) ∷ []) in
     let one = passed a fault.TooManyBlocks ((b, fault.Id) ∷ ((d, fault.IdTwice) ∷ length_tests)) free in
@@ -229,7 +302,8 @@ no_entry a b d n m left nothing free =
 
 entry_entries : {X : Type 0} (c : StreamProgress) (item : List ℕ) → c.left ≡ Some 0 → first_of (entry_faults c item) ≡ None → X
 entry_entries {X} c item e free =
-    absurd (no_entry (nat_le max_blocks (length c.blocks)) (not (is_id (id_in item))) (is_some (block_of c.blocks (id_in item))) (length_in item) (length_in item % c.page_size) (unwrap_or c.left 0)
+    absurd (no_entry (nat_le max_blocks (length c.blocks)) (not (is_id (id_in item))) (is_some (block_of c.blocks (id_in item)))
+    (length_in item) (length_in item % c.page_size) (unwrap_or c.left 0)
     (ap (λ (o : Option ℕ). unwrap_or o 0) e) free)
 
 item_entries : (c : StreamProgress) (d : Due) (item : List ℕ) → c.left ≡ Some 0 → first_of (faults c d item) ≡ None → SameEntries c (after_item c d item)
@@ -242,9 +316,11 @@ item_entries c SectionHead item e free = (refl, refl)
 item_entries c RecordHead item e free = head_entries c _ _ _ e free
 item_entries c ListEntry item e free = entry_entries c item e free
 item_entries c (PageSize true) item e free =
-    cond_both (is_page_size item) _ _ (SameEntries c) (λ _. (refl, refl)) (λ isnt. head_entries c _ _ _ e (not_size (is_page_size item) (record_faults c item) isnt free))
+    cond_both (is_page_size item) _ _ (SameEntries c) (λ _. (refl, refl))
+    (λ isnt. head_entries c _ _ _ e (not_size (is_page_size item) (record_faults c item) isnt free))
 item_entries c (PageSize false) item e free =
-    cond_both (is_page_size item) _ _ (SameEntries c) (λ _. (refl, refl)) (λ isnt. entry_entries c item e (not_size (is_page_size item) (entry_faults c item) isnt free))
+    cond_both (is_page_size item) _ _ (SameEntries c) (λ _. (refl, refl))
+    (λ isnt. entry_entries c item e (not_size (is_page_size item) (entry_faults c item) isnt free))
 item_entries c (BlockName f page) item e free = (refl, refl)
 item_entries c (Content Zero place) item e free = (refl, refl)
 item_entries c (Content Normal place) item e free = (refl, refl)
@@ -280,7 +356,18 @@ later_all old mid [] l free = l
 later_all old mid (item ∷ items) l free = later_all old (after mid item) items (later_step old mid item l free.1) free.2
 
 later_self : (c : StreamProgress) → IsLater c c
-later_self c = record { same_frame = refl; same_single = refl; same_mode = λ shown. refl; same_page_size = refl; same_limit = refl; same_waiting = refl; more_blocks = []; has_blocks = sym (append-nil c.blocks); has_grown = same_log c c refl refl; same_table = λ _. (refl, refl) }
+later_self c = record {
+  same_frame = refl;
+  same_single = refl;
+  same_mode = λ shown. refl;
+  same_page_size = refl;
+  same_limit = refl;
+  same_waiting = refl;
+  more_blocks = [];
+  has_blocks = sym (append-nil c.blocks);
+  has_grown = same_log c c refl refl;
+  same_table = λ _. (refl, refl);
+}
 
 -- A front leads to what is later.
 pub IsLater-front : (c d : StreamProgress) (bytes : List ℕ) → Front c bytes d → IsLater c d

@@ -34,7 +34,8 @@ ids_apart a b apart = false_from_ne_true (bytes_eq a b) (λ t. apart ((bytes_eq-
 -- a list in which none is found has no element that passes
 no_position : {X : Type 0} (p : X → Bool) (xs : List X) (k : ℕ) (d : X) → position p xs ≡ None → k < length xs → p (get_or xs k d) ≡ false
 no_position {X} p xs k d none lt =
-    let past : length xs ≤ position_or_len p xs = ltb-false (position_or_len p xs) (length xs) (no_answer (nat_lt (position_or_len p xs) (length xs)) (position_or_len p xs) none) in
+    let past : length xs ≤ position_or_len p xs =
+    ltb-false (position_or_len p xs) (length xs) (no_answer (nat_lt (position_or_len p xs) (length xs)) (position_or_len p xs) none) in
     fails_before_first p xs k d (omega arith)
   where
     no_answer : (b : Bool) (n : ℕ) → cond b (Some n) None ≡ None → b ≡ false
@@ -50,15 +51,18 @@ new_id before b k d none lt e =
 
 -- ---- a lawful table has such blocks, and such blocks make a lawful table
 
-follow_from_table : (before bs : List Block) → All (λ b. IsTrue (is_id b.id)) bs → AllPairs (λ a b. a.id ≢ b.id) (before ++ bs) → All (λ b. 0 < b.pages) bs → AreBlocks before bs
+follow_from_table : (before bs : List Block) → All (λ b. IsTrue (is_id b.id)) bs → AllPairs (λ a b. a.id ≢ b.id) (before ++ bs)
+    → All (λ b. 0 < b.pages) bs → AreBlocks before bs
 follow_from_table before [] ids apart pages = tt
 follow_from_table before (b ∷ bs) ids apart pages =
     let here : get_or (before ++ b ∷ bs) (length before + 0) b ≡ b = get_or-append-add before (b ∷ bs) 0 b in
     let long : length (before ++ b ∷ bs) ≡ length before + (length bs + 1) = length-append before (b ∷ bs) ∙ omega arith in
     let none : block_of before b.id ≡ None = position_past (λ (x : Block). bytes_eq x.id b.id) before (length before) b (omega arith) (λ k lt.
     let there : get_or (before ++ b ∷ bs) k b ≡ get_or before k b = get_or_append_left before (b ∷ bs) b k lt in
-    ids_apart (get_or before k b).id b.id (λ e. apart k (length before + 0) b (omega arith) (omega (arith, long)) (ap (λ (x : Block). x.id) there ∙ e ∙ ap (λ (x : Block). x.id) (sym here)))) in
-    let more : AllPairs (λ x y. x.id ≢ y.id) ((before ++ b ∷ []) ++ bs) = subst (AllPairs (λ (x y : Block). x.id ≢ y.id)) (sym (append_assoc before (b ∷ []) bs)) apart in (
+    ids_apart (get_or before k b).id b.id (λ e. apart k (length before + 0) b (omega arith) (omega (arith, long))
+    (ap (λ (x : Block). x.id) there ∙ e ∙ ap (λ (x : Block). x.id) (sym here)))) in
+    let more : AllPairs (λ x y. x.id ≢ y.id) ((before ++ b ∷ []) ++ bs) =
+    subst (AllPairs (λ (x y : Block). x.id ≢ y.id)) (sym (append_assoc before (b ∷ []) bs)) apart in (
       All-head (λ (x : Block). IsTrue (is_id x.id)) b bs ids,
       none,
       All-head (λ (x : Block). 0 < x.pages) b bs pages,
@@ -86,7 +90,8 @@ pub blocks_from_table : (table : RamTable) → IsTable table → AreBlocks [] ta
 blocks_from_table table is = follow_from_table [] table.blocks is.has_ids is.has_own_ids is.has_pages
 
 -- Blocks that may follow one another make a lawful table.
-pub table_from_blocks : (table : RamTable) → IsPageSize table.page_size → 0 < length table.blocks → length table.blocks ≤ 256 → AreBlocks [] table.blocks → total_bytes table ≤ 2 ^ 40 → IsTable table
+pub table_from_blocks : (table : RamTable) → IsPageSize table.page_size → 0 < length table.blocks → length table.blocks ≤ 256
+    → AreBlocks [] table.blocks → total_bytes table ≤ 2 ^ 40 → IsTable table
 table_from_blocks table size some few blocks room =
     let none : AreLawful [] = record {
       ids = All-nil (λ (x : Block). IsTrue (is_id x.id));

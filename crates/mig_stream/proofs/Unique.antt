@@ -18,7 +18,8 @@ one_item p d a b x y i j e =
     (same, sym (drop_at a x (length a) refl) ∙ ap (drop (length a)) e ∙ drop_at b y (length a) (sym len))
 
 -- if a free item stands, a stream doesn't end
-pub no_end : (c : StreamProgress) (item x rest : List ℕ) (s : StreamState) → IsItem c.page_size c.due item → first_fault c item ≡ None → rest ≡ item ++ x → Ends c rest s → ⊥
+pub no_end : (c : StreamProgress) (item x rest : List ℕ) (s : StreamState) → IsItem c.page_size c.due item
+    → first_fault c item ≡ None → rest ≡ item ++ x → Ends c rest s → ⊥
 no_end c item x rest Closed is free e end = is.is_due end
 no_end c item x rest Reading is free e end = end.1 item x e is
 no_end c item x rest (Bad f) is free e end =
@@ -40,20 +41,25 @@ one_end c x (Bad f) (Bad g) a b =
     let faults : first_fault c b.0 ≡ Some f = ap (first_fault c) (sym same.0) ∙ a.4 in
     let joined : Some f ≡ Some g = sym faults ∙ b.4 in cc
 
-pub one_front : (c : StreamProgress) (xs ys : List (List ℕ)) (x y : List ℕ) (s t : StreamState) → AreFaultless c xs → AreFaultless c ys → Ends (after_all c xs) x s → Ends (after_all c ys) y t
+-- a stream is one list of items alone
+pub one_front : (c : StreamProgress) (xs ys : List (List ℕ)) (x y : List ℕ) (s t : StreamState) → AreFaultless c xs
+    → AreFaultless c ys → Ends (after_all c xs) x s → Ends (after_all c ys) y t
     → concat xs ++ x ≡ concat ys ++ y → (xs ≡ ys) × (x ≡ y) × (s ≡ t)
 one_front c [] [] x y s t f g a b e = (refl, e, one_end c y s t (subst (λ (z : List ℕ). Ends c z s) e a) b)
 one_front c [] (j ∷ ys) x y s t f g a b e = absurd (no_end c j (concat ys ++ y) x s g.0 g.1 (e ∙ append_assoc j (concat ys) y) a)
 one_front c (i ∷ xs) [] x y s t f g a b e = absurd (no_end c i (concat xs ++ x) y t f.0 f.1 (sym e ∙ append_assoc i (concat xs) x) b)
 one_front c (i ∷ xs) (j ∷ ys) x y s t f g a b e =
-    let first = one_item c.page_size c.due i j (concat xs ++ x) (concat ys ++ y) f.0 g.0 (sym (append_assoc i (concat xs) x) ∙ e ∙ append_assoc j (concat ys) y) in
+    let first = one_item c.page_size c.due i j (concat xs ++ x) (concat ys ++ y) f.0 g.0
+    (sym (append_assoc i (concat xs) x) ∙ e ∙ append_assoc j (concat ys) y) in
     let d : StreamProgress = after c i in
     let moved : after c j ≡ d = ap (after c) (sym first.0) in
-    let others = one_front d xs ys x y s t f.2 (subst (λ (z : StreamProgress). AreFaultless z ys) moved g.2) a (subst (λ (z : StreamProgress). Ends (after_all z ys) y t) moved b) first.1 in
+    let others = one_front d xs ys x y s t f.2 (subst (λ (z : StreamProgress). AreFaultless z ys) moved g.2) a
+    (subst (λ (z : StreamProgress). Ends (after_all z ys) y t) moved b) first.1 in
     (cc, others.1, others.2)
 
 -- The reading of a stream is one.
-pub one_reading : (from : StreamProgress) (text : List ℕ) (c d : StreamProgress) (x y : List ℕ) (s t : StreamState) → Reads from text c x s → Reads from text d y t → (c ≡ d) × (x ≡ y) × (s ≡ t)
+pub one_reading : (from : StreamProgress) (text : List ℕ) (c d : StreamProgress) (x y : List ℕ) (s t : StreamState)
+    → Reads from text c x s → Reads from text d y t → (c ≡ d) × (x ≡ y) × (s ≡ t)
 one_reading from text c d x y s t a b =
     let e : concat a.leads.items ++ x ≡ concat b.leads.items ++ y =
     ap (λ (z : List ℕ). z ++ x) (sym a.leads.has_bytes) ∙ sym a.has_text ∙ b.has_text ∙ ap (λ (z : List ℕ). z ++ y) b.leads.has_bytes in

@@ -33,7 +33,8 @@ freed_cond false x y u v e f = f
 
 freed_type : (c : StreamProgress) (byte : ℕ) → after_type (freed c) byte ≡ freed (after_type c byte)
 freed_type c byte =
-    freed_cond (eqb byte 7) _ _ _ _ refl (freed_cond (eqb byte 1) _ _ _ _ refl (freed_cond (eqb byte 2) _ _ _ _ refl (freed_cond (eqb byte 3) _ _ _ _ refl refl)))
+    freed_cond (eqb byte 7) _ _ _ _ refl (freed_cond (eqb byte 1) _ _ _ _ refl
+    (freed_cond (eqb byte 2) _ _ _ _ refl (freed_cond (eqb byte 3) _ _ _ _ refl refl)))
 
 eos_none : (m : Mode) → eos_room m None None ≡ None
 eos_none Single = refl
@@ -55,6 +56,7 @@ freed_head c (Some kind) page = freed_kind c kind page
 freed_record : (c : StreamProgress) (item : List ℕ) → after_record (freed c) item ≡ freed (after_record c item)
 freed_record c item = freed_head c (record_kind (be64_at 0 item % c.page_size)) (be64_at 0 item / c.page_size)
 
+-- an item changes the progress without a limit as it does with one
 pub freed_item : (c : StreamProgress) (d : Due) (item : List ℕ) → after_item (freed c) d item ≡ freed (after_item c d item)
 freed_item c FileHeader item = refl
 freed_item c (TypeByte b) item = freed_cond (is_passed c.frame b (slice_index item 0)) _ _ _ _ refl (freed_type c (slice_index item 0))
@@ -82,7 +84,8 @@ freed_second true b more o e other = e
 freed_second false true more o e other = absurd (other (sym e))
 freed_second false false more o e other = e
 
-freed_kind_faults : (c : StreamProgress) (kind : RecordKind) (page : ℕ) (o : Option StreamFault) → first_of (kind_faults c kind page) ≡ o → o ≢ Some Waiting → first_of (kind_faults (freed c) kind page) ≡ o
+freed_kind_faults : (c : StreamProgress) (kind : RecordKind) (page : ℕ) (o : Option StreamFault)
+    → first_of (kind_faults c kind page) ≡ o → o ≢ Some Waiting → first_of (kind_faults (freed c) kind page) ≡ o
 freed_kind_faults c SizeList page o e other = e
 freed_kind_faults c (Named filling) page o e other = freed_second (is_none c.left) (is_full c.room) [] o e other
 freed_kind_faults c (Continued filling) page o e other =
@@ -90,12 +93,14 @@ freed_kind_faults c (Continued filling) page o e other =
 freed_kind_faults c EndOfSection page o e other = e
 freed_kind_faults c Flush page o e other = e
 
-freed_head_faults : (c : StreamProgress) (flags : ℕ) (kind : Option RecordKind) (page : ℕ) (o : Option StreamFault) → first_of (head_faults c flags kind page) ≡ o → o ≢ Some Waiting
+freed_head_faults : (c : StreamProgress) (flags : ℕ) (kind : Option RecordKind) (page : ℕ) (o : Option StreamFault)
+    → first_of (head_faults c flags kind page) ≡ o → o ≢ Some Waiting
     → first_of (head_faults (freed c) flags kind page) ≡ o
 freed_head_faults c flags None page o e other = e
 freed_head_faults c flags (Some kind) page o e other = freed_kind_faults c kind page o e other
 
-freed_record_faults : (c : StreamProgress) (item : List ℕ) (o : Option StreamFault) → first_of (record_faults c item) ≡ o → o ≢ Some Waiting → first_of (record_faults (freed c) item) ≡ o
+freed_record_faults : (c : StreamProgress) (item : List ℕ) (o : Option StreamFault) → first_of (record_faults c item) ≡ o
+    → o ≢ Some Waiting → first_of (record_faults (freed c) item) ≡ o
 freed_record_faults c item o e other =
     freed_head_faults c (be64_at 0 item % c.page_size) (record_kind (be64_at 0 item % c.page_size)) (be64_at 0 item / c.page_size) o e other
 
@@ -105,7 +110,9 @@ freed_sized : (b : Bool) (c : StreamProgress) (item : List ℕ) (o : Option Stre
 freed_sized true c item o e other = e
 freed_sized false c item o e other = freed_record_faults c item o e other
 
-pub freed_faults : (c : StreamProgress) (d : Due) (item : List ℕ) (o : Option StreamFault) → first_of (faults c d item) ≡ o → o ≢ Some Waiting → first_of (faults (freed c) d item) ≡ o
+-- a fault that isn't the limit's is there without the limit too
+pub freed_faults : (c : StreamProgress) (d : Due) (item : List ℕ) (o : Option StreamFault) → first_of (faults c d item) ≡ o
+    → o ≢ Some Waiting → first_of (faults (freed c) d item) ≡ o
 freed_faults c FileHeader item o e other = e
 freed_faults c (TypeByte b) item o e other = e
 freed_faults c ConfigLength item o e other = e
@@ -125,6 +132,7 @@ freed_faults c Nothing item o e other = e
 
 -- ---- items and fronts
 
+-- items change the progress without a limit as they do with one
 pub freed_all : (c : StreamProgress) (items : List (List ℕ)) → after_all (freed c) items ≡ freed (after_all c items)
 freed_all c [] = refl
 freed_all c (item ∷ items) = ap (λ (x : StreamProgress). after_all x items) (freed_item c c.due item) ∙ freed_all (after c item) items
@@ -137,6 +145,7 @@ freed_faultless c (item ∷ items) free = (
   subst (λ (x : StreamProgress). AreFaultless x items) (sym (freed_item c c.due item)) (freed_faultless (after c item) items free.2),
 )
 
+-- a front that is read within a limit is read without one
 pub freed_front : (c d : StreamProgress) (bytes : List ℕ) → Front c bytes d → Front (freed c) bytes (freed d)
 freed_front c d bytes f = record {
   items = f.items;
@@ -156,6 +165,7 @@ freed_ends c rest (Bad f) other e = (
   freed_faults c c.due e.0 (Some f) e.4 (λ o. other (let same : f ≡ Waiting = cc in ap (λ (g : StreamFault). Bad g) same)),
 )
 
+-- a reading without the limit's fault is the one without a limit
 pub only_law : LimitOnlyRefuses
 only_law given text reading is other = record {
   to = freed is.to;

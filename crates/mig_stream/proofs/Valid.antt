@@ -10,7 +10,7 @@ use Rattle.mig_stream.specs.declared.fault.StreamFault.{StreamFault}
 use Rattle.mig_stream.specs.Progress.{StreamProgress, start}
 use Rattle.mig_stream.specs.Items.{after}
 use Rattle.mig_stream.specs.Reading.{Settings, AreFaultless, after_all, Ends, Reads, IsReading}
-use Rattle.mig_stream.specs.Reader.{HasState, IsSettled, HasFront, IsValidUpTo, IsClosedAt}
+use Rattle.mig_stream.specs.Reader.{HasState, IsFinal, HasFront, IsValidUpTo, IsClosedAt}
 use Rattle.mig_stream.specs.Law.{IsValidUpToOnePlace, LongerTextsStayValid, ClosedIsValid, HasFaultAt, BadIsValidBefore}
 use Rattle.mig_stream.proofs.Closing.{closed_by}
 use Rattle.mig_stream.proofs.Exists.{reads_from}
@@ -29,10 +29,12 @@ no_longer : (c : StreamProgress) (xs ys : List (List ℕ)) (x y : List ℕ) (s :
 no_longer c [] ys x y s f g b e = omega arith
 no_longer c (i ∷ xs) [] x y s f g b e = absurd (no_end c i (concat xs ++ x) y s f.0 f.1 (sym e ∙ append_assoc i (concat xs) x) b)
 no_longer c (i ∷ xs) (j ∷ ys) x y s f g b e =
-    let first = one_item c.page_size c.due i j (concat xs ++ x) (concat ys ++ y) f.0 g.0 (sym (append_assoc i (concat xs) x) ∙ e ∙ append_assoc j (concat ys) y) in
+    let first = one_item c.page_size c.due i j (concat xs ++ x) (concat ys ++ y) f.0 g.0
+    (sym (append_assoc i (concat xs) x) ∙ e ∙ append_assoc j (concat ys) y) in
     let d : StreamProgress = after c i in
     let moved : after c j ≡ d = ap (after c) (sym first.0) in
-    let others = no_longer d xs ys x y s f.2 (subst (λ (z : StreamProgress). AreFaultless z ys) moved g.2) (subst (λ (z : StreamProgress). Ends (after_all z ys) y s) moved b) first.1 in
+    let others = no_longer d xs ys x y s f.2 (subst (λ (z : StreamProgress). AreFaultless z ys) moved g.2)
+    (subst (λ (z : StreamProgress). Ends (after_all z ys) y s) moved b) first.1 in
     omega (arith, others, ap (λ (z : List ℕ). length z) first.0, length-append i (concat xs), length-append j (concat ys))
 
 longest : (given : Settings) (text : List ℕ) (m n : ℕ) → HasFront given text m → IsValidUpTo given text n → m ≤ n
@@ -45,12 +47,20 @@ longest given text m n f v =
     omega (arith, le, f.has_length, v.has_length, ap (λ (z : List ℕ). length z) f.leads.has_bytes, ap (λ (z : List ℕ). length z) b.leads.has_bytes)
 
 front_of : (given : Settings) (text : List ℕ) (n : ℕ) → IsValidUpTo given text n → HasFront given text n
-front_of given text n v = record { to = v.to; front = v.reads.front; rest = v.rest; has_text = v.reads.has_text; has_length = v.has_length; leads = v.reads.leads }
+front_of given text n v = record {
+  to = v.to;
+  front = v.reads.front;
+  rest = v.rest;
+  has_text = v.reads.has_text;
+  has_length = v.has_length;
+  leads = v.reads.leads;
+}
 
 -- what is valid and what is left are all bytes
 all_bytes : (given : Settings) (text : List ℕ) (n : ℕ) (v : IsValidUpTo given text n) → n + length v.rest ≡ length text
 all_bytes given text n v = omega (arith, v.has_length, ap (λ (z : List ℕ). length z) v.reads.has_text, length-append v.reads.front v.rest)
 
+-- bytes are valid up to one offset alone
 pub one_place : IsValidUpToOnePlace
 one_place = λ given text is.
     let r = reads_from (from given) text (page_size_some given.page_size is) in
@@ -82,7 +92,7 @@ same_state given text n s v h =
     let same = one_reading (from given) text v.to is.to v.rest is.rest v.state h.0.state v.reads is.reads in
     same.2 ∙ sym h.2
 
-stays : (given : Settings) (text more : List ℕ) (m n : ℕ) → IsValidUpTo given text m → IsValidUpTo given (text ++ more) n → IsSettled given text → m ≡ n
+stays : (given : Settings) (text more : List ℕ) (m n : ℕ) → IsValidUpTo given text m → IsValidUpTo given (text ++ more) n → IsFinal given text → m ≡ n
 stays given text more m n v w settled =
     let is : IsReading given text settled.0 = settled.1 in
     let other : v.state ≢ Reading = λ reading. settled.2 (sym (same_state given text m settled.0.state v (settled.0, is, refl)) ∙ reading) in
@@ -100,16 +110,26 @@ stays given text more m n v w settled =
         length-append text more,
       );
     } in
-    omega (arith, longest given (text ++ more) m n (front_of given (text ++ more) m on) w, longest given (text ++ more) n m (front_of given (text ++ more) n w) on)
+    omega (
+      arith,
+      longest given (text ++ more) m n (front_of given (text ++ more) m on) w,
+      longest given (text ++ more) n m (front_of given (text ++ more) n w) on,
+    )
 
+-- more bytes leave the offset as it was, or increase it
 pub stays_valid : LongerTextsStayValid
-stays_valid = λ given text more m n v w. (longest given (text ++ more) m n (more_front given text more m (front_of given text m v)) w, λ settled. stays given text more m n v w settled)
+stays_valid = λ given text more m n v w. (
+  longest given (text ++ more) m n
+      (more_front given text more m (front_of given text m v)) w,
+  λ settled. stays given text more m n v w settled,
+)
 
 -- ---- a stream that has ended
 
 valid_closed : (given : Settings) (text : List ℕ) (n : ℕ) → HasState given text false Closed → IsValidUpTo given text n → IsClosedAt given text n
 valid_closed given text n h v =
-    closed_by given text v.to v.rest n (subst (λ (s : StreamState). Reads (from given) text v.to v.rest s) (same_state given text n Closed v h) v.reads) (all_bytes given text n v)
+    closed_by given text v.to v.rest n (subst (λ (s : StreamState). Reads (from given) text v.to v.rest s)
+    (same_state given text n Closed v h) v.reads) (all_bytes given text n v)
 
 -- a stream is closed at one place
 one_close : (given : Settings) (text : List ℕ) (m n : ℕ) → IsClosedAt given text m → IsClosedAt given text n → m ≡ n
@@ -122,6 +142,7 @@ one_close given text m n a b =
       ]
     ]
 
+-- a closed stream is valid up to the byte at which it is closed
 pub closed_is_valid : ClosedIsValid
 closed_is_valid = λ given text n h.
     let is : IsReading given text h.0 = h.1 in
@@ -131,6 +152,7 @@ closed_is_valid = λ given text n h.
       λ c. subst (IsValidUpTo given text) (one_close given text k n (valid_closed given text k h v) c) v,
     )
 
+-- a bad stream is valid up to the item at fault
 pub bad_is_valid_before : BadIsValidBefore
 bad_is_valid_before = λ given text n fault h v.
     let ends : Ends v.to v.rest (Bad fault) = subst (λ (s : StreamState). Ends v.to v.rest s) (same_state given text n (Bad fault) v h) v.reads.ends in

@@ -13,14 +13,12 @@ use Rattle.mig_stream.specs.declared.item.Due.TheVariants.{FileHeader, TypeByte,
 use Rattle.mig_stream.specs.declared.item.RecordKind.{RecordKind}
 use Rattle.mig_stream.specs.declared.item.RecordKind.TheVariants.{SizeList, Named, Continued, EndOfSection, Flush}
 use Rattle.mig_stream.specs.declared.item.StreamState.{StreamState}
-use Rattle.mig_stream.specs.declared.giving.Given.{Given}
-use Rattle.mig_stream.specs.declared.giving.Given.TheVariants.{Records, Section, End}
 use Rattle.mig_stream.specs.PageRecord.{PageRecord}
 use Rattle.mig_stream.specs.Progress.{StreamProgress}
 use Rattle.mig_stream.specs.Items.{is_page_size, is_passed, after_type_byte, size, after_type, after_head, open_records, whole_rounds, after_item, after, eos_records, eos_rounds, is_start, has_none, flush_ends, flush_rounds}
 use Rattle.mig_stream.specs.Reading.{AreFaultless, after_all, Front}
 use Rattle.mig_stream.specs.Taking.{HasTakenTo}
-use Rattle.mig_stream.specs.Giving.{Giver, waiting_in, to_go, left, LeavesLess}
+use Rattle.mig_stream.specs.Giving.{Giver, waiting_in, to_go, left}
 use Rattle.mig_stream.proofs.Feeding.{front_item}
 use Rattle.mig_stream.proofs.Steps.{IsLater-front}
 
@@ -38,13 +36,15 @@ few_type c byte n =
 few_type_byte : (c : StreamProgress) (before : Before) (byte n : ℕ) → HasFew (waiting_in c) n (after_type_byte c before byte)
 few_type_byte c before byte n = cond_both (is_passed c.frame before byte) _ _ (HasFew (waiting_in c) n) (λ _. omega arith) (λ _. few_type c byte n)
 
-few_eos : (mode : Mode) (rounds : List (List PageRecord)) (records : List PageRecord) → length (eos_rounds mode rounds records) + length (eos_records mode records) ≤ length rounds + length records + 1
+few_eos : (mode : Mode) (rounds : List (List PageRecord)) (records : List PageRecord)
+    → length (eos_rounds mode rounds records) + length (eos_records mode records) ≤ length rounds + length records + 1
 few_eos Single rounds records = omega arith
 few_eos Main rounds records = omega arith
 few_eos MainBySection rounds records = omega (arith, length-append rounds (records ∷ []))
 few_eos MainAsShown rounds records = omega (arith, length-append rounds (records ∷ []))
 
-few_flush : (ends : Bool) (rounds : List (List PageRecord)) (records : List PageRecord) → length (flush_rounds ends rounds records) ≤ length rounds + length records + 1
+few_flush : (ends : Bool) (rounds : List (List PageRecord)) (records : List PageRecord)
+    → length (flush_rounds ends rounds records) ≤ length rounds + length records + 1
 few_flush true rounds records = omega (arith, length-append rounds (records ∷ []))
 few_flush false rounds records = omega arith
 
@@ -56,14 +56,16 @@ few_head c (Some (Continued filling)) page n some = omega arith
 few_head c (Some EndOfSection) page n some = omega (arith, some, few_eos c.mode c.rounds c.records)
 few_head c (Some Flush) page n some = omega (arith, some, few_flush (flush_ends c.mode (is_start c.section) (has_none c.records)) c.rounds c.records)
 
-few_footer : (mode : Mode) (rounds : List (List PageRecord)) (records : List PageRecord) → length (whole_rounds mode rounds records) + length (open_records mode records) ≤ length rounds + length records + 1
+few_footer : (mode : Mode) (rounds : List (List PageRecord)) (records : List PageRecord)
+    → length (whole_rounds mode rounds records) + length (open_records mode records) ≤ length rounds + length records + 1
 few_footer Single rounds records = omega (arith, length-append rounds (records ∷ []))
 few_footer Main rounds records = omega arith
 few_footer MainBySection rounds records = omega arith
 few_footer MainAsShown rounds records = omega arith
 
 -- an item adds one at most, and none if it is empty
-few_item : (c : StreamProgress) (d : Due) (item : List ℕ) → 0 < c.page_size → length item ≡ size c.page_size d item → HasFew (waiting_in c) (length item) (after_item c d item)
+few_item : (c : StreamProgress) (d : Due) (item : List ℕ) → 0 < c.page_size → length item ≡ size c.page_size d item
+    → HasFew (waiting_in c) (length item) (after_item c d item)
 few_item c FileHeader item some whole = omega arith
 few_item c (TypeByte before) item some whole = few_type_byte c before (slice_index item 0) (length item)
 few_item c ConfigLength item some whole = omega arith
@@ -72,7 +74,8 @@ few_item c StartHead item some whole = omega arith
 few_item c SectionHead item some whole = omega arith
 few_item c RecordHead item some whole = few_head c _ _ (length item) (omega arith)
 few_item c ListEntry item some whole = omega arith
-few_item c (PageSize true) item some whole = cond_both (is_page_size item) _ _ (HasFew (waiting_in c) (length item)) (λ _. omega arith) (λ _. few_head c _ _ (length item) (omega (arith, whole)))
+few_item c (PageSize true) item some whole =
+    cond_both (is_page_size item) _ _ (HasFew (waiting_in c) (length item)) (λ _. omega arith) (λ _. few_head c _ _ (length item) (omega (arith, whole)))
 few_item c (PageSize false) item some whole = cond_both (is_page_size item) _ _ (HasFew (waiting_in c) (length item)) (λ _. omega arith) (λ _. omega arith)
 few_item c (BlockName filling page) item some whole = omega arith
 few_item c (Content Zero place) item some whole = omega (arith, whole, length-append c.records (record { place = place; content = None } ∷ []))
@@ -81,7 +84,8 @@ few_item c Footer item some whole = omega (arith, whole, few_footer c.mode c.rou
 few_item c (Passed passed) item some whole = omega arith
 few_item c Nothing item some whole = omega arith
 
-few_all : (c : StreamProgress) (items : List (List ℕ)) → 0 < c.page_size → AreFaultless c items → HasFew (waiting_in c) (length (concat items)) (after_all c items)
+few_all : (c : StreamProgress) (items : List (List ℕ)) → 0 < c.page_size → AreFaultless c items
+    → HasFew (waiting_in c) (length (concat items)) (after_all c items)
 few_all c [] some free = omega arith
 few_all c (item ∷ items) some free =
     let size_there : (after c item).page_size ≡ c.page_size = (IsLater-front c (after c item) item (front_item c item free.0 free.1)).same_page_size in
@@ -94,20 +98,16 @@ few_front c d bytes some f =
     (subst (HasFew (waiting_in c) (length (concat f.items))) (sym f.leads_to) (few_all c f.items some f.are_faultless))
 
 -- Reading on leaves less to go, and so does the end of reading.
-pub reads_less : (old new : Giver) → 0 < old.progress.page_size → old.found ≡ None → HasTakenTo old.progress old.rest new.rest new.progress → IfNone new.found (length new.rest < length old.rest) → left new < left old
+pub reads_less : (old new : Giver) → 0 < old.progress.page_size → old.found ≡ None
+    → HasTakenTo old.progress old.rest new.rest new.progress → IfNone new.found (length new.rest < length old.rest) → left new < left old
 reads_less old new some none taken moves =
     let few = few_front old.progress new.progress taken.0 some taken.2 in
     let bytes : length old.rest ≡ length taken.0 + length new.rest = ap (λ (x : List ℕ). length x) taken.1 ∙ length-append taken.0 new.rest in
     let here : to_go old.found ≡ 1 = ap to_go none in
-    let there : to_go new.found + 2 * length new.rest + length taken.0 < 2 * length old.rest + 1 = found_less new.found (length old.rest) (length new.rest) (length taken.0) bytes moves in
+    let there : to_go new.found + 2 * length new.rest + length taken.0 < 2 * length old.rest + 1 =
+    found_less new.found (length old.rest) (length new.rest) (length taken.0) bytes moves in
     omega (arith, few, bytes, here, there)
   where
     found_less : (o : Option StreamState) (n m k : ℕ) → n ≡ k + m → IfNone o (m < n) → to_go o + 2 * m + k < 2 * n + 1
     found_less None n m k is lt = omega (arith, is, lt)
     found_less (Some s) n m k is lt = omega (arith, is)
-
--- what is left after two steps
-pub less_then : (gave : Given) (old mid new : Giver) → left mid < left old → left new ≤ left mid → LeavesLess gave old new
-less_then Records old mid new less no_more = omega (arith, less, no_more)
-less_then Section old mid new less no_more = omega (arith, less, no_more)
-less_then (End found) old mid new less no_more = tt

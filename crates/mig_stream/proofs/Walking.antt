@@ -2,7 +2,7 @@
 use Rattle.std.proofs.Common.{◌≡◌, ◌+◌, ◌<◌, ◌≤◌, ℕ, Bool, List, [], ◌∷◌, ◌++◌, length, take, Option, Some, None, sym, ap, subst, ◌∙◌, arith}
 use Rattle.std.specs.Prelude.{not, IsSome}
 use Rattle.std.specs.List.{find}
-use Rattle.std.proofs.lemmas.List.{length-take, take_all, length_push}
+use Rattle.std.proofs.lemmas.List.{length-take, length_push}
 use Rattle.mig_mem.specs.declared.place.Place.{Place}
 use Rattle.mig_mem.specs.Place.{place_at, place_lt, IsPlace}
 use Rattle.mig_mem.specs.PlaceSet.{PlaceSet, IsPlaceSet}
@@ -18,20 +18,18 @@ pub record HasWalked (dirty : PlaceSet) (image : Image) (old now : Writer) (from
   pub listed : HasListed dirty from (take i dirty.marked)
   pub wrote : now ≡ with_pages old (round_of image (take i dirty.marked))
 
+-- before the first step no page was written
 pub walked_none : (dirty : PlaceSet) (image : Image) (w : Writer) → HasWalked dirty image w w (place_at 0 0) 0
 unfolding pages_of
 walked_none dirty image w = record { few = omega arith; listed = listed_none dirty; wrote = with_no_pages w }
 
+-- if no dirty page is left, all of them were written
 pub walked_all : (dirty : PlaceSet) (image : Image) (old now : Writer) (from : Place) (i : ℕ) → HasWalked dirty image old now from i
     → find (λ q. not (place_lt q from)) dirty.marked ≡ None → now ≡ with_pages old (round_of image dirty.marked)
 walked_all dirty image old now from i h none =
     h.wrote ∙ ap (λ (ps : List Place). with_pages old (round_of image ps)) (listed_all dirty from (take i dirty.marked) h.listed none)
 
-pub walked_count : (dirty : PlaceSet) (image : Image) (old now : Writer) (from : Place) (i : ℕ) → HasWalked dirty image old now from i
-    → length dirty.marked ≤ i → now ≡ with_pages old (round_of image dirty.marked)
-walked_count dirty image old now from i h all =
-    h.wrote ∙ ap (λ (ps : List Place). with_pages old (round_of image ps)) (take_all i dirty.marked all)
-
+-- what is none isn't there
 pub no_place_missing : {X : Type 0} (o : Option X) (P : Type 0) → o ≡ None → (P → IsSome o) → P → ⊥
 no_place_missing None P is there here = absurd (let wrong = there here in cc)
 no_place_missing (Some x) P is there here = absurd cc
@@ -40,6 +38,7 @@ no_place_missing (Some x) P is there here = absurd cc
 pub found_in_table : (dirty : PlaceSet) (f : Place → Bool) (p : Place) → IsPlaceSet dirty → find f dirty.marked ≡ Some p → IsPlace dirty.table p
 found_in_table dirty f p is h = All-has (IsPlace dirty.table) p dirty.marked is.is_within (found_place f p dirty.marked h)
 
+-- the next dirty page is written after those before it
 pub walked_more : (dirty : PlaceSet) (image : Image) (old mid now : Writer) (from p : Place) (i : ℕ) → IsPlaceSet dirty → HasWalked dirty image old mid from i
     → find (λ q. not (place_lt q from)) dirty.marked ≡ Some p → now ≡ with_pages mid (record { place = p; content = content_at image p } ∷ [])
     → HasWalked dirty image old now (place_at p.block (p.page + 1)) (i + 1)

@@ -1,10 +1,9 @@
 -- What a writer holds, a page and a part further.
-use Rattle.std.proofs.Common.{◌≡◌, ◌≤◌, ℕ, Bool, true, false, List, [], ◌∷◌, ◌++◌, length, take, Option, Some, None, refl, sym, ap, subst, ◌∙◌, append_assoc, eqb, inl, inr, arith}
-use Rattle.std.specs.Prelude.{◌==◌, ◌↔◌, IsTrue, Result, Ok, Err, OnOk, OnErr}
-use Rattle.std.specs.List.{All, flat_map, list_all}
-use Rattle.std.proofs.lemmas.Bool.{cases_Bool, and_parts, eqb-true, eq-eqb}
+use Rattle.std.proofs.Common.{◌≡◌, ◌≤◌, ℕ, List, [], ◌∷◌, ◌++◌, length, take, Option, Some, None, refl, sym, ap, subst, ◌∙◌, append_assoc, arith}
+use Rattle.std.specs.Prelude.{Result, Ok, Err, OnOk, OnErr}
+use Rattle.std.specs.List.{flat_map}
 use Rattle.std.proofs.lemmas.List.{append-nil, map-append, length-append, take_at, take-take, take-append-le}
-use Rattle.std.proofs.lemmas.List.Elements.{All-head, All-tail, All-nil, All-cons, All-append}
+use Rattle.std.proofs.lemmas.List.Elements.{All-nil, All-cons, All-append}
 use Rattle.mig_mem.specs.declared.place.Place.{Place}
 use Rattle.mig_mem.specs.Image.{Page, Image, content_at, pages_of}
 use Rattle.mig_mem.specs.Place.{IsPlace}
@@ -17,35 +16,15 @@ use Rattle.mig_stream.specs.Writer.{Writer, PartSoFar, HasDrained, HasPut, with_
 
 -- ---- clauses about results
 
+-- whatever a call returns, a fact holds of its error
 pub on_err : {A B : Type 0} (r : Result A B) (P : Type 0) → P → OnErr r P
 on_err (Ok x) P p = tt
 on_err (Err e) P p = p
 
+-- what holds where a call succeeds may be weakened
 pub on_ok_so : {A B : Type 0} (r : Result A B) (P Q : Type 0) → OnOk r P → (P → Q) → OnOk r Q
 on_ok_so (Ok x) P Q p f = f p
 on_ok_so (Err e) P Q p f = tt
-
--- ---- pages of zeros
-
-zeros_from_test : (xs : List ℕ) → list_all (λ x. x == 0) xs ≡ true → All (λ x. x ≡ 0) xs
-zeros_from_test [] h = All-nil (λ x. x ≡ 0)
-zeros_from_test (x ∷ xs) h =
-    let parts = and_parts (eqb x 0) (list_all (λ y. y == 0) xs) h in
-    All-cons (λ y. y ≡ 0) x xs (eqb-true x 0 parts.0) (zeros_from_test xs parts.1)
-
-test_from_zeros : (xs : List ℕ) → All (λ x. x ≡ 0) xs → list_all (λ x. x == 0) xs ≡ true
-test_from_zeros [] h = refl
-test_from_zeros (x ∷ xs) h =
-    let first : eqb x 0 ≡ true = eq-eqb x 0 (All-head (λ y. y ≡ 0) x xs h) in
-    rw first (test_from_zeros xs (All-tail (λ y. y ≡ 0) x xs h))
-
--- a test for zeros is the test of each byte
-pub zero_test : (xs : List ℕ) (b : Bool) → (IsTrue b ↔ All (λ x. x ≡ 0) xs) → b ≡ list_all (λ x. x == 0) xs
-zero_test xs true h = sym (test_from_zeros xs (h.0 refl))
-zero_test xs false h = elim (cases_Bool (list_all (λ x. x == 0) xs)) [
-  | inl t ↦ let wrong : false ≡ true = h.1 (zeros_from_test xs t) in absurd cc
-  | inr f ↦ sym f
-]
 
 -- ---- a page further
 
@@ -71,14 +50,17 @@ named_by_pages-push : (before : Option ℕ) (pages : List Page) (x : Page) → n
 named_by_pages-push before [] x = refl
 named_by_pages-push before (y ∷ pages) x = named_by_pages-push (Some y.place.block) pages x
 
+-- a page that is written after others is written with them
 pub with_pages-push : (w : Writer) (pages : List Page) (x : Page) → with_pages (with_pages w pages) (x ∷ []) ≡ with_pages w (pages ++ x ∷ [])
 with_pages-push w pages x =
-    let text : (w.text ++ pages_bytes w.table w.named pages) ++ pages_bytes w.table (named_by_pages w.named pages) (x ∷ []) ≡ w.text ++ pages_bytes w.table w.named (pages ++ x ∷ []) =
+    let text : (w.text ++ pages_bytes w.table w.named pages) ++ pages_bytes w.table (named_by_pages w.named pages)
+    (x ∷ []) ≡ w.text ++ pages_bytes w.table w.named (pages ++ x ∷ []) =
     append_assoc w.text (pages_bytes w.table w.named pages) (pages_bytes w.table (named_by_pages w.named pages) (x ∷ []))
     ∙ ap (λ (b : List ℕ). w.text ++ b) (sym (pages_bytes-push w.table w.named pages x)) in
     ap (λ (b : List ℕ). record w { text = b; named = Some x.place.block }) text
     ∙ ap (λ (n : Option ℕ). record w { text = w.text ++ pages_bytes w.table w.named (pages ++ x ∷ []); named = n }) (sym (named_by_pages-push w.named pages x))
 
+-- no page leaves the writer as it is
 pub with_no_pages : (w : Writer) → w ≡ with_pages w []
 with_no_pages w = ap (λ (b : List ℕ). record w { text = b }) (sym (append-nil w.text))
 
@@ -93,6 +75,7 @@ front_of_more x more z h =
     let short : length x ≤ length (x ++ more) = omega (arith, length-append x more) in
     sym (take-take (length x) (length (x ++ more)) z short) ∙ ap (λ (l : List ℕ). take (length x) l) h ∙ take_at x more (length x) refl
 
+-- pages written before keep the front of what is written
 pub KeepsFront-pages : (old mid now : Writer) (pages : List Page) → mid ≡ with_pages old pages → KeepsFront mid now → KeepsFront old now
 KeepsFront-pages old mid now pages is h = record {
   same_table = h.same_table ∙ ap (λ (w : Writer). w.table) is;
@@ -103,14 +86,17 @@ KeepsFront-pages old mid now pages is h = record {
 -- ---- a part further
 
 written_parts-push : (table : RamTable) (before : Option ℕ) (parts : List Part) (last : Part)
-    → written_parts table before (parts ++ last ∷ []) ≡ written_parts table before parts ++ section table sections.Part written_id (part_records (named_after_parts before parts) last)
+    → written_parts table before (parts ++ last ∷ []) ≡ written_parts table before parts ++ section table sections.Part written_id
+    (part_records (named_after_parts before parts) last)
 written_parts-push table before [] last = append-nil (section table sections.Part written_id (part_records before last))
 written_parts-push table before (part ∷ parts) last =
     let first : List ℕ = section table sections.Part written_id (part_records before part) in
     ap (λ (b : List ℕ). first ++ b) (written_parts-push table (named_by before part) parts last)
-    ∙ sym (append_assoc first (written_parts table (named_by before part) parts) (section table sections.Part written_id (part_records (named_after_parts (named_by before part) parts) last)))
+    ∙ sym (append_assoc first (written_parts table (named_by before part) parts)
+    (section table sections.Part written_id (part_records (named_after_parts (named_by before part) parts) last)))
 
-named_after_parts-push : (before : Option ℕ) (parts : List Part) (last : Part) → named_after_parts before (parts ++ last ∷ []) ≡ named_by (named_after_parts before parts) last
+named_after_parts-push : (before : Option ℕ) (parts : List Part) (last : Part)
+    → named_after_parts before (parts ++ last ∷ []) ≡ named_by (named_after_parts before parts) last
 named_after_parts-push before [] last = refl
 named_after_parts-push before (part ∷ parts) last = named_after_parts-push (named_by before part) parts last
 
@@ -121,32 +107,40 @@ same_writer a b table text named =
     ∙ ap (λ (t : List ℕ). record { table = b.table; text = t; named = a.named }) text
     ∙ ap (λ (n : Option ℕ). record { table = b.table; text = b.text; named = n }) named
 
-HasDrained-part : (drained : List ℕ) (w : Writer) (parts : List Part) (part : Part) → HasDrained drained w parts → HasDrained drained (with_part w part) (parts ++ part ∷ [])
+HasDrained-part : (drained : List ℕ) (w : Writer) (parts : List Part) (part : Part) → HasDrained drained w parts
+    → HasDrained drained (with_part w part) (parts ++ part ∷ [])
 HasDrained-part drained w parts part h = record {
   has_text =
       sym (append_assoc drained w.text (section w.table sections.Part written_id (part_records w.named part)))
       ∙ ap (λ (n : Option ℕ). (drained ++ w.text) ++ section w.table sections.Part written_id (part_records n part)) h.has_named
       ∙ ap (λ (b : List ℕ). b ++ section w.table sections.Part written_id (part_records (named_after_parts None parts) part)) h.has_text
-      ∙ append_assoc (opening w.table) (written_parts w.table None parts) (section w.table sections.Part written_id (part_records (named_after_parts None parts) part))
+      ∙ append_assoc (opening w.table) (written_parts w.table None parts)
+      (section w.table sections.Part written_id (part_records (named_after_parts None parts) part))
       ∙ ap (λ (b : List ℕ). opening w.table ++ b) (sym (written_parts-push w.table None parts part));
   has_named = ap (λ (n : Option ℕ). named_by n part) h.has_named ∙ sym (named_after_parts-push None parts part);
 }
 
-pub HasDrained-next : (drained : List ℕ) (old new : Writer) (parts : List Part) (part : Part) → new ≡ with_part old part → HasDrained drained old parts → HasDrained drained new (parts ++ part ∷ [])
-HasDrained-next drained old new parts part is h = subst (λ (w : Writer). HasDrained drained w (parts ++ part ∷ [])) (sym is) (HasDrained-part drained old parts part h)
+-- a part that is written follows those that were
+pub HasDrained-next : (drained : List ℕ) (old new : Writer) (parts : List Part) (part : Part) → new ≡ with_part old part
+    → HasDrained drained old parts → HasDrained drained new (parts ++ part ∷ [])
+HasDrained-next drained old new parts part is h =
+    subst (λ (w : Writer). HasDrained drained w (parts ++ part ∷ [])) (sym is) (HasDrained-part drained old parts part h)
 
 -- a PART of FLUSH alone
 abbrev pub flush_bytes : List ℕ
 flush_bytes = 2 ∷ 0 ∷ 0 ∷ 0 ∷ 1 ∷ 0 ∷ 0 ∷ 0 ∷ 0 ∷ 0 ∷ 0 ∷ 2 ∷ 0 ∷ 0 ∷ 0 ∷ 0 ∷ 0 ∷ 0 ∷ 0 ∷ 0 ∷ 0x10 ∷ 0x7E ∷ 0 ∷ 0 ∷ 0 ∷ 1 ∷ []
 
+-- a FLUSH that is written is a part of the stream
 pub flush_part : (drained : List ℕ) (old new : Writer) (parts : List Part) → new.table ≡ old.table → new.text ≡ old.text ++ flush_bytes → new.named ≡ old.named
     → HasDrained drained old parts → HasDrained drained new (parts ++ FlushPart ∷ [])
-flush_part drained old new parts table text named h = HasDrained-next drained old new parts FlushPart (same_writer new (with_part old FlushPart) table text named) h
+flush_part drained old new parts table text named h =
+    HasDrained-next drained old new parts FlushPart (same_writer new (with_part old FlushPart) table text named) h
 
 -- END and the end byte
 abbrev pub closing_bytes : List ℕ
 closing_bytes = 3 ∷ 0 ∷ 0 ∷ 0 ∷ 1 ∷ 0 ∷ 0 ∷ 0 ∷ 0 ∷ 0 ∷ 0 ∷ 0 ∷ 0x10 ∷ 0x7E ∷ 0 ∷ 0 ∷ 0 ∷ 1 ∷ 0 ∷ []
 
+-- the bytes drained and those that the end completes are the stream
 pub finished : (drained : List ℕ) (w : Writer) (parts : List Part) → HasDrained drained w parts → drained ++ (w.text ++ closing_bytes) ≡ written w.table parts
 unfolding closing
 finished drained w parts h =
@@ -165,8 +159,10 @@ before_stays len named old new pages within step =
     ap (λ (w : Writer). (part_from len named w).before) step
     ∙ ap (λ (b : List ℕ). record { table = old.table; text = b; named = named }) (take-append-le len old.text (pages_bytes old.table old.named pages) within)
 
+-- one page more was put into the part that is open
 pub put_more : (len : ℕ) (named : Option ℕ) (old new : Writer) (pages : List Page) (x : Page) → len ≤ length old.text → new ≡ with_pages old (x ∷ [])
-    → IsPlace old.table x.place → length x.content ≡ old.table.page_size → HasPut (part_from len named old) pages → HasPut (part_from len named new) (pages ++ x ∷ [])
+    → IsPlace old.table x.place → length x.content ≡ old.table.page_size → HasPut (part_from len named old) pages
+    → HasPut (part_from len named new) (pages ++ x ∷ [])
 put_more len named old new pages x within step at size h =
     let table : RamTable = old.table in
     let before : Writer = (part_from len named old).before in
@@ -174,7 +170,8 @@ put_more len named old new pages x within step at size h =
     let text : new ≡ with_pages (with_head before) (pages ++ x ∷ []) =
     step ∙ ap (λ (w : Writer). with_pages w (x ∷ [])) h.has_pages ∙ with_pages-push (with_head before) pages x in
     let round : IsRound table (pages ++ x ∷ []) = record {
-      has_places = All-append (λ y. IsPlace table y.place) pages (x ∷ []) h.is_round.has_places (All-cons (λ y. IsPlace table y.place) x [] at (All-nil (λ y. IsPlace table y.place)));
+      has_places = All-append (λ y. IsPlace table y.place) pages (x ∷ []) h.is_round.has_places
+          (All-cons (λ y. IsPlace table y.place) x [] at (All-nil (λ y. IsPlace table y.place)));
       has_sizes = All-append (λ y. length y.content ≡ table.page_size) pages (x ∷ []) h.is_round.has_sizes
           (All-cons (λ y. length y.content ≡ table.page_size) x [] size (All-nil (λ y. length y.content ≡ table.page_size)));
     } in
@@ -190,11 +187,14 @@ section_end = 0 ∷ 0 ∷ 0 ∷ 0 ∷ 0 ∷ 0 ∷ 0 ∷ 0x10 ∷ 0x7E ∷ 0 ∷ 
 abbrev part_head : List ℕ
 part_head = 2 ∷ 0 ∷ 0 ∷ 0 ∷ 1 ∷ []
 
-pub part_ended : (part : PartSoFar) (new : Writer) (pages : List Page) → HasPut part pages → new.table ≡ part.now.table → new.text ≡ part.now.text ++ section_end → new.named ≡ part.now.named
+-- a part that ends is written with the pages that were put into it
+pub part_ended : (part : PartSoFar) (new : Writer) (pages : List Page) → HasPut part pages → new.table ≡ part.now.table
+    → new.text ≡ part.now.text ++ section_end → new.named ≡ part.now.named
     → new ≡ with_part part.before (RoundPart pages)
 part_ended part new pages h table text named =
     let old : Writer = part.before in
     let bytes : List ℕ = pages_bytes old.table old.named pages in
     same_writer new (with_part old (RoundPart pages)) (table ∙ ap (λ (w : Writer). w.table) h.has_pages)
-    (text ∙ ap (λ (w : Writer). w.text ++ section_end) h.has_pages ∙ append_assoc (old.text ++ part_head) bytes section_end ∙ append_assoc old.text part_head (bytes ++ section_end))
+    (text ∙ ap (λ (w : Writer). w.text ++ section_end) h.has_pages ∙ append_assoc (old.text ++ part_head) bytes section_end
+    ∙ append_assoc old.text part_head (bytes ++ section_end))
     (named ∙ ap (λ (w : Writer). w.named) h.has_pages)

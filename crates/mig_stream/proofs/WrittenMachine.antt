@@ -18,7 +18,8 @@ use Rattle.mig_stream.proofs.Tails.{no_tails, no_tails_length, no_tails_plain, n
 use Rattle.mig_stream.proofs.WrittenText.{parts_records, parts_spelled, single_parts, main_parts}
 
 -- PARTs alone
-each_part : (table : RamTable) (id : ℕ) (sections_are : List (List Record)) → flat_map (section table sections.Part id) sections_are ≡ flat_map (part_or_command table id) (map PartOf sections_are)
+each_part : (table : RamTable) (id : ℕ) (sections_are : List (List Record))
+    → flat_map (section table sections.Part id) sections_are ≡ flat_map (part_or_command table id) (map PartOf sections_are)
 each_part table id [] = refl
 each_part table id (records ∷ others) = ap (λ (x : List ℕ). section table sections.Part id records ++ x) (each_part table id others)
 
@@ -49,17 +50,22 @@ named_form None = refl
 named_form (Some name) = refl
 
 -- a writer's stream keeps what the same parts have as a stream of RAM alone
-from_text : (mode : Mode) (limit : ℕ) (name : Option (List ℕ)) (table : RamTable) (parts : List Part) (rounds : List (List PageRecord)) → IfSome name (λ bytes. length bytes ≤ most_name_bytes)
-    → IsTable table → total_bytes table ≤ limit → Follow table None (all_records (parts_records None parts) ++ []) → AreRounds mode ([] ∷ parts_records None parts ++ [] ∷ []) rounds
+from_text : (mode : Mode) (limit : ℕ) (name : Option (List ℕ)) (table : RamTable) (parts : List Part) (rounds : List
+    (List PageRecord)) → IfSome name (λ bytes. length bytes ≤ most_name_bytes)
+    → IsTable table → total_bytes table ≤ limit → Follow table None (all_records (parts_records None parts) ++ [])
+    → AreRounds mode ([] ∷ parts_records None parts ++ [] ∷ []) rounds
     → IsMachineText mode limit (machine_written name table parts) table rounds
 from_text mode limit name table parts rounds short is most follow are =
     let records : List (List Record) = parts_records None parts in
-    let back : List ℕ → List ℕ → List ℕ = λ c p. file_header ++ c ++ start_head written_id ++ size_list table ++ body table written_id [] ++ p ++ section table sections.End written_id [] in
-    let parts_are : written_parts table None parts ≡ flat_map (part_or_command table written_id) (map PartOf records) = parts_spelled table None parts ∙ each_part table written_id records in
+    let back : List ℕ → List ℕ → List ℕ = λ c p. file_header ++ c ++ start_head written_id ++ size_list table
+    ++ body table written_id [] ++ p ++ section table sections.End written_id [] in
+    let parts_are : written_parts table None parts ≡ flat_map (part_or_command table written_id) (map PartOf records) =
+    parts_spelled table None parts ∙ each_part table written_id records in
     let spelled : machine_written name table parts ≡ back (configured (named name)) (flat_map (part_or_command table written_id) (map PartOf records)) =
     ap (λ (c : List ℕ). back c (written_parts table None parts)) (named_spelled name) ∙ ap (back (configured (named name))) parts_are in
     let with_list : List ℕ → List ℕ → List ℕ =
-    λ c l. c ++ start_head written_id ++ l ++ body table written_id [] ++ flat_map (part_or_command table written_id) (map PartOf records) ++ section table sections.End written_id [] in
+    λ c l. c ++ start_head written_id ++ l ++ body table written_id [] ++ flat_map (part_or_command table written_id)
+    (map PartOf records) ++ section table sections.End written_id [] in
     record {
       id = written_id;
       machine = named name;
@@ -86,11 +92,13 @@ from_text mode limit name table parts rounds short is most follow are =
     small : written_id < 2 ^ 32
     small = omega arith
 
+-- the single stream that is written of a machine is a machine's stream
 pub machine_singles : MachineSinglesAreTexts
 machine_singles = λ limit name table rounds short is most lawful.
     let both = single_parts table rounds lawful in
     from_text Single limit name table (map RoundPart rounds) ([] ∷ map (map written_record) rounds ++ [] ∷ []) short is most both.0 both.1
 
+-- the main stream that is written of a machine is a machine's stream
 pub machine_mains : MachineMainsAreTexts
 machine_mains = λ limit name table n short is most.
     let both = main_parts table n in
@@ -102,7 +110,9 @@ machine_mains = λ limit name table n short is most.
 abbrev pub end_bytes : List ℕ
 end_bytes = 3 ∷ 0 ∷ 0 ∷ 0 ∷ 1 ∷ 0 ∷ 0 ∷ 0 ∷ 0 ∷ 0 ∷ 0 ∷ 0 ∷ 0x10 ∷ 0x7E ∷ 0 ∷ 0 ∷ 0 ∷ 1 ∷ []
 
-pub finished_open : (drained : List ℕ) (w : Writer) (parts : List Part) → HasDrained drained w parts → drained ++ (w.text ++ end_bytes) ≡ machine_written None w.table parts
+-- the bytes drained and those that the end completes are the machine's stream
+pub finished_open : (drained : List ℕ) (w : Writer) (parts : List Part) → HasDrained drained w parts
+    → drained ++ (w.text ++ end_bytes) ≡ machine_written None w.table parts
 unfolding opening
 finished_open drained w parts h =
     sym (append_assoc drained w.text end_bytes) ∙ ap (λ (b : List ℕ). b ++ end_bytes) h.has_text

@@ -33,5 +33,6 @@ pages_stay size (x ∷ round) sizes =
     ap (λ (bytes : List ℕ). record { place = x.place; content = bytes } ∷ map (page_of size) (map written_record round)) here
     ∙ ap (λ (pages : List Page). x ∷ pages) (pages_stay size round (All-tail (λ (y : Page). length y.content ≡ size) x round sizes))
 
+-- the pages of a round are read as they were written
 pub written_pages : (table : RamTable) (round : List Page) → IsRound table round → map (page_of table.page_size) (map written_record round) ≡ round
 written_pages table round is = pages_stay table.page_size round is.has_sizes

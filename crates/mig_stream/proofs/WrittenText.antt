@@ -44,7 +44,8 @@ unfolding opening closing
 written_spelled table parts =
     let spelled : List ℕ = flat_map (section table sections.Part written_id) (parts_records None parts) in
     ap (λ (x : List ℕ). opening table ++ x ++ closing table) (parts_spelled table None parts)
-    ∙ regroup file_header (start_head written_id) (size_list table) (body table written_id []) spelled (section table sections.End written_id []) (end_byte ∷ [])
+    ∙ regroup file_header (start_head written_id) (size_list table) (body table written_id []) spelled
+    (section table sections.End written_id []) (end_byte ∷ [])
 
 -- ---- a page record that is written may stand where it does
 
@@ -72,11 +73,14 @@ round_follows : (table : RamTable) (before : Option ℕ) (pages : List Page) (ot
     → Follow table (named_by_pages before pages) others → Follow table before (written_records before pages ++ others)
 round_follows table before [] others places sizes follow = follow
 round_follows table before (x ∷ pages) others places sizes follow = (
-  written_fits table before x (All-head (λ (y : Page). IsPlace table y.place) x pages places) (All-head (λ (y : Page). length y.content ≡ table.page_size) x pages sizes),
-  round_follows table (Some x.place.block) pages others (All-tail (λ (y : Page). IsPlace table y.place) x pages places) (All-tail (λ (y : Page). length y.content ≡ table.page_size) x pages sizes) follow,
+  written_fits table before x (All-head (λ (y : Page). IsPlace table y.place) x pages places)
+      (All-head (λ (y : Page). length y.content ≡ table.page_size) x pages sizes),
+  round_follows table (Some x.place.block) pages others (All-tail (λ (y : Page). IsPlace table y.place) x pages places)
+      (All-tail (λ (y : Page). length y.content ≡ table.page_size) x pages sizes) follow,
 )
 
-rounds_follow : (table : RamTable) (before : Option ℕ) (rounds : List (List Page)) → AllByRecursion (IsRound table) rounds → Follow table before (all_records (parts_records before (map RoundPart rounds)))
+rounds_follow : (table : RamTable) (before : Option ℕ) (rounds : List (List Page)) → AllByRecursion (IsRound table) rounds
+    → Follow table before (all_records (parts_records before (map RoundPart rounds)))
 rounds_follow table before [] are = tt
 rounds_follow table before (round ∷ rounds) are =
     round_follows table before round (all_records (parts_records (named_by_pages before round) (map RoundPart rounds))) are.0.has_places are.0.has_sizes
@@ -97,7 +101,8 @@ rounds_no_flush : (before : Option ℕ) (rounds : List (List Page)) → AllByRec
 rounds_no_flush before [] = (tt, tt)
 rounds_no_flush before (round ∷ rounds) = (written_no_flush before round, rounds_no_flush (named_by_pages before round) rounds)
 
-rounds_are : (before : Option ℕ) (rounds : List (List Page)) → map (map written_record) rounds ++ [] ∷ [] ≡ map page_records (parts_records before (map RoundPart rounds) ++ [] ∷ [])
+rounds_are : (before : Option ℕ) (rounds : List (List Page))
+    → map (map written_record) rounds ++ [] ∷ [] ≡ map page_records (parts_records before (map RoundPart rounds) ++ [] ∷ [])
 rounds_are before [] = refl
 rounds_are before (round ∷ rounds) =
     ap (λ (r : List PageRecord). r ∷ (map (map written_record) rounds ++ [] ∷ [])) (sym (written_pages before round))
@@ -105,9 +110,11 @@ rounds_are before (round ∷ rounds) =
 
 -- The records of rounds that are written may stand one after another, and are these rounds.
 pub single_parts : (table : RamTable) (rounds : List (List Page)) → All (IsRound table) rounds
-    → Follow table None (all_records (parts_records None (map RoundPart rounds)) ++ []) × AreRounds Single ([] ∷ (parts_records None (map RoundPart rounds) ++ [] ∷ [])) ([] ∷ map (map written_record) rounds ++ [] ∷ [])
+    → Follow table None (all_records (parts_records None (map RoundPart rounds)) ++ [])
+    × AreRounds Single ([] ∷ (parts_records None (map RoundPart rounds) ++ [] ∷ [])) ([] ∷ map (map written_record) rounds ++ [] ∷ [])
 single_parts table rounds are = (
-  subst (Follow table None) (sym (append-nil (all_records (parts_records None (map RoundPart rounds))))) (rounds_follow table None rounds (recursion_from_All (IsRound table) rounds are)),
+  subst (Follow table None) (sym (append-nil (all_records (parts_records None (map RoundPart rounds)))))
+      (rounds_follow table None rounds (recursion_from_All (IsRound table) rounds are)),
   (
     All-from_recursion HasNoFlush ([] ∷ (parts_records None (map RoundPart rounds) ++ [] ∷ [])) (tt, rounds_no_flush None rounds),
     ap (λ (rs : List (List PageRecord)). [] ∷ rs) (rounds_are None rounds),
@@ -164,17 +171,20 @@ flush_rounds n = (replicate n [], All-from_recursion HasNoFlush (replicate n [])
 
 -- The records of FLUSHes that are written may stand one after another, and are rounds of no page.
 pub main_parts : (table : RamTable) (n : ℕ)
-    → Follow table None (all_records (parts_records None (replicate n FlushPart)) ++ []) × AreRounds Main ([] ∷ (parts_records None (replicate n FlushPart) ++ [] ∷ [])) (replicate n [])
+    → Follow table None (all_records (parts_records None (replicate n FlushPart)) ++ [])
+    × AreRounds Main ([] ∷ (parts_records None (replicate n FlushPart) ++ [] ∷ [])) (replicate n [])
 main_parts table n =
     let flushes : List (List Record) = parts_records None (replicate n FlushPart) in
     let same : flushes ≡ replicate n (FlushMark ∷ []) = flush_records None n in
-    let follow : Follow table None (all_records flushes) = subst (λ (rs : List (List Record)). Follow table None (all_records rs)) (sym same) (flushes_follow table None n) in (
+    let follow : Follow table None (all_records flushes) =
+    subst (λ (rs : List (List Record)). Follow table None (all_records rs)) (sym same) (flushes_follow table None n) in (
       subst (Follow table None) (sym (append-nil (all_records flushes))) follow,
       subst (λ (rs : List (List Record)). AreRounds Main ([] ∷ (rs ++ [] ∷ [])) (replicate n [])) (sym same) (flush_rounds n),
     )
 
 -- What is written of FLUSHes is a main stream: a round of no page for each.
-pub written_main : (table : RamTable) (n limit : ℕ) → IsTable table → total_bytes table ≤ limit → IsText Main limit (written table (replicate n FlushPart)) table (replicate n [])
+pub written_main : (table : RamTable) (n limit : ℕ) → IsTable table → total_bytes table ≤ limit
+    → IsText Main limit (written table (replicate n FlushPart)) table (replicate n [])
 written_main table n limit is most =
     let flushes : List (List Record) = parts_records None (replicate n FlushPart) in
     let both = main_parts table n in

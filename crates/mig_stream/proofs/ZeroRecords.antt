@@ -26,7 +26,8 @@ use Rattle.mig_stream.proofs.Fronts.{Front-none, Front-append}
 use Rattle.mig_stream.proofs.PageFronts.{PageFront-none, PageFront-one, PageFront-append}
 
 -- a head of a kind's flags
-kind_front : (c : StreamProgress) (head : List ℕ) (kind : RecordKind) (flags page : ℕ) → length head ≡ 8 → be64_at 0 head % c.page_size ≡ flags → record_kind flags ≡ Some kind
+kind_front : (c : StreamProgress) (head : List ℕ) (kind : RecordKind) (flags page : ℕ) → length head ≡ 8
+    → be64_at 0 head % c.page_size ≡ flags → record_kind flags ≡ Some kind
     → be64_at 0 head / c.page_size ≡ page → first_of (kind_faults (record c { due = RecordHead }) kind page) ≡ None
     → kind_of_head (Some kind) ≡ None → PageFront (record c { due = RecordHead }) head (after_kind (record c { due = RecordHead }) kind page)
 kind_front c head kind flags page len flags_are kind_is number none part =
@@ -44,18 +45,22 @@ zero_front : (c : StreamProgress) (at : Place) → PageFront (record c { due = C
 zero_front c at = PageFront-one (record c { due = Content Zero at }) (0 ∷ []) (λ e. absurd cc) refl refl refl
 
 -- a record that leaves its block's id out
-continued_front : (c : StreamProgress) (head : List ℕ) (b page : ℕ) → is_none c.left ≡ false → is_full c.room ≡ false → c.named ≡ Some b → length head ≡ 8 → be64_at 0 head % c.page_size ≡ 0x22
-    → be64_at 0 head / c.page_size ≡ page → page < (block c.blocks b).pages → PageFront (record c { due = RecordHead }) (head ++ 0 ∷ []) (with_record c (place_at b page) None)
+continued_front : (c : StreamProgress) (head : List ℕ) (b page : ℕ) → is_none c.left ≡ false → is_full c.room ≡ false
+    → c.named ≡ Some b → length head ≡ 8 → be64_at 0 head % c.page_size ≡ 0x22
+    → be64_at 0 head / c.page_size ≡ page → page < (block c.blocks b).pages
+    → PageFront (record c { due = RecordHead }) (head ++ 0 ∷ []) (with_record c (place_at b page) None)
 continued_front c head b page begun free named len flags number in_range =
     let d : StreamProgress = record c { named = Some b } in
     let inside : ltb page (block c.blocks b).pages ≡ true = lt-ltb page (block c.blocks b).pages in_range in
     let first = kind_front d head (Continued Zero) 0x22 page len flags refl number (rw (begun, free, inside) refl) refl in
     let content = zero_front d (place_at b page) in
-    subst (λ (n : Option ℕ). PageFront (record c { due = RecordHead; named = n }) (head ++ 0 ∷ []) (record (with_record c (place_at b page) None) { named = n })) (sym named)
+    subst (λ (n : Option ℕ). PageFront (record c { due = RecordHead; named = n }) (head ++ 0 ∷ [])
+    (record (with_record c (place_at b page) None) { named = n })) (sym named)
     (PageFront-append _ _ _ _ _ first content)
 
 -- a record that names its block
-named_front : (c : StreamProgress) (head name : List ℕ) (b page : ℕ) → is_none c.left ≡ false → is_full c.room ≡ false → length head ≡ 8 → be64_at 0 head % c.page_size ≡ 0x02 → be64_at 0 head / c.page_size ≡ page
+named_front : (c : StreamProgress) (head name : List ℕ) (b page : ℕ) → is_none c.left ≡ false → is_full c.room ≡ false
+    → length head ≡ 8 → be64_at 0 head % c.page_size ≡ 0x02 → be64_at 0 head / c.page_size ≡ page
     → length name ≡ 1 + slice_index name 0 → block_of c.blocks (id_in name) ≡ Some b → page < (block c.blocks b).pages
     → PageFront (record c { due = RecordHead }) (head ++ (name ++ 0 ∷ [])) (record (with_record c (place_at b page) None) { named = Some b })
 named_front c head name b page begun room len flags number whole found in_range =
@@ -90,11 +95,13 @@ number_in bytes at =
 
 -- ---- records that are taken
 
+-- at the head of a record nothing of the records has been taken yet
 pub records_none : (c : StreamProgress) (bytes : List ℕ) → c.due ≡ RecordHead → HasTakenRecords c bytes 0 c
 records_none c bytes due = record { fits = omega arith; leads = PageFront-none c; is_due = due; same_left = refl; same_blocks = refl; same_page_size = refl }
 
 -- and others of the rest after them
-pub records_more : (old mid new : StreamProgress) (bytes rest : List ℕ) (n k : ℕ) → HasTakenRecords old bytes n mid → rest ≡ drop n bytes → HasTakenRecords mid rest k new
+pub records_more : (old mid new : StreamProgress) (bytes rest : List ℕ) (n k : ℕ) → HasTakenRecords old bytes n mid
+    → rest ≡ drop n bytes → HasTakenRecords mid rest k new
     → HasTakenRecords old bytes (n + k) new
 records_more old mid new bytes rest n k a is b =
     let both : take (n + k) bytes ≡ take n bytes ++ take k rest = take-add n k bytes ∙ ap (λ (l : List ℕ). take n bytes ++ take k l) (sym is) in
@@ -108,7 +115,8 @@ records_more old mid new bytes rest n k a is b =
     }
 
 -- none was taken of the rest
-pub records_same : (old mid new : StreamProgress) (bytes rest : List ℕ) (n k : ℕ) → HasTakenRecords old bytes n mid → rest ≡ drop n bytes → HasTakenRecords mid rest k new → k ≡ 0
+pub records_same : (old mid new : StreamProgress) (bytes rest : List ℕ) (n k : ℕ) → HasTakenRecords old bytes n mid
+    → rest ≡ drop n bytes → HasTakenRecords mid rest k new → k ≡ 0
     → HasTakenRecords old bytes n new
 records_same old mid new bytes rest n k a is b none =
     subst (λ (m : ℕ). HasTakenRecords old bytes m new) (omega arith) (records_more old mid new bytes rest n k a is b)
@@ -124,6 +132,7 @@ records_within old new bytes n at h = record {
   same_page_size = h.same_page_size;
 }
 
+-- what is taken of the first bytes is taken of all of them
 pub taken_within : (old new : StreamProgress) (bytes : List ℕ) (n : ℕ) → HasTaken old (take n bytes) new → HasTaken old bytes new
 taken_within old new bytes n h = record {
   front = h.front;
@@ -137,7 +146,8 @@ pub tail_from : (bytes : List ℕ) (n : ℕ) → take (length bytes - n) (drop n
 tail_from bytes n = take_all (length bytes - n) (drop n bytes) (omega (arith, length-drop n bytes))
 
 -- what was taken if the records after were refused
-pub records_stop : (old mid new : StreamProgress) (bytes rest : List ℕ) (n : ℕ) → HasTakenRecords old bytes n mid → rest ≡ drop n bytes → HasTaken mid rest new → HasTaken old bytes new
+pub records_stop : (old mid new : StreamProgress) (bytes rest : List ℕ) (n : ℕ) → HasTakenRecords old bytes n mid
+    → rest ≡ drop n bytes → HasTaken mid rest new → HasTaken old bytes new
 records_stop old mid new bytes rest n a is b = record {
   front = take n bytes ++ b.front;
   rest = b.rest;
@@ -145,12 +155,21 @@ records_stop old mid new bytes rest n a is b = record {
   leads = Front-append old mid new (take n bytes) b.front a.leads.leads b.leads;
 }
 
+-- if nothing changed, nothing more was taken
 pub nothing_more : (c new : StreamProgress) (bytes : List ℕ) → new ≡ c → HasTaken c bytes new
-nothing_more c new bytes is = record { front = []; rest = bytes; has_bytes = refl; leads = subst (λ (x : StreamProgress). Front c [] x) (sym is) (Front-none c) }
+nothing_more c new bytes is = record {
+  front = [];
+  rest = bytes;
+  has_bytes = refl;
+  leads = subst (λ (x : StreamProgress). Front c [] x) (sym is) (Front-none c);
+}
 
-pub continued_taken : (c new : StreamProgress) (bytes : List ℕ) (at b page : ℕ) → at + 9 ≤ length bytes → c.due ≡ RecordHead → is_none c.left ≡ false → is_full c.room ≡ false → c.named ≡ Some b
+-- nine bytes of a zero record with CONTINUE are one record of the block that was named last
+pub continued_taken : (c new : StreamProgress) (bytes : List ℕ) (at b page : ℕ) → at + 9 ≤ length bytes → c.due ≡ RecordHead
+    → is_none c.left ≡ false → is_full c.room ≡ false → c.named ≡ Some b
     → be64_at at bytes % c.page_size ≡ 0x22 → be64_at at bytes / c.page_size ≡ page → page < (block c.blocks b).pages → slice_index bytes (at + 8) ≡ 0
-    → new ≡ record c { room = less_room c.room; records = c.records ++ record { place = place_at b page; content = None } ∷ [] } → HasTakenRecords c (drop at bytes) 9 new
+    → new ≡ record c { room = less_room c.room; records = c.records ++ record { place = place_at b page; content = None } ∷ [] }
+    → HasTakenRecords c (drop at bytes) 9 new
 continued_taken c new bytes at b page fits due begun free named flags number in_range fill is =
     let rest : List ℕ = drop at bytes in
     let long : 9 ≤ length rest = omega (arith, length-drop at bytes, fits) in
@@ -159,7 +178,8 @@ continued_taken c new bytes at b page fits due begun free named flags number in_
     let taken = continued_front c (take 8 rest) b page begun free named (head_len rest (omega (arith, long)))
     (ap (λ (n : ℕ). n % c.page_size) (number_in bytes at) ∙ flags) (ap (λ (n : ℕ). n / c.page_size) (number_in bytes at) ∙ number) in_range in
     let all : PageFront (record c { due = RecordHead }) (take 9 rest) (record c { due = RecordHead; room = less_room c.room; records = records }) =
-    subst (λ (l : List ℕ). PageFront (record c { due = RecordHead }) l (record c { due = RecordHead; room = less_room c.room; records = records })) (sym (up_to rest 8 0 (omega (arith, long)) zero_byte)) taken in
+    subst (λ (l : List ℕ). PageFront (record c { due = RecordHead }) l
+    (record c { due = RecordHead; room = less_room c.room; records = records })) (sym (up_to rest 8 0 (omega (arith, long)) zero_byte)) taken in
     let here : PageFront c (take 9 rest) (record c { room = less_room c.room; records = records }) =
     subst (λ (d : Due). PageFront (record c { due = d }) (take 9 rest) (record c { due = d; room = less_room c.room; records = records })) (sym due) all in
     record {
@@ -171,10 +191,16 @@ continued_taken c new bytes at b page fits due begun free named flags number in_
       same_page_size = ap (λ (x : StreamProgress). x.page_size) is;
     }
 
-pub named_taken : (c new : StreamProgress) (bytes head rest : List ℕ) (k b page : ℕ) → head ≡ take 8 bytes → rest ≡ drop 8 bytes → k < length rest → c.due ≡ RecordHead → is_none c.left ≡ false → is_full c.room ≡ false
+-- a zero record that names its block is one record of that block
+pub named_taken : (c new : StreamProgress) (bytes head rest : List ℕ) (k b page : ℕ) → head ≡ take 8 bytes → rest ≡ drop 8 bytes
+    → k < length rest → c.due ≡ RecordHead → is_none c.left ≡ false → is_full c.room ≡ false
     → be64_at 0 head % c.page_size ≡ 0x02 → be64_at 0 head / c.page_size ≡ page → page < (block c.blocks b).pages
     → k ≡ 1 + slice_index rest 0 → block_of c.blocks (id_in (take k rest)) ≡ Some b → slice_index rest k ≡ 0
-    → new ≡ record c { named = Some b; room = less_room c.room; records = c.records ++ record { place = place_at b page; content = None } ∷ [] } → HasTakenRecords c bytes (9 + k) new
+    → new ≡ record c {
+      named = Some b;
+      room = less_room c.room;
+      records = c.records ++ record { place = place_at b page; content = None } ∷ [];
+    } → HasTakenRecords c bytes (9 + k) new
 named_taken c new bytes head rest k b page head_is rest_is lt due begun room flags number in_range whole found fill is =
     let len : length rest ≡ length bytes - 8 = ap (λ (l : List ℕ). length l) rest_is ∙ length-drop 8 bytes in
     let records : List PageRecord = c.records ++ record { place = place_at b page; content = None } ∷ [] in
@@ -186,10 +212,13 @@ named_taken c new bytes head rest k b page head_is rest_is lt due begun room fla
     let spelled : take (9 + k) bytes ≡ head ++ (name ++ 0 ∷ []) =
     ap (λ (n : ℕ). take n bytes) count ∙ take-add 8 (k + 1) bytes ∙ ap (λ (l : List ℕ). l ++ take (k + 1) (drop 8 bytes)) (sym head_is)
     ∙ ap (λ (l : List ℕ). head ++ take (k + 1) l) (sym rest_is) ∙ ap (λ (l : List ℕ). head ++ l) (up_to rest k 0 lt fill) in
-    let all : PageFront (record c { due = RecordHead }) (take (9 + k) bytes) (record c { due = RecordHead; named = Some b; room = less_room c.room; records = records }) =
-    subst (λ (l : List ℕ). PageFront (record c { due = RecordHead }) l (record c { due = RecordHead; named = Some b; room = less_room c.room; records = records })) (sym spelled) taken in
+    let all : PageFront (record c { due = RecordHead }) (take (9 + k) bytes)
+    (record c { due = RecordHead; named = Some b; room = less_room c.room; records = records }) =
+    subst (λ (l : List ℕ). PageFront (record c { due = RecordHead }) l
+    (record c { due = RecordHead; named = Some b; room = less_room c.room; records = records })) (sym spelled) taken in
     let here : PageFront c (take (9 + k) bytes) (record c { named = Some b; room = less_room c.room; records = records }) =
-    subst (λ (d : Due). PageFront (record c { due = d }) (take (9 + k) bytes) (record c { due = d; named = Some b; room = less_room c.room; records = records })) (sym due) all in
+    subst (λ (d : Due). PageFront (record c { due = d }) (take (9 + k) bytes)
+    (record c { due = d; named = Some b; room = less_room c.room; records = records })) (sym due) all in
     record {
       fits = omega (arith, len, lt);
       leads = subst (λ (x : StreamProgress). PageFront c (take (9 + k) bytes) x) (sym is) here;
@@ -201,6 +230,7 @@ named_taken c new bytes head rest k b page head_is rest_is lt due begun room fla
 
 -- ---- and in a reading
 
+-- no byte is read, and no record taken
 pub none_taken : (c : StreamProgress) (bytes : List ℕ) → HasTakenPages c bytes bytes c
 none_taken c bytes = ([], refl, PageFront-none c)
 
@@ -208,13 +238,16 @@ none_taken c bytes = ([], refl, PageFront-none c)
 pub pages_taken : (old new : StreamProgress) (bytes rest : List ℕ) → HasTakenPages old bytes rest new → HasTakenTo old bytes rest new
 pages_taken old new bytes rest (front, e, pages) = (front, e, pages.leads)
 
-pub goes_on_to : (from mid new : StreamProgress) (bytes rest more : List ℕ) → HasTakenTo from bytes rest mid → HasTakenTo mid rest more new → HasTakenTo from bytes more new
+-- bytes that are taken after others are taken with them
+pub goes_on_to : (from mid new : StreamProgress) (bytes rest more : List ℕ) → HasTakenTo from bytes rest mid
+    → HasTakenTo mid rest more new → HasTakenTo from bytes more new
 goes_on_to from mid new bytes rest more a b = (
   a.0 ++ b.0,
   a.1 ∙ ap (λ (l : List ℕ). a.0 ++ l) b.1 ∙ sym (append_assoc a.0 b.0 more),
   Front-append from mid new a.0 b.0 a.2 b.2,
 )
 
+-- what is taken after other bytes is taken of all of them
 pub stops_within : (from mid new : StreamProgress) (bytes rest : List ℕ) → HasTakenTo from bytes rest mid → HasTaken mid rest new → HasTaken from bytes new
 stops_within from mid new bytes rest a b = record {
   front = a.0 ++ b.front;
@@ -224,5 +257,6 @@ stops_within from mid new bytes rest a b = record {
 }
 
 -- the bytes after the records that were taken
-pub taken_to : (old new : StreamProgress) (bytes rest : List ℕ) (n : ℕ) → HasTakenRecords old bytes n new → rest ≡ drop n bytes → HasTakenPages old bytes rest new
+pub taken_to : (old new : StreamProgress) (bytes rest : List ℕ) (n : ℕ) → HasTakenRecords old bytes n new → rest ≡ drop n bytes
+    → HasTakenPages old bytes rest new
 taken_to old new bytes rest n h is = (take n bytes, sym (take-append-drop n bytes) ∙ ap (λ (l : List ℕ). take n bytes ++ l) (sym is), h.leads)

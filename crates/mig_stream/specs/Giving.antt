@@ -5,8 +5,8 @@ use Rattle.mig_mem.specs.PageSize.{IsPageSize}
 use Rattle.mig_stream.specs.declared.item.Mode.TheVariants.{Single}
 use Rattle.mig_stream.specs.declared.item.StreamState.{StreamState}
 use Rattle.mig_stream.specs.declared.item.StreamState.TheVariants.{Reading, Closed}
-use Rattle.mig_stream.specs.declared.giving.Given.{Given}
-use Rattle.mig_stream.specs.declared.giving.Given.TheVariants.{Records, Section, End}
+use Rattle.mig_stream.specs.declared.record_reader.RecordEvent.{RecordEvent}
+use Rattle.mig_stream.specs.declared.record_reader.RecordEvent.TheVariants.{Records, Section, End}
 use Rattle.mig_stream.specs.PageRecord.{PageRecord}
 use Rattle.mig_stream.specs.Progress.{StreamProgress, start}
 use Rattle.mig_stream.specs.Reading.{Settings, Front, Ends, StreamReading, IsReading}
@@ -43,7 +43,7 @@ abbrev pub with_last : List PageRecord → GivenSoFar → GivenSoFar
 with_last records so_far = record { sections = so_far.sections ++ (so_far.open_section ++ records) ∷ []; open_section = [] }
 
 -- what giving these records adds
-abbrev pub with_given : Given → List PageRecord → GivenSoFar → GivenSoFar
+abbrev pub with_given : RecordEvent → List PageRecord → GivenSoFar → GivenSoFar
 with_given Records records so_far = with_more records so_far
 with_given Section records so_far = with_last records so_far
 with_given (End found) records so_far = so_far
@@ -97,7 +97,7 @@ abbrev pub left : Giver → ℕ
 left r = 2 * length r.rest + waiting_in r.progress + to_go r.found
 
 -- a call that doesn't give the end leaves less to be given
-abbrev pub LeavesLess : Given → Giver → Giver → Type 0
+abbrev pub LeavesLess : RecordEvent → Giver → Giver → Type 0
 LeavesLess (End found) old new = ⊤
 LeavesLess other old new = left new < left old
 
@@ -117,12 +117,12 @@ pub record HasReading (given : Settings) (text : List ℕ) (so_far : GivenSoFar)
   pub has_open : is_reading.to.records ≡ so_far.open_section
   pub has_none_open : found ≡ Closed → so_far.open_section ≡ []
 
-abbrev pub EndsSo : Given → Settings → List ℕ → GivenSoFar → Type 0
+abbrev pub EndsSo : RecordEvent → Settings → List ℕ → GivenSoFar → Type 0
 EndsSo (End found) given text so_far = HasReading given text so_far found
 EndsSo other given text so_far = ⊤
 
 -- the result at the end: the state of the stream, and no records
-abbrev pub TellsFound : Given → Giver → Type 0
+abbrev pub TellsFound : RecordEvent → Giver → Type 0
 TellsFound (End found) r = (r.found ≡ Some found) × (r.given.records ≡ [])
 TellsFound other r = ⊤
 
@@ -141,7 +141,7 @@ pub record HasNoneLeft (found : StreamState) (r : Giver) : Type 0 where
   pub has_no_rounds : r.progress.rounds ≡ []
 
 -- none is left once the end was given
-abbrev pub LeavesNone : Given → Giver → Type 0
+abbrev pub LeavesNone : RecordEvent → Giver → Type 0
 LeavesNone (End found) r = HasNoneLeft found r
 LeavesNone other r = ⊤
 

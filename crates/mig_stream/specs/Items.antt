@@ -267,16 +267,16 @@ after_type c byte =
     record c { due = Nothing }
 
 -- what the type byte after a COMMAND follows
-abbrev pub behind_command : Before → Before
-behind_command before.FileHeader = before.Command
-behind_command before.Configuration = before.Command
-behind_command before.Command = before.Command
-behind_command before.Footer = before.Footer
-behind_command before.LastFooter = before.LastFooter
+abbrev pub after_command : Before → Before
+after_command before.FileHeader = before.Command
+after_command before.Configuration = before.Command
+after_command before.Command = before.Command
+after_command before.Footer = before.Footer
+after_command before.LastFooter = before.LastFooter
 
 -- the item after the type byte of one that is passed over
 abbrev pub passed_by : Before → ℕ → PassedItem
-passed_by before byte = if byte == command_type then Command (behind_command before) else SubsectionHead
+passed_by before byte = if byte == command_type then Command (after_command before) else SubsectionHead
 
 abbrev pub after_type_byte : StreamProgress → Before → ℕ → StreamProgress
 after_type_byte c before byte =
@@ -438,8 +438,8 @@ footer_of section.Start = before.Footer
 footer_of section.Part = before.Footer
 footer_of section.End = before.LastFooter
 
-abbrev pub behind_footer : Frame → Section → Due
-behind_footer frame kind = if closes frame kind then Nothing else TypeByte (footer_of kind)
+abbrev pub after_footer : Frame → Section → Due
+after_footer frame kind = if closes frame kind then Nothing else TypeByte (footer_of kind)
 
 -- In a single stream a section is a round; in a main stream the round continues after the footer.
 abbrev pub open_room : Mode → Option ℕ → Option ℕ → Option ℕ
@@ -463,7 +463,7 @@ whole_rounds MainAsShown rounds records = rounds
 
 abbrev pub end_section : StreamProgress → StreamProgress
 end_section c = record c {
-  due = behind_footer c.frame c.section;
+  due = after_footer c.frame c.section;
   room = open_room c.mode c.waiting c.room;
   records = open_records c.mode c.records;
   rounds = whole_rounds c.mode c.rounds c.records;

@@ -13,7 +13,7 @@ use Rattle.mig_stream.specs.PageRecord.{PageRecord, page_of}
 use Rattle.mig_stream.specs.Progress.{StreamProgress, start}
 use Rattle.mig_stream.specs.Items.{first_fault}
 use Rattle.mig_stream.specs.Reading.{Settings, settings, in_frame, IsItem, Front, StreamReading, IsReading}
-use Rattle.mig_stream.specs.Reader.{HasState, IsSettled, HasFront, IsValidUpTo, IsClosedAt}
+use Rattle.mig_stream.specs.Reader.{HasState, IsFinal, HasFront, IsValidUpTo, IsClosedAt}
 use Rattle.mig_stream.specs.Text.{IsText, total_bytes}
 use Rattle.mig_stream.specs.Machine.{IsMachineText}
 use Rattle.mig_stream.specs.Written.{written_record, single, main}
@@ -127,7 +127,7 @@ IsValidUpToOnePlace = (given : Settings) (text : List ℕ) → IsPageSize given.
 -- stays.
 abbrev pub LongerTextsStayValid : Type 0
 LongerTextsStayValid = (given : Settings) (text more : List ℕ) (m n : ℕ) → IsValidUpTo given text m → IsValidUpTo given (text ++ more) n
-    → (m ≤ n) × (IsSettled given text → m ≡ n)
+    → (m ≤ n) × (IsFinal given text → m ≡ n)
 
 -- A closed stream is valid up to the byte at which it is closed.
 abbrev pub ClosedIsValid : Type 0

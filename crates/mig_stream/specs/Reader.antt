@@ -92,8 +92,8 @@ abbrev pub HasState : Settings → List ℕ → Bool → StreamState → Type 0
 HasState given text ended state = (reading : StreamReading) × IsReading given text reading × (state ≡ state_at ended reading.state)
 
 -- no further byte changes the state: the stream is closed, or bad
-abbrev pub IsSettled : Settings → List ℕ → Type 0
-IsSettled given text = (reading : StreamReading) × IsReading given text reading × (reading.state ≢ Reading)
+abbrev pub IsFinal : Settings → List ℕ → Type 0
+IsFinal given text = (reading : StreamReading) × IsReading given text reading × (reading.state ≢ Reading)
 
 -- The stream is closed by its first n bytes, and by no fewer.
 pub record IsClosedAt (given : Settings) (text : List ℕ) (n : ℕ) : Type 0 where

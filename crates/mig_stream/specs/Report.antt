@@ -15,8 +15,8 @@ use Rattle.mig_stream.specs.declared.item.StreamState.{StreamState}
 use Rattle.mig_stream.specs.declared.item.StreamState.TheVariants.{Reading}
 use Rattle.mig_stream.specs.declared.report.ItemKind.{ItemKind}
 use Rattle.mig_stream.specs.declared.report.ItemKind.TheVariants as kind
-use Rattle.mig_stream.specs.declared.giving.Given.{Given}
-use Rattle.mig_stream.specs.declared.giving.Given.TheVariants.{End}
+use Rattle.mig_stream.specs.declared.record_reader.RecordEvent.{RecordEvent}
+use Rattle.mig_stream.specs.declared.record_reader.RecordEvent.TheVariants.{End}
 use Rattle.mig_stream.specs.Fields.{be64_at}
 use Rattle.mig_stream.specs.Format.{section_type, subsection_type, command_type, configuration_type}
 use Rattle.mig_stream.specs.Progress.{StreamProgress, start}
@@ -153,7 +153,7 @@ ReportsOn step old before new now = (given : Settings) (text : List ℕ) (so_far
     → Reports given text so_far cleared old before → Reports given text (step so_far) cleared new now
 
 -- If the reader gives no more, the report is the stream's.
-abbrev pub EndsReport : Given → Settings → List ℕ → List ItemAt → Reported → Type 0
+abbrev pub EndsReport : RecordEvent → Settings → List ℕ → List ItemAt → Reported → Type 0
 EndsReport (End found) given text cleared report = IsReport given text cleared report
 EndsReport other given text cleared report = ⊤
 

@@ -18,7 +18,7 @@ pub enum Mode {
     MainBySection,
     /// The main stream of multifd, which shows by its first FLUSH or EOS what ends a round. With a
     /// FLUSH in START it is as `Main`. Otherwise START's EOS ends the first round. If a FLUSH is
-    /// the first record behind START, as the senders of this project write it, it only shows that
+    /// the first record after START, as the senders of this project write it, it only shows that
     /// FLUSHes end the rounds from there on. If the first one is a page record or an EOS, the
     /// stream is as `MainBySection`.
     MainAsShown,

@@ -9,7 +9,7 @@ ghost use Rattle.mig_mem.specs.First.{first_of};
 ghost use Rattle.mig_stream.specs.declared.item.Due.TheVariants as due;
 ghost use Rattle.mig_stream.specs.declared.item.RecordKind.TheVariants as kind;
 ghost use Rattle.mig_stream.specs.declared.item.Filling.TheVariants as filling;
-ghost use Rattle.mig_stream.specs.Items.{size, is_page_size, entry_faults, is_allowed, is_passed, closes, passed_size, passed_by, is_passed_command, advises, behind_command, subsection_of, capabilities_due, list_due, entry_due, passed_form, behind_footer, record_kind, end_round, is_start, flush_mode, flush_ends, flush_records, eos_mode, is_full, less_room, open_room};
+ghost use Rattle.mig_stream.specs.Items.{size, is_page_size, entry_faults, is_allowed, is_passed, closes, passed_size, passed_by, is_passed_command, advises, after_command, subsection_of, capabilities_due, list_due, entry_due, passed_form, after_footer, record_kind, end_round, is_start, flush_mode, flush_ends, flush_records, eos_mode, is_full, less_room, open_room};
 ghost use Rattle.std.specs.Str.{bytes_eq};
 ghost use Rattle.mig_stream.specs.Format.{ignore_shared, mapped_ram};
 ghost use Rattle.mig_stream.specs.Taking.{TakesAs, TakesHead, TellsBody};
@@ -411,7 +411,7 @@ impl<'a, A: Allocator + Copy> Progress<'a, A> {
             self.end_round()?;
         }
         self.room = open_room(self.mode, self.waiting, self.room);
-        self.due = behind_footer(self.frame, self.section);
+        self.due = after_footer(self.frame, self.section);
         Ok(())
     }
 }
@@ -575,15 +575,15 @@ fn passed_by(before: Before, byte: u8) -> PassedItem
     ensures { result ≡ passed_by before byte }
 {
     if byte == QEMU_VM_COMMAND {
-        PassedItem::Command(behind_command(before))
+        PassedItem::Command(after_command(before))
     } else {
         PassedItem::SubsectionHead
     }
 }
 
 // Returns what the type byte after a COMMAND follows.
-fn behind_command(before: Before) -> Before
-    ensures { result ≡ behind_command before }
+fn after_command(before: Before) -> Before
+    ensures { result ≡ after_command before }
 {
     match before {
         Before::FileHeader | Before::Configuration | Before::Command => Before::Command,
@@ -614,8 +614,8 @@ fn closes(frame: Frame, section: Section) -> bool
     }
 }
 
-fn behind_footer(frame: Frame, section: Section) -> Due
-    ensures { result ≡ behind_footer frame section }
+fn after_footer(frame: Frame, section: Section) -> Due
+    ensures { result ≡ after_footer frame section }
 {
     if closes(frame, section) {
         return Due::Nothing;
@@ -703,7 +703,7 @@ fn is_start(section: Section) -> bool
     }
 }
 
-// Returns the mode that a FLUSH shows, in START or behind it, given whether the open round has no
+// Returns the mode that a FLUSH shows, in START or after it, given whether the open round has no
 // page record.
 fn flush_mode(mode: Mode, in_start: bool, none: bool) -> Mode
     ensures { result ≡ flush_mode mode in_start none }
@@ -725,7 +725,7 @@ fn flush_ends(mode: Mode, in_start: bool, none: bool) -> bool
     }
 }
 
-// Returns the mode that an EOS shows, in START or behind it.
+// Returns the mode that an EOS shows, in START or after it.
 fn eos_mode(mode: Mode, in_start: bool) -> Mode
     ensures { result ≡ eos_mode mode in_start }
 {

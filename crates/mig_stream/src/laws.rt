@@ -108,7 +108,7 @@ pub fn sections_are_flushed()
 
 /// A main stream of `Mode::MainAsShown` is one of `Mode::Main` or of `Mode::MainBySection`, with
 /// the same table and rounds. One of `Mode::Main` is one of `Mode::MainAsShown`, if START has a
-/// FLUSH or the first record behind START is one. One of `Mode::MainBySection` is, if neither is
+/// FLUSH or the first record after START is one. One of `Mode::MainBySection` is, if neither is
 /// so.
 pub fn shown_is_one_of_both()
     ensures one { ShownIsOneOfBoth }

@@ -19,7 +19,6 @@ mod entries;
 mod fault;
 mod fields;
 mod format;
-mod giving;
 mod item;
 mod items;
 mod laws;
@@ -28,6 +27,7 @@ mod piece;
 mod progress;
 mod reader;
 mod record;
+mod record_reader;
 mod report;
 mod reporting;
 mod round;
@@ -37,7 +37,6 @@ mod writer;
 mod zeros;
 
 pub use fault::StreamFault;
-pub use giving::{Given, Pause, RecordReader};
 pub use item::{Frame, Mode, StreamState};
 pub use laws::{
     bytes_have_one_text, closed_is_text, configured_is_written, longer_texts_stay,
@@ -46,6 +45,7 @@ pub use laws::{
     text_has_one_report, text_is_valid_up_to_one_place, waiting_is_bounded, written_is_text,
 };
 pub use reader::StreamReader;
+pub use record_reader::{Pause, RecordEvent, RecordReader};
 pub use report::{ItemKind, Report, ReportedItem};
 pub use round::StreamRound;
 pub use wanted::Wanted;

@@ -15,7 +15,7 @@ ghost use Rattle.mig_stream.specs.Taking.{HasTaken};
 ghost use Rattle.mig_stream.specs.Reading.{settings, in_frame, with_waiting, state_at};
 ghost use Rattle.mig_stream.specs.Kept.{bytes_of};
 ghost use Rattle.mig_stream.specs.Report.{ItemAt, IsReport, ReadsReporting};
-ghost use Rattle.mig_stream.specs.Reader.{IsUnfinished, ReadsOn, nothing_yet, with_piece, over, one_taken, Stands, StepsOn, Tells, waiting, HasState, IsSettled, IsValidUpTo, HasClosedAt, HasTable, HasRound};
+ghost use Rattle.mig_stream.specs.Reader.{IsUnfinished, ReadsOn, nothing_yet, with_piece, over, one_taken, Stands, StepsOn, Tells, waiting, HasState, IsFinal, IsValidUpTo, HasClosedAt, HasTable, HasRound};
 
 use crate::StreamFault;
 use crate::item::{Frame, Mode, StreamState};
@@ -40,7 +40,14 @@ use std::marker::Model;
 /// <!-- quoted from crates/mig_uses/src/machine.rt -->
 /// ```rust
 /// let frame = Frame::Machine;
-/// let mut reader = StreamReader::new_in(alloc, frame, Mode::Main, PAGE_SIZE_4K, MAX_TOTAL);
+/// let mut reader = StreamReader::new_with(
+///     alloc,
+///     frame,
+///     Mode::Main,
+///     PAGE_SIZE_4K,
+///     MAX_TOTAL,
+///     None,
+/// );
 /// for piece in text.chunks(len.max(1)) {
 ///     if reader.ended() || reader.fed().checked_add(piece.len() as u64).is_none() {
 ///         return Err(Trouble::Input);
@@ -185,31 +192,16 @@ impl<'a, A: Allocator + Copy> StreamReader<'a, A> {
         ensures open { IsFalse result.ended }
         ensures fed { result.fed ≡ 0 }
     {
-        StreamReader::new_in(alloc, Frame::Ram, mode, page_size, limit)
+        StreamReader::new_with(alloc, Frame::Ram, mode, page_size, limit, None)
     }
 
     /// Creates a reader for a stream of `frame` and `mode` with pages of `page_size` bytes. No
     /// bytes were fed. Its size list may add up to at most `limit` bytes.
-    pub fn new_in(
-        alloc: A,
-        frame: Frame,
-        mode: Mode,
-        page_size: u64,
-        limit: u64,
-    ) -> StreamReader<'a, A>
-        requires page_size { IsPageSize page_size }
-        requires limit { limit ≤ 2 ^ 40 }
-        ensures stands { Stands (in_frame frame (settings mode page_size limit)) nothing_yet result }
-        ensures open { IsFalse result.ended }
-        ensures fed { result.fed ≡ 0 }
-    {
-        StreamReader::new_within(alloc, frame, mode, page_size, limit, None)
-    }
-
-    /// Creates a reader as `new_in` does. A section of a single stream, or a round of a main
-    /// stream, may have at most `waiting` page records: one more is the fault `Waiting`. Complete
-    /// rounds that weren't taken aren't counted. `None` is any number.
-    pub fn new_within(
+    ///
+    /// A section of a single stream, or a round of a main stream, may have at most `waiting` page
+    /// records: one more is the fault `Waiting`. Complete rounds that weren't taken aren't counted.
+    /// `None` is any number.
+    pub fn new_with(
         alloc: A,
         frame: Frame,
         mode: Mode,
@@ -253,41 +245,20 @@ impl<'a, A: Allocator + Copy> StreamReader<'a, A> {
         ensures open { IfOk result (λ r. IsFalse r.ended) }
         ensures fed { IfOk result (λ r. r.fed ≡ length text.now) }
     {
-        StreamReader::of_text_in(alloc, Frame::Ram, mode, page_size, limit, text)
+        StreamReader::of_text_with(alloc, Frame::Ram, mode, page_size, limit, None, text)
     }
 
     /// Creates a reader that was fed `text`, a stream of `frame` and `mode` with pages of
     /// `page_size` bytes. Its size list may add up to at most `limit` bytes. The bytes of pages are
     /// not copied: the rounds lend them from `text`.
     ///
-    /// # Errors
-    ///
-    /// `NoMemory`: an allocation was refused.
-    pub fn of_text_in(
-        alloc: A,
-        frame: Frame,
-        mode: Mode,
-        page_size: u64,
-        limit: u64,
-        text: &'a [u8],
-    ) -> Result<StreamReader<'a, A>, NoMemory>
-        requires page_size { IsPageSize page_size }
-        requires limit { limit ≤ 2 ^ 40 }
-        ensures stands { IfOk result (λ r. Stands (in_frame frame (settings mode page_size limit)) (with_piece text.now nothing_yet) r) }
-        ensures open { IfOk result (λ r. IsFalse r.ended) }
-        ensures fed { IfOk result (λ r. r.fed ≡ length text.now) }
-    {
-        StreamReader::of_text_within(alloc, frame, mode, page_size, limit, None, text)
-    }
-
-    /// Creates a reader that was fed `text` as `of_text_in` does. A section, or a round of a main
-    /// stream, may have at most `waiting` page records: one more is the fault `Waiting`. `None` is
-    /// any number.
+    /// A section of a single stream, or a round of a main stream, may have at most `waiting` page
+    /// records: one more is the fault `Waiting`. `None` is any number.
     ///
     /// # Errors
     ///
     /// `NoMemory`: an allocation was refused.
-    pub fn of_text_within(
+    pub fn of_text_with(
         alloc: A,
         frame: Frame,
         mode: Mode,
@@ -325,7 +296,7 @@ impl<'a, A: Allocator + Copy> StreamReader<'a, A> {
         requires open { IsFalse self.old.ended }
         requires room { self.old.fed + length piece.now < 2 ^ 64 }
         ensures stands { OnOk result (StepsOn (with_piece piece.now) self.old self.new) }
-        ensures settled { Tells self.old (λ given so_far. IsSettled given so_far.text → IsOk result) }
+        ensures settled { Tells self.old (λ given so_far. IsFinal given so_far.text → IsOk result) }
         ensures fed { OnOk result (self.new.fed ≡ self.old.fed + length piece.now) }
         ensures open { IsFalse self.new.ended }
         ensures err { OnErr result (self.new ≡ self.old) }
@@ -353,7 +324,7 @@ impl<'a, A: Allocator + Copy> StreamReader<'a, A> {
         ensures report { OnOk result (Tells self.old (λ given so_far. (cleared : List ItemAt)
             → IsReport given so_far.text cleared report.old → IsReport given (so_far.text ++ piece.now) cleared report.new)) }
         ensures stands { OnOk result (StepsOn (with_piece piece.now) self.old self.new) }
-        ensures settled { Tells self.old (λ given so_far. IsSettled given so_far.text → IsOk result) }
+        ensures settled { Tells self.old (λ given so_far. IsFinal given so_far.text → IsOk result) }
         ensures fed { OnOk result (self.new.fed ≡ self.old.fed + length piece.now) }
         ensures open { IsFalse self.new.ended }
         ensures err { OnErr result ((self.new ≡ self.old) × (report.new ≡ report.old)) }

@@ -92,7 +92,7 @@ fn extend<A: Allocator>(item: &mut Record<'_, A>, bytes: &[u8]) -> Option<(u32, 
 }
 
 /// Appends bytes to the buffer of a record, if it has one and there is room.
-pub(crate) fn put_behind<A: Allocator>(
+pub(crate) fn put_after<A: Allocator>(
     records: &mut Vec<Record<'_, A>, A>,
     owner: usize,
     bytes: &[u8],
@@ -137,7 +137,7 @@ pub(crate) fn next_buffer<A: Allocator + Copy>(
 }
 
 // Returns the bytes of a span.
-fn bytes_behind<'b, A: Allocator>(records: &'b [Record<'_, A>], span: Span) -> &'b [u8]
+fn bytes_after<'b, A: Allocator>(records: &'b [Record<'_, A>], span: Span) -> &'b [u8]
     requires { IsWithin (buffers_of_records records.now) span }
     ensures { result.now ≡ bytes_at (buffers_of_records records.now) span }
 {
@@ -159,7 +159,7 @@ pub(crate) fn content_at<'b, A: Allocator>(
     match &records[i] {
         Record::Zeros(_, _) => None,
         Record::Kept(_, _, end, buffer) => Some(&buffer[..*end as usize]),
-        Record::Behind(_, _, span) => Some(bytes_behind(records, *span)),
+        Record::Behind(_, _, span) => Some(bytes_after(records, *span)),
         Record::Lent(_, _, bytes) => Some(bytes),
     }
 }

@@ -1,8 +1,8 @@
 //! Reading with a report: each item that is taken is added to it, unless it is a part of a page
 //! record. `StreamReader::feed_reporting` and `RecordReader::read_on_reporting` call it.
 //!
-//! These are the loops of `progress`, `giving` and `reader` once more, so that a reader without a
-//! report does nothing for it.
+//! These are the loops of `progress`, `record_reader` and `reader` once more, so that a reader
+//! without a report does nothing for it.
 
 ghost use Rattle.std.specs.Prelude.{◌≡◌, ◌≢◌, ◌+◌, ◌<◌, ◌≤◌, ◌^◌, ◌++◌, [], false, length, take, None, Some, IfOk, IfSome, IfNone, IsSome, OnOk, OnErr};
 ghost use Rattle.mig_stream.specs.declared.item.StreamState.TheVariants as state;

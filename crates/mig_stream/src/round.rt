@@ -8,7 +8,7 @@ ghost use Rattle.mig_stream.specs.Items.{has_none};
 ghost use Rattle.mig_stream.specs.Round.{record_at, AreWhole};
 
 use crate::piece::Piece;
-use crate::record::{Record, content_at, next_buffer, place_of, put_behind};
+use crate::record::{Record, content_at, next_buffer, place_of, put_after};
 use mig_mem::{NoMemory, Place};
 use std::alloc::{Allocator, Global};
 use std::marker::Model;
@@ -195,7 +195,7 @@ impl<'a, A: Allocator + Copy> Records<'a, A> {
         ensures err { OnErr result (self.new ≡ self.old) }
     {
         let (block, page) = (place.block as u8, place.page as u32);
-        if let Some(span) = put_behind(&mut self.items, owner, bytes) {
+        if let Some(span) = put_after(&mut self.items, owner, bytes) {
             push(&mut self.items, Record::Behind(block, page, span))?;
             return Ok(owner);
         }

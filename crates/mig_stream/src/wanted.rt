@@ -8,8 +8,8 @@ ghost use Rattle.mig_stream.specs.Reading.{Settings};
 ghost use Rattle.mig_stream.specs.Giving.{GivenSoFar, with_more, PausesAt};
 ghost use Rattle.mig_stream.specs.Wanted.{page_due, AreWanted};
 
-use crate::giving::Pause;
 use crate::item::{Due, Filling};
+use crate::record_reader::Pause;
 use mig_mem::Place;
 use std::alloc::Allocator;
 

@@ -6,7 +6,7 @@ use mig_fixtures::{TestHeap, table, table_of};
 use mig_mem::{
     Dirty, GuestTarget, LentMemory, LentMemoryMut, MAX_TOTAL, PAGE_SIZE_4K, PAGE_SIZE_8K, Table,
 };
-use mig_single_load::{InPlaceLoader, LoadFault};
+use mig_single_load::{InPlaceLoader, LoadFault, LoadSettings};
 use std::alloc::{AllocGlobal, Allocator, Global};
 use std::process::Abort;
 
@@ -32,7 +32,8 @@ fn migrate<A: Allocator + Copy, B: Allocator, M: GuestTarget + Drop>(
     most: u64,
     memory: M,
 ) -> Option<Answer> {
-    let mut loader = InPlaceLoader::new(alloc, memory, MAX_TOTAL).ok()?;
+    let settings = LoadSettings::new(memory.table().page_size(), MAX_TOTAL);
+    let mut loader = InPlaceLoader::new(alloc, settings, memory).ok()?;
     send(alloc, guest, dirty, most, &mut loader)?;
     loader.end();
     Some((loader.rounds(), loader.verdict()))

@@ -1,19 +1,22 @@
-//! How many pages of a guest the sections of a single stream don't name, as it is fed.
+//! How many pages of a guest the sections of a single stream don't name, as it is fed and in the
+//! answer.
 
 use crate::building::two_rounds;
 use mig_mem::{MAX_TOTAL, PAGE_SIZE_4K};
-use mig_single_load::SingleLoader;
+use mig_single_load::{LoadSettings, SingleLoader, load_single};
 use std::alloc::Global;
 
 // Loads the first `len` bytes of a stream. Returns how many pages are missing then.
 fn missing_after(alloc: Global, stream: &[u8], len: usize) -> Option<Option<u64>> {
-    let mut loader = SingleLoader::new(alloc, PAGE_SIZE_4K, MAX_TOTAL);
+    let mut loader = SingleLoader::new(alloc, LoadSettings::new(PAGE_SIZE_4K, MAX_TOTAL));
     let piece = stream.get(..len)?;
     if piece.len() as u64 > MAX_TOTAL {
         return None;
     }
     loader.feed(piece).ok()?;
-    Some(loader.missing())
+    let missing = loader.missing();
+    let at_once = load_single(alloc, PAGE_SIZE_4K, piece, MAX_TOTAL).missing;
+    (loader.finish().missing == missing && at_once == missing).then_some(missing)
 }
 
 // The size list is complete before START's footer, and the first round with byte 4220. It names 3

@@ -4,7 +4,7 @@
 use crate::building::two_rounds;
 use mig_fixtures::{TestHeap, at, has_byte, is_full};
 use mig_mem::{MAX_TOTAL, PAGE_SIZE_4K};
-use mig_single_load::{FeedFault, SingleLoader};
+use mig_single_load::{FeedFault, LoadSettings, SingleLoader};
 
 // Returns a loader that was fed a stream with allocation `nth` refused, if that left it without the
 // guest's memory.
@@ -13,7 +13,7 @@ fn without_guest_memory<'a>(
     stream: &[u8],
     nth: u64,
 ) -> Option<SingleLoader<&'a TestHeap>> {
-    let mut loader = SingleLoader::new(heap, PAGE_SIZE_4K, MAX_TOTAL);
+    let mut loader = SingleLoader::new(heap, LoadSettings::new(PAGE_SIZE_4K, MAX_TOTAL));
     if stream.len() as u64 > MAX_TOTAL {
         return None;
     }

@@ -4,7 +4,7 @@
 use mig_fixtures::{set, zeroed};
 use mig_mem::{Dirty, MAX_TOTAL, Memory, PAGE_SIZE_4K, Place};
 use mig_send::SingleSender;
-use mig_stream::{Frame, Given, RecordReader, StreamState};
+use mig_stream::{Frame, RecordEvent, RecordReader, StreamState};
 use std::alloc::Global;
 
 /// The number of pages of the block.
@@ -44,16 +44,16 @@ fn sent(alloc: Global) -> Option<Vec<u8>> {
 // Reads a stream record by record. Returns the number of records, and the most that a call
 // returned.
 fn counts(alloc: Global, stream: &[u8]) -> Option<(usize, usize)> {
-    let mut reader = RecordReader::new_in(alloc, Frame::Ram, PAGE_SIZE_4K, MAX_TOTAL, stream);
+    let mut reader = RecordReader::new(alloc, Frame::Ram, PAGE_SIZE_4K, MAX_TOTAL, None, stream);
     let mut counts = (0usize, 0usize);
     for _ in 0..10_000u64 {
         match reader.read_on().ok()? {
-            Given::Records | Given::Section => {
+            RecordEvent::Records | RecordEvent::Section => {
                 let len = reader.given().len();
                 counts = (counts.0.saturating_add(len), counts.1.max(len));
             }
-            Given::End(StreamState::Closed) => return Some(counts),
-            Given::End(_) => return None,
+            RecordEvent::End(StreamState::Closed) => return Some(counts),
+            RecordEvent::End(_) => return None,
         }
     }
     None

@@ -7,7 +7,7 @@ ghost use Rattle.mig_stream.specs.Giving.{HasNoneLeft};
 use crate::building::followed;
 use mig_mem::{MAX_TOTAL, PAGE_SIZE_4K};
 use mig_stream::{
-    Frame, Given, ItemKind, Mode, Pause, RecordReader, Report, StreamReader, StreamState,
+    Frame, ItemKind, Mode, Pause, RecordEvent, RecordReader, Report, StreamReader, StreamState,
 };
 use std::alloc::Global;
 
@@ -74,12 +74,13 @@ fn has_items(report: &Report, stream: &[u8], items: &[(u64, ItemKind)]) -> bool 
 // Returns whether a reader that is fed pieces of `len` bytes reports these items.
 fn is_fed(alloc: Global, stream: &[u8], len: usize) -> bool {
     let mut report = Report::new(alloc);
-    let mut reader = StreamReader::new_in(
+    let mut reader = StreamReader::new_with(
         alloc,
         Frame::Machine,
         Mode::Single,
         PAGE_SIZE_4K,
         MAX_TOTAL,
+        None,
     );
     for piece in stream.chunks(len.max(1)) {
         if reader.ended()
@@ -99,7 +100,7 @@ fn end_of_piece(reader: &mut RecordReader<'_>, report: &mut Report) -> Option<St
 {
     for _ in 0..u64::MAX {
         match reader.read_on_reporting(report) {
-            Ok(Given::End(found)) => return Some(found),
+            Ok(RecordEvent::End(found)) => return Some(found),
             Ok(_) => {}
             Err(_) => return None,
         }
@@ -109,7 +110,7 @@ fn end_of_piece(reader: &mut RecordReader<'_>, report: &mut Report) -> Option<St
 
 // Reads a stream in pieces of `len` bytes. Returns whether it is closed.
 fn read_on(alloc: Global, stream: &[u8], len: usize, report: &mut Report) -> bool {
-    let mut pause = Pause::new_in(alloc, Frame::Machine, PAGE_SIZE_4K, MAX_TOTAL);
+    let mut pause = Pause::new(alloc, Frame::Machine, PAGE_SIZE_4K, MAX_TOTAL, None);
     for piece in stream.chunks(len.max(1)) {
         let mut reader = pause.resume(piece);
         match end_of_piece(&mut reader, report) {

@@ -3,7 +3,7 @@
 
 use crate::building::{FRAMES, closed_at, followed};
 use mig_mem::{MAX_TOTAL, PAGE_SIZE_4K};
-use mig_single_load::{LoadSettings, single_valid_up_to};
+use mig_single_load::{LoadSettings, load_single_with};
 use mig_stream::{Frame, Mode, StreamReader};
 use std::alloc::Global;
 
@@ -45,7 +45,14 @@ fn whole(items: &[usize], len: usize) -> u64 {
 
 // Returns whether the complete items of a stream are found after each of its bytes.
 fn are_found(alloc: Global, frame: Frame, stream: &[u8], items: &[usize]) -> bool {
-    let mut reader = StreamReader::new_in(alloc, frame, Mode::Single, PAGE_SIZE_4K, MAX_TOTAL);
+    let mut reader = StreamReader::new_with(
+        alloc,
+        frame,
+        Mode::Single,
+        PAGE_SIZE_4K,
+        MAX_TOTAL,
+        None,
+    );
     for (i, byte) in stream.iter().enumerate() {
         if reader.ended() || reader.fed() > MAX_TOTAL || reader.feed(&[*byte]).is_err() {
             return false;
@@ -67,7 +74,7 @@ fn byte_by_byte(rt: HostRuntime) {
 // Returns whether a complete stream is valid up to `wanted`, in a frame.
 fn is_valid_up_to(alloc: Global, frame: Frame, stream: &[u8], wanted: u64) -> bool {
     let settings = LoadSettings::new(PAGE_SIZE_4K, MAX_TOTAL).with_frame(frame);
-    single_valid_up_to(alloc, settings, stream) == Ok(wanted)
+    load_single_with(alloc, settings, stream).valid_up_to == Some(wanted)
 }
 
 // Returns whether a reader that is made of RAM's sections alone is closed at `wanted`.

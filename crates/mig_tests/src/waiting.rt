@@ -13,7 +13,7 @@ type Read = (StreamState, u64);
 
 // Reads a complete stream, a section of which may have `most` records.
 fn read_at_once(alloc: Global, most: u64, stream: &[u8]) -> Result<Read, NoMemory> {
-    let reader = StreamReader::of_text_within(
+    let reader = StreamReader::of_text_with(
         alloc,
         Frame::Ram,
         Mode::Single,
@@ -27,7 +27,7 @@ fn read_at_once(alloc: Global, most: u64, stream: &[u8]) -> Result<Read, NoMemor
 
 // Reads it in pieces of 7 bytes.
 fn read_in_pieces(alloc: Global, most: u64, stream: &[u8]) -> Option<Read> {
-    let mut reader = StreamReader::new_within(
+    let mut reader = StreamReader::new_with(
         alloc,
         Frame::Ram,
         Mode::Single,

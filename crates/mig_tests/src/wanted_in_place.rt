@@ -99,7 +99,7 @@ fn has_both_rounds(memory: &Memory) -> bool {
 
 // Loads a stream in a frame as it is wanted, whose one page with bytes goes straight to its place.
 fn is_loaded(alloc: Global, frame: Frame, memory: &mut Memory, stream: &[u8]) -> Option<bool> {
-    let mut state = InPlaceState::new_in(alloc, memory.table(), settings(frame)).ok()?;
+    let mut state = InPlaceState::new(alloc, settings(frame), memory.table()).ok()?;
     let taken = load_wanted(&mut state, memory, stream)?;
     Some(taken == 1 && is_read_to_its_end(&state, frame) && has_both_rounds(memory))
 }

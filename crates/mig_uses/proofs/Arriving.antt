@@ -13,7 +13,8 @@ use Rattle.mig_send.specs.MultiSending.{MultiSending, Drained, HasSentRounds, Ke
 use Rattle.mig_uses.specs.Migration.{HaveEachAppended}
 
 -- it doesn't matter how what was drained is written down
-pub same_drained : (a b : Drained) (s : MultiSending) (rounds : List DealtRound) → a.main ≡ b.main → ((j : ℕ) → j < length s.channels → a.channel j ≡ b.channel j)
+pub same_drained : (a b : Drained) (s : MultiSending) (rounds : List DealtRound) → a.main ≡ b.main
+    → ((j : ℕ) → j < length s.channels → a.channel j ≡ b.channel j)
     → HasSentRounds a s rounds → HasSentRounds b s rounds
 same_drained a b s rounds main each sent = record {
   are_dealt = sent.are_dealt;
@@ -25,7 +26,8 @@ same_drained a b s rounds main each sent = record {
 }
 
 -- one of these byte strings, with bytes appended
-pub appended : {A : Type 0} (texts : List (Vec ℕ A)) (at j : ℕ) (new none : Vec ℕ A) (bytes : List ℕ) → at < length texts → new.items ≡ (get_or texts at none).items ++ bytes
+pub appended : {A : Type 0} (texts : List (Vec ℕ A)) (at j : ℕ) (new none : Vec ℕ A) (bytes : List ℕ) → at < length texts
+    → new.items ≡ (get_or texts at none).items ++ bytes
     → (if j == at then get_or (texts_of texts) j [] ++ bytes else get_or (texts_of texts) j []) ≡ get_or (texts_of (slice_set texts at new)) j []
 appended {A} texts at j new none bytes inside is =
     let f : Vec ℕ A → List ℕ = λ (text : Vec ℕ A). text.items in
@@ -75,11 +77,14 @@ pub record HaveSoFar (olds rest : List (List ℕ)) (n : ℕ) (news : List (List 
   pub before : (j : ℕ) → j < n → get_or news j [] ≡ get_or olds j [] ++ get_or rest j []
   pub behind : (j : ℕ) → n ≤ j → get_or news j [] ≡ get_or olds j []
 
+-- before any rest is appended, the channels are as they were
 pub none_so_far : (olds rest : List (List ℕ)) → HaveSoFar olds rest 0 olds
 none_so_far olds rest = record { as_many = refl; before = λ j lt. absurd (omega (arith, lt)); behind = λ j ge. refl }
 
+-- if the first `n` channels have their rest, and channel `n` gets its own, `n + 1` have theirs
 pub one_more : {A : Type 0} (texts : List (Vec ℕ A)) (olds rest : List (List ℕ)) (n : ℕ) (new none : Vec ℕ A) → n < length texts
-    → new.items ≡ (get_or texts n none).items ++ get_or rest n [] → HaveSoFar olds rest n (texts_of texts) → HaveSoFar olds rest (n + 1) (texts_of (slice_set texts n new))
+    → new.items ≡ (get_or texts n none).items ++ get_or rest n [] → HaveSoFar olds rest n (texts_of texts)
+    → HaveSoFar olds rest (n + 1) (texts_of (slice_set texts n new))
 one_more {A} texts olds rest n new none inside is so_far =
     let f : Vec ℕ A → List ℕ = λ (text : Vec ℕ A). text.items in
     let news : List (List ℕ) = texts_of (slice_set texts n new) in
@@ -89,7 +94,8 @@ one_more {A} texts olds rest n new none inside is so_far =
       before = λ j lt. elim (cases_Bool (j == n)) [
         | inl t ↦ let same : j ≡ n = eqb-true j n t in
             sym (each j) ∙ (ap (λ (b : Bool). if b then get_or (texts_of texts) j [] ++ get_or rest n [] else get_or (texts_of texts) j []) t
-            ∙ (ap (λ (l : List ℕ). l ++ get_or rest n []) (so_far.behind j (omega (arith, same))) ∙ ap (λ (k : ℕ). get_or olds j [] ++ get_or rest k []) (sym same)))
+            ∙ (ap (λ (l : List ℕ). l ++ get_or rest n []) (so_far.behind j (omega (arith, same)))
+            ∙ ap (λ (k : ℕ). get_or olds j [] ++ get_or rest k []) (sym same)))
         | inr f ↦ let other = eqb-false j n f in
             sym (each j) ∙ (ap (λ (b : Bool). if b then get_or (texts_of texts) j [] ++ get_or rest n [] else get_or (texts_of texts) j []) f
             ∙ so_far.before j (omega (arith, lt, other)))
@@ -100,7 +106,9 @@ one_more {A} texts olds rest n new none inside is so_far =
           ∙ so_far.behind j (omega (arith, ge)));
     }
 
-pub all_of_them : (olds rest news : List (List ℕ)) (n : ℕ) → length rest ≤ n → length olds ≡ length rest → HaveSoFar olds rest n news → HaveEachAppended olds rest news
+-- if the first `n` channels have their rest, and there are no more than `n`, each has its own
+pub all_of_them : (olds rest news : List (List ℕ)) (n : ℕ) → length rest ≤ n → length olds ≡ length rest
+    → HaveSoFar olds rest n news → HaveEachAppended olds rest news
 all_of_them olds rest news n past same so_far =
     let f : ℕ → List ℕ = λ i. get_or olds i [] ++ get_or rest i [] in
     ext_get_or [] news (map f (range_with_len 0 (length rest))) (so_far.as_many ∙ (same ∙ sym (length-map-range_with_len f 0 (length rest))))

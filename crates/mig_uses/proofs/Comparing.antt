@@ -18,6 +18,7 @@ same_content a b p e = elim (cases_Bool (bytes_eq (content_at a p) (content_at b
   | inr f ↦ let other : differs a b p ≡ true = ap not f in absurd cc
 ]
 
+-- two memories of one table that differ at none of its places are equal
 pub same_from_none : (a b : Image) → IsImage a → IsImage b → a.table ≡ b.table → find (differs a b) (places a.table) ≡ None → a ≡ b
 same_from_none a b is_a is_b same none =
     let all = find_none (differs a b) (places a.table) none in

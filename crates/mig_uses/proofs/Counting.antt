@@ -16,7 +16,8 @@ pub counted : (first : Image) (m : Marked) (rounds : List (List Page)) → IsIma
     → All (IsPageOfBytes first.table.page_size) (all_pages rounds) → seen m ≡ with_rounds (seen (none_written first)) rounds
     → (m.memory ≡ with_rounds first rounds) × (missing m ≡ missing (with_written (none_written first) (all_pages rounds)))
 counted first m rounds was is image set are e =
-    let all : m ≡ with_written (none_written first) (all_pages rounds) = written_is_seen (none_written first) m (all_pages rounds) (none_marked first) is was image set are e in
+    let all : m ≡ with_written (none_written first) (all_pages rounds) =
+    written_is_seen (none_written first) m (all_pages rounds) (none_marked first) is was image set are e in
     (ap (λ (x : Marked). x.memory) all, ap (λ (x : Marked). missing x) all)
 
 -- what holds of the error that was passed on

@@ -19,9 +19,12 @@ pub record HasAllBefore (table : RamTable) (s : PlaceSet) (b page : ℕ) : Type 
   pub is_set : IsPlaceSet s
   pub has : (q : Place) → IsPlace table q → IsBefore b page q → has_place s.marked q ≡ true
 
+-- the set without a place is a set of a table's places
 pub empty_set : (table : RamTable) → IsTable table → IsPlaceSet (record { table = table; marked = [] })
-empty_set table is = subst (λ (ps : List Place). IsPlaceSet (record { table = table; marked = ps })) (where_none table (λ _. false) (λ p at. refl)) (where_set table (λ _. false) is)
+empty_set table is = subst (λ (ps : List Place). IsPlaceSet (record { table = table; marked = ps }))
+    (where_none table (λ _. false) (λ p at. refl)) (where_set table (λ _. false) is)
 
+-- the empty set has each place before the first page of the first block, as there is none
 pub none_before : (table : RamTable) (s : PlaceSet) → IsTable table → s ≡ record { table = table; marked = [] } → HasAllBefore table s 0 0
 none_before table s is same = record {
   same_table = ap (λ (x : PlaceSet). x.table) same;
@@ -41,6 +44,7 @@ or_second : (a b : Bool) → b ≡ true → (a || b) ≡ true
 or_second true b e = refl
 or_second false b e = e
 
+-- a set with each place before a page has, with that page added, each before the page after it
 pub one_more : (table : RamTable) (s : PlaceSet) (b page : ℕ) → HasAllBefore table s b page → HasAllBefore table (with_place s (place_at b page)) b (page + 1)
 one_more table s b page so_far = record {
   same_table = so_far.same_table;
@@ -56,7 +60,8 @@ one_more table s b page so_far = record {
 }
 
 -- a block is done
-pub block_done : (table : RamTable) (s : PlaceSet) (b page : ℕ) → (block table.blocks b).pages ≤ page → HasAllBefore table s b page → HasAllBefore table s (b + 1) 0
+pub block_done : (table : RamTable) (s : PlaceSet) (b page : ℕ) → (block table.blocks b).pages ≤ page
+    → HasAllBefore table s b page → HasAllBefore table s (b + 1) 0
 block_done table s b page past so_far = record {
   same_table = so_far.same_table;
   is_set = so_far.is_set;
@@ -68,5 +73,6 @@ block_done table s b page past so_far = record {
 }
 
 -- all blocks are done
-pub all_done : (table : RamTable) (s : PlaceSet) (b : ℕ) → length table.blocks ≤ b → HasAllBefore table s b 0 → (p : Place) → IsPlace table p → has_place s.marked p ≡ true
+pub all_done : (table : RamTable) (s : PlaceSet) (b : ℕ) → length table.blocks ≤ b → HasAllBefore table s b 0 → (p : Place)
+    → IsPlace table p → has_place s.marked p ≡ true
 all_done table s b past so_far p is = so_far.has p is (inl (omega (arith, is.has_block, past)))

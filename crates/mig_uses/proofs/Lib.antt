@@ -9,3 +9,5 @@ pub mod Restoring
 pub mod Settling
 pub mod Onto
 pub mod Received
+pub mod StraightPages
+pub mod StraightTurns

@@ -12,7 +12,8 @@ use Rattle.mig_single_load.specs.LoadInPlace.{InPlace, LoadsOnto}
 use Rattle.mig_single_load.proofs.LoadsInPlace.{sent_in_place}
 
 -- the stream of a sender is in the memory, and the verdict is Ok
-pub loaded_onto : (limit : ℕ) (first : Image) (l : InPlace) (text : List ℕ) (verdict : Result ⊤ LoadFault) → LoadsOnto (ram_settings first.table.page_size limit) first l text true → HasVerdictOnto (ram_settings first.table.page_size limit) first text verdict
+pub loaded_onto : (limit : ℕ) (first : Image) (l : InPlace) (text : List ℕ) (verdict : Result ⊤ LoadFault)
+    → LoadsOnto (ram_settings first.table.page_size limit) first l text true → HasVerdictOnto (ram_settings first.table.page_size limit) first text verdict
     → (rounds : List (List Page)) → total_bytes first.table ≤ limit → All (IsRound first.table) rounds → text ≡ single first.table rounds
     → (l.memory ≡ with_rounds first rounds) × (verdict ≡ Ok _)
 loaded_onto limit first l text verdict loads told rounds room are is =
@@ -21,5 +22,6 @@ loaded_onto limit first l text verdict loads told rounds room are is =
     (subst (λ (t : List ℕ). HasVerdictOnto (ram_settings first.table.page_size limit) first t verdict) is told) in
     (all.0, all.2)
 
+-- no verdict is both Ok and an error
 pub never_err : (verdict : Result ⊤ LoadFault) (fault : LoadFault) → verdict ≡ Err fault → verdict ≡ Ok _ → ⊥
 never_err verdict fault bad good = absurd cc

@@ -16,12 +16,15 @@ both main channel = record { main = main; channels = channel ∷ [] }
 main_fed : (pieces : List (List ℕ)) (main channel : Text) → piece_steps source.Main pieces (both main channel) ≡ both (with_piece (concat pieces) main) channel
 main_fed [] main channel = ap (λ (l : List ℕ). both (record main { bytes = l }) channel) (sym (append-nil main.bytes))
 main_fed (piece ∷ pieces) main channel =
-    main_fed pieces (with_piece piece main) channel ∙ ap (λ (l : List ℕ). both (record main { bytes = l }) channel) (append_assoc main.bytes piece (concat pieces))
+    main_fed pieces (with_piece piece main) channel
+    ∙ ap (λ (l : List ℕ). both (record main { bytes = l }) channel) (append_assoc main.bytes piece (concat pieces))
 
-channel_fed : (pieces : List (List ℕ)) (main channel : Text) → piece_steps (source.Channel 0) pieces (both main channel) ≡ both main (with_piece (concat pieces) channel)
+channel_fed : (pieces : List (List ℕ)) (main channel : Text)
+    → piece_steps (source.Channel 0) pieces (both main channel) ≡ both main (with_piece (concat pieces) channel)
 channel_fed [] main channel = ap (λ (l : List ℕ). both main (record channel { bytes = l })) (sym (append-nil channel.bytes))
 channel_fed (piece ∷ pieces) main channel =
-    channel_fed pieces main (with_piece piece channel) ∙ ap (λ (l : List ℕ). both main (record channel { bytes = l })) (append_assoc channel.bytes piece (concat pieces))
+    channel_fed pieces main (with_piece piece channel)
+    ∙ ap (λ (l : List ℕ). both main (record channel { bytes = l })) (append_assoc channel.bytes piece (concat pieces))
 
 -- a reader that is at its end has given all that it had
 pub all_read : (text bytes : List ℕ) (before rest : Option (List ℕ)) → before ≡ Some text → Consumes before rest bytes → IsAtEnd rest → bytes ≡ text
@@ -33,14 +36,17 @@ all_read text bytes (Some xs) (Some ys) is given done =
 
 -- the session then has both streams, and both have ended
 pub loads_both : (page_size : ℕ) (uuid : List ℕ) (limit : ℕ) (main_text channel_text : List ℕ) (ps qs : List (List ℕ)) (m n : ℕ) (a b c : LoadSession)
-    → StandsFor (ram_settings page_size limit) uuid (no_texts 1) a → StepsOn (pump_step source.Main ps (Ok m)) a b → StepsOn (pump_step (source.Channel 0) qs (Ok n)) b c
+    → StandsFor (ram_settings page_size limit) uuid (no_texts 1) a → StepsOn (pump_step source.Main ps (Ok m)) a b
+    → StepsOn (pump_step (source.Channel 0) qs (Ok n)) b c
     → concat ps ≡ main_text → concat qs ≡ channel_text → StandsFor (ram_settings page_size limit) uuid (ended_texts main_text (channel_text ∷ [])) c
 loads_both page_size uuid limit main_text channel_text ps qs m n a b c stands first second whole_main whole_channel =
     let over : Text → Text = λ (t : Text). record t { ended = true } in
     let main : Text = over (with_piece (concat ps) no_text) in
     let after_main : StandsFor (ram_settings page_size limit) uuid (both main no_text) b =
-    subst (λ (t : Texts). StandsFor (ram_settings page_size limit) uuid (end_step source.Main t) b) (main_fed ps no_text no_text) (first (ram_settings page_size limit) uuid (no_texts 1) stands) in
+    subst (λ (t : Texts). StandsFor (ram_settings page_size limit) uuid (end_step source.Main t) b) (main_fed ps no_text no_text)
+    (first (ram_settings page_size limit) uuid (no_texts 1) stands) in
     let after_both : StandsFor (ram_settings page_size limit) uuid (both main (over (with_piece (concat qs) no_text))) c =
-    subst (λ (t : Texts). StandsFor (ram_settings page_size limit) uuid (end_step (source.Channel 0) t) c) (channel_fed qs main no_text) (second (ram_settings page_size limit) uuid (both main no_text) after_main) in
+    subst (λ (t : Texts). StandsFor (ram_settings page_size limit) uuid (end_step (source.Channel 0) t) c)
+    (channel_fed qs main no_text) (second (ram_settings page_size limit) uuid (both main no_text) after_main) in
     subst (λ (l : List ℕ). StandsFor (ram_settings page_size limit) uuid (ended_texts main_text (l ∷ [])) c) whole_channel
     (subst (λ (l : List ℕ). StandsFor (ram_settings page_size limit) uuid (ended_texts l (concat qs ∷ [])) c) whole_main after_both)

@@ -25,7 +25,8 @@ use Rattle.mig_in_place.proofs.DoneStays.{stays_law}
 use Rattle.mig_in_place.proofs.Sendings.{sent_law}
 use Rattle.mig_uses.specs.ByTurns.{IsTakenOf, IsReceived, SentIsReceived}
 
-taken_all : (bytes : List (Option (List ℕ))) (texts : List Text) → length bytes ≡ length texts → ((i : ℕ) → i < length texts → IsTakenOf (get_or bytes i None) (get_or texts i no_text)) → AllZip IsTakenOf bytes texts
+taken_all : (bytes : List (Option (List ℕ))) (texts : List Text) → length bytes ≡ length texts
+    → ((i : ℕ) → i < length texts → IsTakenOf (get_or bytes i None) (get_or texts i no_text)) → AllZip IsTakenOf bytes texts
 taken_all [] [] same each = tt
 taken_all [] (text ∷ texts) same each = absurd (omega (arith, same))
 taken_all (b ∷ bytes) [] same each = absurd (omega (arith, same))
@@ -35,14 +36,16 @@ nothing_of : (n : ℕ) (from : Source) → number_of from < n + 1 → text_of (n
 nothing_of n source.Main lt = refl
 nothing_of n (source.Channel j) lt = get_or-replicate n j no_text no_text (omega (arith, lt))
 
-module _ {O : Type 0} (reads : ReadsSoFar) (bytes : List (Option (List ℕ))) (n : ℕ) (many : length bytes ≡ n + 1) (old new : AtTurns O) (sources : old.sources ≡ map (new_source reads) bytes) (after : Texts)
+module _ {O : Type 0} (reads : ReadsSoFar) (bytes : List (Option (List ℕ))) (n : ℕ) (many : length bytes ≡ n + 1)
+    (old new : AtTurns O) (sources : old.sources ≡ map (new_source reads) bytes) (after : Texts)
     (come : HaveCome old new (no_texts n) after) where
   one_taken : (from : Source) → number_of from < n + 1 → IsTakenOf (get_or bytes (number_of from) None) (text_of after from)
   one_taken from lt =
       let c = come.comes from in
       let b : Option (List ℕ) = get_or bytes (number_of from) None in
       let first : source_in old.sources from ≡ new_source reads b =
-      ap (λ (l : List KeptSource). get_or l (number_of from) no_source) sources ∙ get_or-map (new_source reads) bytes (number_of from) None no_source (omega (arith, many, lt)) in
+      ap (λ (l : List KeptSource). get_or l (number_of from) no_source) sources
+      ∙ get_or-map (new_source reads) bytes (number_of from) None no_source (omega (arith, many, lt)) in
       let nothing : text_of (no_texts n) from ≡ no_text = nothing_of n from lt in
       let taken : (text_of after from).bytes ≡ c.taken = c.is_taken ∙ ap (λ (t : Text). t.bytes ++ c.taken) nothing in
       let read : c.read ≡ (text_of after from).bytes ++ (source_in new.sources from).waiting =
@@ -68,7 +71,8 @@ module _ {O : Type 0} (reads : ReadsSoFar) (bytes : List (Option (List ℕ))) (n
           (one_taken (source.Channel j) (let e = come.same_channels in omega (arith, lt, e, length-replicate n no_text)))
 
 -- what a pump of a new load leaves
-pub received : {O : Type 0} (given : LoadSettings) (uuid : List ℕ) (first : Image) (reads : ReadsSoFar) (bytes : List (Option (List ℕ))) (n : ℕ) (old new : AtTurns O) (verdict : Verdict) → length bytes ≡ n + 1
+pub received : {O : Type 0} (given : LoadSettings) (uuid : List ℕ) (first : Image) (reads : ReadsSoFar) (bytes : List
+    (Option (List ℕ))) (n : ℕ) (old new : AtTurns O) (verdict : Verdict) → length bytes ≡ n + 1
     → old.sources ≡ map (new_source reads) bytes → StandsFor given uuid first (no_texts n) old.memory old.load → KeepsBytes old new → verdict ≡ new.load.verdict
     → IsReceived given uuid first bytes new.memory verdict
 received given uuid first reads bytes n old new verdict many sources stands kept is =
@@ -81,8 +85,10 @@ received given uuid first reads bytes n old new verdict many sources stands kept
     }
 
 -- so it is at each answer of the pump
-pub received_by : {O : Type 0} (chooses : O → InPlaceLoad → ℕ → O → Type 0) (most : ℕ) (given : LoadSettings) (uuid : List ℕ) (first : Image) (bytes : List (Option (List ℕ))) (n : ℕ) (old new : AtTurns O)
-    (result : Result Verdict TurnFault) → length bytes ≡ n + 1 → old.sources ≡ map (new_source no_reads) bytes → StandsFor given uuid first (no_texts n) old.memory old.load
+pub received_by : {O : Type 0} (chooses : O → InPlaceLoad → ℕ → O
+    → Type 0) (most : ℕ) (given : LoadSettings) (uuid : List ℕ) (first : Image) (bytes : List (Option (List ℕ))) (n : ℕ) (old new : AtTurns O)
+    (result : Result Verdict TurnFault) → length bytes ≡ n + 1 → old.sources ≡ map (new_source no_reads) bytes
+    → StandsFor given uuid first (no_texts n) old.memory old.load
     → Pumps chooses most result old new → (result ≢ Err fault.NoMemory → KeepsBytes old new) → IfOk result (IsReceived given uuid first bytes new.memory)
 received_by chooses most given uuid first bytes n old new (Ok verdict) many sources stands pumps kept =
     received given uuid first no_reads bytes n old new verdict many sources stands (kept (λ e. absurd cc)) pumps.5
@@ -94,7 +100,8 @@ received_by chooses most given uuid first bytes n old new (Err e) many sources s
 goes_one : (bytes : List ℕ) (text : Text) → IsTakenOf (Some bytes) text → GoesOn text (ended_text bytes)
 goes_one bytes text taken = left_is taken.left taken.is_read taken.is_over
   where
-    left_is : (left : Option (List ℕ)) → Consumes (Some bytes) left (text.bytes ++ taken.waiting) → (IsTrue text.ended → (taken.waiting ≡ []) × IsAtEnd left) → GoesOn text (ended_text bytes)
+    left_is : (left : Option (List ℕ)) → Consumes (Some bytes) left (text.bytes ++ taken.waiting)
+        → (IsTrue text.ended → (taken.waiting ≡ []) × IsAtEnd left) → GoesOn text (ended_text bytes)
     left_is None read over = absurd read
     left_is (Some left) read over = record {
       more = taken.waiting ++ left;
@@ -113,12 +120,18 @@ goes_each [] (text ∷ texts) taken = absurd taken
 goes_each (b ∷ bytes) [] taken = absurd taken
 goes_each (b ∷ bytes) (text ∷ texts) taken = (goes_one b text taken.0, goes_each bytes texts taken.1)
 
+-- if a load over connections is done, and they gave what was sent to the memory's table, the memory
+-- has the rounds sent on top of what it held
 pub sent_received : (limit : ℕ) (uuid : List ℕ) (first memory : Image) (connections : List (Option (List ℕ)))
     → IsReceived (ram_settings first.table.page_size limit) uuid first connections memory Done → SentIsReceived limit uuid first connections memory
 sent_received limit uuid first memory connections is = λ rounds main channels from is_image is_memory sent room.
     let is_table : IsTable first.table = sent.is_sending.is_set.has_table in
     let taken : AllZip IsTakenOf (map Some (main ∷ channels)) (is.texts.main ∷ is.texts.channels) =
     subst (λ (l : List (Option (List ℕ))). AllZip IsTakenOf l (is.texts.main ∷ is.texts.channels)) from is.are_taken in
-    let goes : GoOn is.texts (ended_texts main channels) = record { main = goes_one main is.texts.main taken.0; channels = goes_each channels is.texts.channels taken.1 } in
-    let there = stays_law (ram_settings first.table.page_size limit) uuid first is.texts (ended_texts main channels) memory is.rounds is_table is_image is_memory goes is.is_answer in
+    let goes : GoOn is.texts (ended_texts main channels) = record {
+      main = goes_one main is.texts.main taken.0;
+      channels = goes_each channels is.texts.channels taken.1;
+    } in
+    let there = stays_law (ram_settings first.table.page_size limit) uuid first is.texts
+    (ended_texts main channels) memory is.rounds is_table is_image is_memory goes is.is_answer in
     (sent_law uuid limit first rounds main true channels memory is.rounds Done is_table is_image is_memory sent room there).2

@@ -10,7 +10,7 @@ use Rattle.mig_single_load.specs.declared.loaded.Loaded.{Loaded}
 use Rattle.mig_single_load.specs.declared.fault.LoadFault.{LoadFault}
 use Rattle.mig_single_load.specs.declared.fault.Fault.TheVariants as fault
 use Rattle.mig_single_load.specs.Settings.{ram_settings}
-use Rattle.mig_single_load.specs.SingleLoad.{IsSingleWithoutMemory, loaded}
+use Rattle.mig_single_load.specs.SingleLoad.{IsSingleWithoutMemory, HasLoadedRounds}
 use Rattle.mig_answer.specs.declared.verdict.Verdict.TheVariants.{Done, Failed}
 use Rattle.mig_answer.specs.Texts.{Texts}
 use Rattle.mig_answer.specs.MultiLoad.{Answer, as_verdict, answer_of, IsWithoutMemory as LacksMemory}
@@ -29,24 +29,28 @@ HasWanted a = (e : LoadFault) × (a.verdict ≡ Err e) × (e.fault ≡ fault.NoM
 -- what `load_single` says of the single stream of rounds
 abbrev pub LoadsSingle : {A : Type 0} → ℕ → ℕ → List ℕ → Loaded A → Type 0
 LoadsSingle page_size limit text a = (table : RamTable) (rounds : List (List Page)) → IsTable table → table.page_size ≡ page_size → total_bytes table ≤ limit
-    → All (IsRound table) rounds → text ≡ single table rounds → (a ≡ loaded table rounds) ⊎ IsSingleWithoutMemory (ram_settings page_size limit) text a
+    → All (IsRound table) rounds → text ≡ single table rounds → HasLoadedRounds table rounds a ⊎ IsSingleWithoutMemory (ram_settings page_size limit) text a
 
+-- a load of a stream that brings a memory, whose table is within the limit, has loaded it, or was
+-- refused an allocation
 pub brought : {A : Type 0} (page_size limit : ℕ) (text : List ℕ) (a : Loaded A) (m : Image) → LoadsSingle page_size limit text a → IsTable m.table
     → m.table.page_size ≡ page_size → total_bytes m.table ≤ limit → BringsMemory m text → HasLoaded m a ⊎ HasWanted a
 brought page_size limit text a m loads is size room brings = elim (loads m.table brings.rounds is size room brings.are_rounds brings.is_text) [
   | inl all ↦ inl (
-    ap (λ (x : Loaded _). x.memory) all ∙ ap (λ (i : Image). let some : Option Image = Some i in some) brings.leave_memory,
-    ap (λ (x : Loaded _). x.verdict) all,
+    all.has_memory ∙ ap (λ (i : Image). let some : Option Image = Some i in some) brings.leave_memory,
+    all.has_verdict,
   )
   | inr want ↦ inr (_, want.has_verdict, refl)
 ]
 
 -- ---- the cases of a verdict and a memory
 
+-- if a load that has loaded a memory, or was refused an allocation, is an error, it is NoMemory
 pub wanted : {A : Type 0} (a : Loaded A) (m : Image) (e : LoadFault) → HasLoaded m a ⊎ HasWanted a → a.verdict ≡ Err e → e.fault ≡ fault.NoMemory
 wanted a m e (inl all) bad = let good = all.1 in absurd cc
 wanted a m e (inr want) bad = let found = want.1 in let same : want.0 ≡ e = cc in ap (λ (f : LoadFault). f.fault) (sym same) ∙ want.2
 
+-- if a load that has loaded `m`, or was refused an allocation, is Ok, its memory is `m`
 pub there : {A : Type 0} (a : Loaded A) (m memory : Image) (v : ⊤) → HasLoaded m a ⊎ HasWanted a → a.verdict ≡ Ok v → a.memory ≡ Some memory → memory ≡ m
 there a m memory v (inl all) good is = let some = all.0 in cc
 there a m memory v (inr want) good is = let bad = want.1 in absurd cc
@@ -56,6 +60,7 @@ pub there_or_none : {A : Type 0} (a : Loaded A) (m : Image) (v : ⊤) → HasLoa
 there_or_none a m v (inl all) good = rw all.0 refl
 there_or_none a m v (inr want) good = let bad = want.1 in absurd cc
 
+-- if a load that has loaded a memory, or was refused an allocation, is Ok, it has a memory
 pub never_none : {A : Type 0} (a : Loaded A) (m : Image) (v : ⊤) → HasLoaded m a ⊎ HasWanted a → a.verdict ≡ Ok v → a.memory ≡ None → ⊥
 never_none a m v (inl all) good is = let some = all.0 in cc
 never_none a m v (inr want) good is = let bad = want.1 in cc
@@ -70,14 +75,18 @@ verdict_failed : (v : Result ⊤ LoadFault) (f : LoadFault) → as_verdict v ≡
 verdict_failed (Ok x) f is = absurd cc
 verdict_failed (Err g) f is = let same : g ≡ f = cc in ap (λ (e : LoadFault). let failed : Result ⊤ LoadFault = Err e in failed) same
 
+-- an answer with all rounds sent, or without memory, has loaded the memory after these rounds, or
+-- was refused an allocation
 pub arrived : {A : Type 0} (page_size : ℕ) (uuid : List ℕ) (limit : ℕ) (texts : Texts) (a : Loaded A) (table : RamTable) (rounds : List DealtRound)
-    → (answer_of a ≡ sent_answer table rounds) ⊎ LacksMemory (ram_settings page_size limit) uuid texts (answer_of a) → HasLoaded (after table (sent_rounds rounds)) a ⊎ HasWanted a
+    → (answer_of a ≡ sent_answer table rounds) ⊎ LacksMemory (ram_settings page_size limit) uuid texts (answer_of a)
+    → HasLoaded (after table (sent_rounds rounds)) a ⊎ HasWanted a
 arrived page_size uuid limit texts a table rounds (inl all) =
     inl (ap (λ (x : Answer). x.memory) all, verdict_done a.verdict (ap (λ (x : Answer). x.verdict) all))
 arrived page_size uuid limit texts a table rounds (inr want) = inr (_, verdict_failed a.verdict _ want.has_verdict, refl)
 
 -- the error that a load gave is passed on
-pub passed_on : {A T : Type 0} (a : Loaded A) (m : Image) (e : LoadFault) (r : Result T LoadFault) (P : T → Type 0) → HasLoaded m a ⊎ HasWanted a → a.verdict ≡ Err e
+pub passed_on : {A T : Type 0} (a : Loaded A) (m : Image) (e : LoadFault) (r : Result T LoadFault) (P : T → Type 0)
+    → HasLoaded m a ⊎ HasWanted a → a.verdict ≡ Err e
     → IsErr r × IsErrAnd r (λ x. x ≡ e) → MatchResult r P (λ x. x.fault ≡ fault.NoMemory)
 passed_on a m e (Ok x) P answer bad is = absurd is.1
 passed_on a m e (Err f) P answer bad is = ap (λ (x : LoadFault). x.fault) is.1 ∙ wanted a m e answer bad

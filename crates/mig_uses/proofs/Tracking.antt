@@ -28,6 +28,7 @@ use Rattle.mig_uses.proofs.EveryPage.{empty_set}
 
 -- ---- the places of a set
 
+-- a list that has a place, by the test on places, contains it
 pub contains_from_has : (ps : List Place) (p : Place) → has_place ps p ≡ true → Contains ps p
 contains_from_has ps p h = Contains-from_any {eq = λ x y. place_eq y x} (λ x y e. sym (place_eq-true y x e)) p ps h
 
@@ -36,14 +37,19 @@ has_from_contains ps p h = list_any_at (λ q. place_eq q p) ps h.0 p h.1 (place_
 
 -- ---- snapshots
 
-pub faithful-push : (before : Image) (ss : List Snapshot) (s : Snapshot) → IsFaithful before ss → HasChanges (last_image before ss) s → IsFaithful before (ss ++ s ∷ [])
+-- faithful snapshots stay so with one more whose dirty places have every page that changed since
+-- the last image
+pub faithful-push : (before : Image) (ss : List Snapshot) (s : Snapshot) → IsFaithful before ss
+    → HasChanges (last_image before ss) s → IsFaithful before (ss ++ s ∷ [])
 faithful-push before [] s faithful changes = (changes, tt)
 faithful-push before (t ∷ ts) s faithful changes = (faithful.0, faithful-push t.image ts s faithful.1 changes)
 
+-- the last image of some snapshots and one more is that of the one more
 pub last_image-push : (before : Image) (ss : List Snapshot) (s : Snapshot) → last_image before (ss ++ s ∷ []) ≡ s.image
 last_image-push before [] s = refl
 last_image-push before (t ∷ ts) s = last_image-push t.image ts s
 
+-- the rounds of some snapshots and one more are their rounds and the round of the one more
 pub rounds-push : (ss : List Snapshot) (s : Snapshot) → rounds_of (ss ++ s ∷ []) ≡ rounds_of ss ++ round_of s.image s.dirty ∷ []
 rounds-push ss s = map-append (λ (x : Snapshot). round_of x.image x.dirty) ss (s ∷ [])
 
@@ -63,14 +69,18 @@ changes_written before m s p bytes same changes = λ q is differ.
     ∙ elim (cases_Bool (place_eq q p)) [
       | inl t ↦ rw t refl
       | inr n ↦
-          let kept : content_at (with_page m p bytes) q ≡ content_at m q = content_at-image_of m.table new q is ∙ cond-false (place_eq q p) bytes (content_at m q) n in
+          let kept : content_at (with_page m p bytes) q ≡ content_at m q = content_at-image_of m.table new q is
+          ∙ cond-false (place_eq q p) bytes (content_at m q) n in
           let found : has_place s.marked q ≡ true = has_from_contains s.marked q (changes q is (λ e. differ (kept ∙ e))) in
           rw (n, found) refl
     ])
 
 -- ---- a guest
 
-pub new_tracked : {A : Type 0} (guest : LiveGuest A) (table : RamTable) → IsTable table → guest.memory ≡ zero_image table → guest.dirty ≡ record { table = table; marked = [] }
+-- a guest whose memory is zeros, with no page marked and a sender that has sent nothing, is
+-- tracked with no snapshot sent
+pub new_tracked : {A : Type 0} (guest : LiveGuest A) (table : RamTable) → IsTable table → guest.memory ≡ zero_image table
+    → guest.dirty ≡ record { table = table; marked = [] }
     → guest.sender.table ≡ table → HasSent guest.sender [] → IsTracked guest []
 new_tracked guest table is memory dirty sender none =
     let same : guest.memory.table ≡ table = ap (λ (m : Image). m.table) memory in
@@ -101,7 +111,9 @@ pub record Writes {A : Type 0} (old new : LiveGuest A) (b offset byte : ℕ) : T
   pub sender : new.sender ≡ old.sender
   pub is_place : IsPlace old.dirty.table (place_at b (offset / old.memory.table.page_size))
 
-pub write_tracked : {A : Type 0} (old new : LiveGuest A) (b offset byte : ℕ) → Writes old new b offset byte → (sent : List Snapshot) → IsTracked old sent → IsTracked new sent
+-- a tracked guest is tracked with the same snapshots after a byte is written and its page marked
+pub write_tracked : {A : Type 0} (old new : LiveGuest A) (b offset byte : ℕ) → Writes old new b offset byte
+    → (sent : List Snapshot) → IsTracked old sent → IsTracked new sent
 write_tracked old new b offset byte w sent is =
     let m : Image = old.memory in
     let p : Place = place_at b (offset / m.table.page_size) in
@@ -110,7 +122,8 @@ write_tracked old new b offset byte w sent is =
     let len : length bytes ≡ m.table.page_size = length-set (content_at m p) (offset % m.table.page_size) byte ∙ content_size m p is.is_image here in
     let table : new.memory.table ≡ m.table = ap (λ (i : Image). i.table) w.memory in
     let before : Image = last_image (zero_image m.table) sent in
-    let changes : HasChanges before (snapshot_of (with_page m p bytes) (with_place old.dirty p)) = changes_written before m old.dirty p bytes is.same_dirty is.has_changes in
+    let changes : HasChanges before (snapshot_of (with_page m p bytes) (with_place old.dirty p)) =
+    changes_written before m old.dirty p bytes is.same_dirty is.has_changes in
     record {
       is_image = rw w.memory (page_written m p bytes is.is_image len);
       is_set = rw w.dirty (where_set old.dirty.table (λ r. place_eq r p || has_place old.dirty.marked r) is.is_set.has_table);
@@ -133,13 +146,16 @@ pub record Sends {A : Type 0} (old new : LiveGuest A) : Type 0 where
   pub sent : (drained : List ℕ) (rounds : List (List Page)) → HasSentDrained drained old.sender rounds
       → HasSentDrained drained new.sender (rounds ++ round_of old.memory old.dirty.marked ∷ [])
 
-pub round_tracked : {A : Type 0} (old new : LiveGuest A) → Sends old new → (sent : List Snapshot) → IsTracked old sent → IsTracked new (sent ++ snapshot_of old.memory old.dirty ∷ [])
+-- a tracked guest that sends a round is tracked with its snapshot as one more sent
+pub round_tracked : {A : Type 0} (old new : LiveGuest A) → Sends old new → (sent : List Snapshot) → IsTracked old sent
+    → IsTracked new (sent ++ snapshot_of old.memory old.dirty ∷ [])
 round_tracked old new r sent is =
     let s : Snapshot = snapshot_of old.memory old.dirty in
     let all : List Snapshot = sent ++ s ∷ [] in
     let table : new.memory.table ≡ old.memory.table = ap (λ (i : Image). i.table) r.memory in
     let zero : Image = zero_image old.memory.table in
-    let within : All (IsPlace old.memory.table) old.dirty.marked = subst (λ (t : RamTable). All (IsPlace t) old.dirty.marked) is.same_dirty is.is_set.is_within in
+    let within : All (IsPlace old.memory.table) old.dirty.marked =
+    subst (λ (t : RamTable). All (IsPlace t) old.dirty.marked) is.same_dirty is.is_set.is_within in
     let round : IsRound old.memory.table (round_of old.memory old.dirty.marked) = image_round old.memory old.dirty.marked is.is_image within in
     let rounds : All (IsRound old.memory.table) (rounds_of all) = subst (λ (l : List (List Page)). All (IsRound old.memory.table) l) (sym (rounds-push sent s))
     (All-push (IsRound old.memory.table) (rounds_of sent) (round_of old.memory old.dirty.marked) is.are_rounds round) in
@@ -165,6 +181,8 @@ round_tracked old new r sent is =
 abbrev pub Finishes : Writer → List ℕ → Type 0
 Finishes sender text = (drained : List ℕ) (rounds : List (List Page)) → HasSentDrained drained sender rounds → drained ++ text ≡ single sender.table rounds
 
+-- the stream that a sender finishes after a last snapshot of the guest's memory brings this
+-- memory
 pub finished : {A : Type 0} (old new : LiveGuest A) (text : List ℕ) (sent : List Snapshot) → new.memory ≡ old.memory
     → IsTracked new (sent ++ snapshot_of old.memory old.dirty ∷ []) → Finishes new.sender text → BringsMemory old.memory text
 finished old new text sent same is gives =

@@ -4,3 +4,4 @@ pub mod Incoming
 pub mod Comparison
 pub mod Migration
 pub mod ByTurns
+pub mod Straight

@@ -12,8 +12,8 @@ ghost use Rattle.mig_uses.specs.ByTurns.{IsReceived, SentIsReceived};
 use std::alloc::Allocator;
 use std::io::Read;
 use zimgasol::{
-    Counted, GuestTarget, InPlaceSession, NoMemory, SourceReader, TurnFault, TurnOrder, Uuid,
-    Verdict, pump_by_turns,
+    Counted, GuestTarget, InPlaceSession, LoadSettings, NoMemory, SourceReader, TurnFault,
+    TurnOrder, Uuid, Verdict, pump_by_turns,
 };
 
 // The most turns of all sources together. A turn takes up to 64 KiB.
@@ -62,7 +62,9 @@ pub fn receive<A: Allocator + Copy, R: Read + Drop, M: GuestTarget, O: TurnOrder
     ensures sent { result ≡ Ok done → SentIsReceived limit uuid.now (M.image memory.old) (map R.remaining connections.items) (M.image memory.new) }
 {
     let channels = connections.len() - 1;
-    let Ok(mut load) = InPlaceSession::new(alloc, memory.table(), uuid, channels, limit) else {
+    let table = memory.table();
+    let settings = LoadSettings::new(table.page_size(), limit);
+    let Ok(mut load) = InPlaceSession::new(alloc, settings, table, uuid, channels) else {
         return Err(TurnFault::NoMemory);
     };
     let Ok(mut sources) = buffered(alloc, connections) else {

@@ -10,7 +10,8 @@ ghost use Rattle.mig_single_load.specs.declared.fault.Fault.TheVariants.{NoMemor
 
 use std::alloc::Allocator;
 use zimgasol::{
-    Fault, Fresh, GuestTarget, InPlaceLoader, LoadFault, Marking, Memory, Origin, Table,
+    Fault, Fresh, GuestTarget, InPlaceLoader, LoadFault, LoadSettings, Marking, Memory, Origin,
+    Table,
 };
 
 // Returns the fault of an allocation that was refused before any round.
@@ -42,7 +43,8 @@ pub fn load_onto<A: Allocator + Copy, M: GuestTarget + Drop>(
         → text.now ≡ single (M.image memory).table rounds
         → MatchResult result (λ m. M.image m ≡ with_rounds (M.image memory) rounds) (λ fault. fault.fault ≡ fault_no_memory) }
 {
-    let Ok(mut loader) = InPlaceLoader::new(alloc, memory, limit) else {
+    let settings = LoadSettings::new(memory.table().page_size(), limit);
+    let Ok(mut loader) = InPlaceLoader::new(alloc, settings, memory) else {
         return Err(without_memory());
     };
     let Ok(()) = loader.feed(text) else {

@@ -39,8 +39,8 @@ pub fn take_piece<A: Allocator + Copy>(
 ) -> Result<Incoming, FeedFault>
     requires open { IsFalse loader.old.reader.ended }
     requires room { loader.old.reader.fed + length piece.now < 2 ^ 63 }
-    ensures told { IfOk result (λ told. (given : LoadSettings) (text : List ℕ) → Loads given loader.old text false
-        → IsTold given (text ++ piece.now) told) }
+    ensures told { IfOk result (λ reported. (given : LoadSettings) (text : List ℕ) → Loads given loader.old text false
+        → IsTold given (text ++ piece.now) reported) }
     ensures loads { OnOk result ((given : LoadSettings) (text : List ℕ) → Loads given loader.old text false
         → Loads given loader.new (text ++ piece.now) false) }
     ensures open { IsFalse loader.new.reader.ended }
@@ -61,7 +61,7 @@ mod tests {
     use mig_fixtures::zeroed;
     use std::alloc::AllocGlobal;
     use std::process::Abort;
-    use zimgasol::PAGE_SIZE_4K;
+    use zimgasol::{LoadSettings, PAGE_SIZE_4K};
 
     // The stream of two pages of zeros. Its opening has 61 bytes, the last 13 of which end START.
     // The round has 18 bytes and records of 16 and 9. The end has 19, the last of which is the end
@@ -75,28 +75,29 @@ mod tests {
 
     // Feeds a stream byte by byte, as long as more bytes are needed. Returns the number of bytes,
     // and the state after them.
-    fn first_told(rt: &(impl AllocGlobal + Abort), text: &[u8]) -> (u64, Incoming) {
-        let mut loader = SingleLoader::new(rt.alloc(), PAGE_SIZE_4K, 1 << 20);
+    fn first_reported(rt: &(impl AllocGlobal + Abort), text: &[u8]) -> (u64, Incoming) {
+        let settings = LoadSettings::new(PAGE_SIZE_4K, 1 << 20);
+        let mut loader = SingleLoader::new(rt.alloc(), settings);
         for byte in text.chunks(1) {
             assert!(rt; !loader.ended() && loader.fed() < 1000);
-            let told = take_piece(&mut loader, byte).expect(rt, "memory");
-            if told != Incoming::Coming {
-                return (loader.fed(), told);
+            let reported = take_piece(&mut loader, byte).expect(rt, "memory");
+            if reported != Incoming::Coming {
+                return (loader.fed(), reported);
             }
         }
         (loader.fed(), Incoming::Coming)
     }
 
     #[test]
-    fn told_at_the_first_byte_that_settles_it(rt: HostRuntime) {
+    fn reported_at_the_first_byte_that_decides_it(rt: HostRuntime) {
         let mut text = stream(&rt);
-        assert!(rt; first_told(&rt, &text) == (123, Incoming::Whole));
+        assert!(rt; first_reported(&rt, &text) == (123, Incoming::Whole));
         let front = text.get(..122).expect(&rt, "a front");
-        assert!(rt; first_told(&rt, front) == (122, Incoming::Coming));
+        assert!(rt; first_reported(&rt, front) == (122, Incoming::Coming));
         // the type byte after the opening must be PART's or END's: fault 13, after START's round
         *text.get_mut(61).expect(&rt, "a byte") = 0x7F;
-        let (fed, told) = first_told(&rt, &text);
-        let Incoming::Refused(fault) = told else {
+        let (fed, reported) = first_reported(&rt, &text);
+        let Incoming::Refused(fault) = reported else {
             panic!(rt; "a fault")
         };
         assert!(rt; fed == 62 && fault.round == 1 && fault.fault.number() == 13);

@@ -10,7 +10,8 @@
 //! - `migration` moves a guest on several channels, and `two_readers` loads a main stream and one
 //!   channel from readers;
 //! - `machine` loads a machine's stream, as QEMU writes it, and finds where RAM's part ends;
-//! - `by_turns` loads from several connections into the blocks where the guest is to run;
+//! - `by_turns` loads from several connections into the blocks where the guest is to run, and
+//!   `straight` does so without a copy of a page;
 //! - `comparison` and `notice` follow a load: whether two memories are equal, and the error
 //!   message.
 #![tactic(auto)]
@@ -35,6 +36,8 @@ mod migration;
 #[cfg(test)]
 mod notice;
 #[cfg(test)]
+mod straight;
+#[cfg(test)]
 mod two_readers;
 
 #[cfg(test)]
@@ -49,10 +52,12 @@ pub use in_place::{load_counted, load_fresh, load_onto};
 pub use incoming::{Incoming, take_piece};
 pub use live_guest::LiveGuest;
 #[cfg(test)]
-pub use machine::{LoadedMachine, Trouble, feed_all, load_in_pieces, load_machine, main_closed_at};
+pub use machine::{Trouble, feed_all, load_in_pieces, load_machine, main_closed_at};
 #[cfg(test)]
 pub use migration::{begin, deliver, finish, load_arrived, send_round};
 #[cfg(test)]
 pub use notice::{Notice, notice_of};
+#[cfg(test)]
+pub use straight::{Blocks, ReadTarget, receive_straight};
 #[cfg(test)]
 pub use two_readers::load_from;

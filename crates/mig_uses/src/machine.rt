@@ -3,7 +3,7 @@
 
 use mig_mem::{MAX_TOTAL, NoMemory, PAGE_SIZE_4K};
 use mig_session::{Session, Source};
-use mig_single_load::{LoadSettings, Loaded, SingleLoader, load_single_in, single_closed_at};
+use mig_single_load::{LoadSettings, Loaded, SingleLoader, load_single_with};
 use mig_stream::{Frame, Mode, StreamReader};
 use std::alloc::Global;
 
@@ -22,23 +22,10 @@ impl From<NoMemory> for Trouble {
     }
 }
 
-/// A load, and the number of bytes up to the end of RAM's part; None if the stream isn't closed.
-#[derive(Drop)]
-pub struct LoadedMachine {
-    pub loaded: Loaded,
-    pub closed_at: Option<u64>,
-}
-
-/// Loads a machine's stream at once.
-///
-/// # Errors
-///
-/// `NoMemory`: an allocation was refused after the load.
-pub fn load_machine(alloc: Global, text: &[u8]) -> Result<LoadedMachine, Trouble> {
+/// Loads a machine's stream at once. RAM's part of it ends at `closed_at` of the load.
+pub fn load_machine(alloc: Global, text: &[u8]) -> Loaded {
     let settings = LoadSettings::new(PAGE_SIZE_4K, MAX_TOTAL).with_frame(Frame::Machine);
-    let loaded = load_single_in(alloc, settings, text);
-    let closed_at = single_closed_at(alloc, settings, text)?;
-    Ok(LoadedMachine { loaded, closed_at })
+    load_single_with(alloc, settings, text)
 }
 
 /// Loads a machine's stream in pieces of `len` bytes. A `len` of 0 counts as 1.
@@ -46,18 +33,16 @@ pub fn load_machine(alloc: Global, text: &[u8]) -> Result<LoadedMachine, Trouble
 /// # Errors
 ///
 /// `NoMemory`: an allocation was refused. `Input`: the stream is longer than `MAX_TOTAL`.
-pub fn load_in_pieces(alloc: Global, text: &[u8], len: usize) -> Result<LoadedMachine, Trouble> {
+pub fn load_in_pieces(alloc: Global, text: &[u8], len: usize) -> Result<Loaded, Trouble> {
     let settings = LoadSettings::new(PAGE_SIZE_4K, MAX_TOTAL).with_frame(Frame::Machine);
-    let mut loader = SingleLoader::new_in(alloc, settings);
+    let mut loader = SingleLoader::new(alloc, settings);
     for piece in text.chunks(len.max(1)) {
         if loader.ended() || loader.fed() > MAX_TOTAL || piece.len() as u64 > MAX_TOTAL {
             return Err(Trouble::Input);
         }
         loader.feed(piece).ok().ok_or(Trouble::NoMemory)?;
     }
-    let closed_at = loader.closed_at();
-    let loaded = loader.finish();
-    Ok(LoadedMachine { loaded, closed_at })
+    Ok(loader.finish())
 }
 
 /// Returns the number of bytes of a main stream up to the end of RAM's part, fed in pieces of `len`
@@ -68,7 +53,14 @@ pub fn load_in_pieces(alloc: Global, text: &[u8], len: usize) -> Result<LoadedMa
 /// `NoMemory`: an allocation was refused. `Input`: the stream has 2^64 bytes or more.
 pub fn main_closed_at(alloc: Global, text: &[u8], len: usize) -> Result<Option<u64>, Trouble> {
     let frame = Frame::Machine;
-    let mut reader = StreamReader::new_in(alloc, frame, Mode::Main, PAGE_SIZE_4K, MAX_TOTAL);
+    let mut reader = StreamReader::new_with(
+        alloc,
+        frame,
+        Mode::Main,
+        PAGE_SIZE_4K,
+        MAX_TOTAL,
+        None,
+    );
     for piece in text.chunks(len.max(1)) {
         if reader.ended() || reader.fed().checked_add(piece.len() as u64).is_none() {
             return Err(Trouble::Input);
@@ -147,18 +139,19 @@ mod tests {
     }
 
     // Returns whether a load has the guest's memory and the byte at which RAM's part ends.
-    fn is_guest(machine: &LoadedMachine, end: u64) -> bool {
-        let memory = machine.loaded.memory.as_ref();
-        machine.loaded.verdict == Ok(())
-            && machine.closed_at == Some(end)
+    fn is_guest(loaded: &Loaded, end: u64) -> bool {
+        let memory = loaded.memory.as_ref();
+        loaded.verdict == Ok(())
+            && loaded.closed_at == Some(end)
+            && loaded.valid_up_to == Some(end)
+            && loaded.missing == Some(1)
             && memory.is_some_and(|it| is_full(it, at(0, 0), 0) && is_full(it, at(0, 1), 9))
     }
 
     #[test]
     fn at_once_and_in_pieces(rt: HostRuntime) {
         let (text, end) = machine(&rt);
-        let whole = load_machine(rt.alloc(), &text).expect(&rt, "a load");
-        assert!(rt; is_guest(&whole, end));
+        assert!(rt; is_guest(&load_machine(rt.alloc(), &text), end));
         let pieces = load_in_pieces(rt.alloc(), &text, 7).expect(&rt, "a load");
         assert!(rt; is_guest(&pieces, end));
     }
@@ -183,7 +176,7 @@ mod tests {
     // Feeds a session both streams, and returns whether it is done with the guest's memory.
     fn is_loaded(alloc: Global, sent: &Sent) -> Result<bool, Trouble> {
         let settings = LoadSettings::new(PAGE_SIZE_4K, MAX_TOTAL).with_frame(Frame::Machine);
-        let mut session = Session::new_in(alloc, settings, &Uuid::nil(), 1)?;
+        let mut session = Session::new_with(alloc, settings, &Uuid::nil(), 1)?;
         feed_all(&mut session, Source::Main, &sent.main, 7)?;
         let channel = sent.channels.first().ok_or(Trouble::Input)?;
         feed_all(&mut session, Source::Channel(0), channel, 1000)?;

@@ -152,6 +152,7 @@ pub fn load_arrived<R: Threads + Wait + Sync, A: Allocator + Copy + Send + Sync>
         memory,
         rounds,
         verdict,
+        ..
     } = loaded;
     verdict?;
     let Some(memory) = memory else {

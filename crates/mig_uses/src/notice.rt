@@ -40,7 +40,7 @@ mod tests {
     use zimgasol::PAGE_SIZE_4K;
 
     #[test]
-    fn told(rt: HostRuntime) {
+    fn reported(rt: HostRuntime) {
         // a file header with a magic other than QEVM, and with version 3
         let Err(fault) = restore(rt.alloc(), PAGE_SIZE_4K, b"QEVN\0\0\0\x03", 1 << 20) else {
             panic!(rt; "a fault")

@@ -19,10 +19,12 @@ zero_from_blocks n (suc k) xs blocks rest =
     let later = All-tail IsZero (take n xs) (first_chunks n k (drop n xs)) blocks in
     let far : n + k * n ≡ suc k * n = omega arith in
     let left = All-same IsZeroByte (drop (k * n) (drop n xs)) (drop (suc k * n) xs) (drop-drop (k * n) n xs ∙ ap (λ (i : ℕ). drop i xs) far) rest in
-    All-same IsZeroByte xs (take n xs ++ drop n xs) (sym (take-append-drop n xs)) (All-append IsZeroByte (take n xs) (drop n xs) first (zero_from_blocks n k (drop n xs) later left))
+    All-same IsZeroByte xs (take n xs ++ drop n xs) (sym (take-append-drop n xs))
+    (All-append IsZeroByte (take n xs) (drop n xs) first (zero_from_blocks n k (drop n xs) later left))
 
 -- if the bytes are zero, each block is
 pub blocks_from_zero : (n k : ℕ) (xs : List ℕ) → IsZero xs → All IsZero (first_chunks n k xs)
 blocks_from_zero n zero xs whole = All-nil IsZero
 blocks_from_zero n (suc k) xs whole =
-    All-cons IsZero (take n xs) (first_chunks n k (drop n xs)) (All-take IsZeroByte n xs whole) (blocks_from_zero n k (drop n xs) (All-drop IsZeroByte n xs whole))
+    All-cons IsZero (take n xs) (first_chunks n k (drop n xs)) (All-take IsZeroByte n xs whole)
+    (blocks_from_zero n k (drop n xs) (All-drop IsZeroByte n xs whole))

@@ -27,4 +27,5 @@ mask-zero (x ∷ xs) zero =
 pub empty_mask_from_zero : (xs : List ℕ) (i n : ℕ) → i + n ≤ length xs → AllWithin (λ b. b ≡ 0) xs i (i + n) → mask_l (map is_set (chunk i n xs)) ≡ 0
 empty_mask_from_zero xs i n room all =
     let long = length-chunk i n xs room in
-    mask-zero (chunk i n xs) (All-from_get_or (λ b. b ≡ 0) (chunk i n xs) 0 (λ k lt. rw (get_or-chunk i n xs k 0 (omega (arith, long, lt))) (all (i + k) 0 (omega arith) (omega (arith, long, lt)))))
+    mask-zero (chunk i n xs) (All-from_get_or (λ b. b ≡ 0) (chunk i n xs) 0
+    (λ k lt. rw (get_or-chunk i n xs k 0 (omega (arith, long, lt))) (all (i + k) 0 (omega arith) (omega (arith, long, lt)))))

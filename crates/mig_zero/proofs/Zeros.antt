@@ -5,6 +5,7 @@ use Rattle.std.proofs.lemmas.Bool.{cases_Bool, and_parts, eqb-true, eq-eqb}
 use Rattle.std.proofs.lemmas.List.Elements.{All-head, All-tail, All-nil, All-cons}
 use Rattle.mig_zero.specs.Zero.{IsZero, is_zero}
 
+-- bytes that pass the test for zeros are all zero
 pub zeros_from_test : (xs : List ℕ) → is_zero xs ≡ true → IsZero xs
 zeros_from_test [] h = All-nil (λ x. x ≡ 0)
 zeros_from_test (x ∷ xs) h =

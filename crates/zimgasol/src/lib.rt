@@ -18,8 +18,8 @@
 //! | the same, and a thread for each channel that reads pages to their places | `ApartSession` |
 //! | a load in place, to know which pages had a record | `Marking` around the memory |
 //! | blocks of zeros, whose pages of zeros stay untouched | `Fresh` around the memory |
-//! | a whole machine's stream, as QEMU writes it | the calls `.._in`, with `LoadSettings` |
-//! | a fault of a load of whole streams | `single_valid_up_to`, `multi_valid_up_to`: its byte |
+//! | a whole machine's stream, as QEMU writes it | `LoadSettings`, and the calls `.._with` |
+//! | a fault of a load of whole streams | `Loaded::valid_up_to`, `channel_valid_up_to`: its byte |
 //! | two memories to compare | `first_difference`, `differences` |
 //!
 //! A load returns the memory of the complete rounds, their number, and a verdict: `Ok`, or a
@@ -239,7 +239,8 @@
 //!
 //! <!-- quoted from crates/mig_uses/src/in_place.rt -->
 //! ```rust
-//! let Ok(mut loader) = InPlaceLoader::new(alloc, memory, limit) else {
+//! let settings = LoadSettings::new(memory.table().page_size(), limit);
+//! let Ok(mut loader) = InPlaceLoader::new(alloc, settings, memory) else {
 //!     return Err(without_memory());
 //! };
 //! let Ok(()) = loader.feed(text) else {
@@ -333,12 +334,13 @@
 //! # LoadSettings
 //!
 //! Take it for a machine's stream, as QEMU writes it, or to bound what waits for the end of its
-//! round (`with_waiting`). Each load has a sibling `.._in` that takes it:
+//! round (`with_waiting`). Each load takes it; `load_single`, `load_multi` and `Session::new` have a
+//! sibling `.._with` that does:
 //!
 //! <!-- quoted from crates/mig_in_place_tests/src/framed.rt -->
 //! ```rust
 //! let settings = LoadSettings::new(4096, LIMIT).with_frame(frame);
-//! let made = InPlaceSession::new_in(rt.alloc(), memory.table(), settings, &Uuid::nil(), 1);
+//! let made = InPlaceSession::new(rt.alloc(), settings, memory.table(), &Uuid::nil(), 1);
 //! ```
 //!
 //! # first_difference
@@ -371,8 +373,7 @@ pub use mig_in_place::{
 pub use mig_load::{
     Counted, Fault, FeedFault, InPlaceFault, InPlaceLoader, InPlaceState, LoadFault, LoadSettings,
     Loaded, Origin, PieceReader, PumpFault, ReadFailed, Session, SingleLoader, Source, Verdict,
-    load_multi, load_multi_in, load_single, load_single_in, multi_valid_up_to, pump,
-    single_closed_at, single_valid_up_to,
+    channel_valid_up_to, load_multi, load_multi_with, load_single, load_single_with, pump,
 };
 pub use mig_marking::{Fresh, Marking};
 pub use mig_mem::{

@@ -379,7 +379,7 @@ impl<H: Files> PageSink<H> for Extraction<H> {
         Ok(())
     }
 
-    fn put(&mut self, place: Place, content: Option<&[u8]>) -> Result<(), Trouble> {
+    fn take_page(&mut self, place: Place, content: Option<&[u8]>) -> Result<(), Trouble> {
         self.put_page(place, content)
     }
 }

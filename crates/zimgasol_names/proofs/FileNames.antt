@@ -89,7 +89,8 @@ no_l d h is = ⊎_elim
 escaped_second : (set : AsciiSet) (b : ℕ) (bs rest : List ℕ) → contains set 37 ≡ true → percent_encode set (b ∷ bs) ≢ 37 ∷ 108 ∷ rest
 unfolding percent_encode_byte
 escaped_second set b bs rest has = ⊎_elim
-    (λ e. rw (percent_encode_escaped set b bs e) (λ same. no_l (digit_glyph true (b / 16 % 16)) (All-percent_encode_byte b 1 0 (omega arith)) (ap (λ xs. get_or xs 1 0) same)))
+    (λ e. rw (percent_encode_escaped set b bs e)
+    (λ same. no_l (digit_glyph true (b / 16 % 16)) (All-percent_encode_byte b 1 0 (omega arith)) (ap (λ xs. get_or xs 1 0) same)))
     (λ e. rw (percent_encode_kept set b bs e) (λ same. kept_is_other set b 37 has e (ap (λ xs. get_or xs 0 0) same)))
     (cases_Bool (should_percent_encode set b))
 
@@ -126,6 +127,7 @@ some_in_name : (stem : List ℕ) → 0 < length (stem ++ codes ".bin")
 some_in_name [] = omega arith
 some_in_name (b ∷ bs) = omega arith
 
+-- the name of a block's file isn't empty, has no slash, and doesn't begin with a dot
 pub name_is_plain : (id : List ℕ) (i : ℕ) → IsId id → i < 2 ^ 64 → IsPlainName (name_of id i)
 name_is_plain id i is small = record {
   has_some = some_in_name (stem_of id i);
@@ -137,8 +139,10 @@ name_is_plain id i is small = record {
 
 escaped_is_one_to_one : (a b : List ℕ) → IsId a → IsId b → percent_encode (escaped_in a) a ≡ percent_encode (escaped_in b) b → a ≡ b
 escaped_is_one_to_one a b is_a is_b same =
-    sym (round_trip (escaped_in a) a (set_has_percent a) is_a.are_bytes) ∙ ap percent_decode same ∙ round_trip (escaped_in b) b (set_has_percent b) is_b.are_bytes
+    sym (round_trip (escaped_in a) a (set_has_percent a) is_a.are_bytes) ∙ ap percent_decode same
+    ∙ round_trip (escaped_in b) b (set_has_percent b) is_b.are_bytes
 
+-- two blocks with different ids and different numbers have different names
 pub names_differ : (a b : List ℕ) (i j : ℕ) → IsId a → IsId b → i < 2 ^ 64 → j < 2 ^ 64 → a ≢ b → i ≢ j → name_of a i ≢ name_of b j
 names_differ a b i j is_a is_b small_i small_j other_id other_number same =
     let stems : stem_of a i ≡ stem_of b j = append_cancel_right (stem_of a i) (stem_of b j) (codes ".bin") same in

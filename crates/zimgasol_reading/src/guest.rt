@@ -56,14 +56,14 @@ impl Guest {
         self.arrivals.records(round);
         for i in 0..round.len() {
             let (place, content) = round.record(i);
-            self.put(place, content, sink)?;
+            self.pass_page(place, content, sink)?;
         }
         Ok(())
     }
 
     /// Counts a page, and passes it to `sink`. Where no block has `place` it does neither: the
     /// round is refused when it is judged.
-    pub fn put<H: Files, S: PageSink<H>>(
+    pub fn pass_page<H: Files, S: PageSink<H>>(
         &mut self,
         place: Place,
         content: Option<&[u8]>,
@@ -73,7 +73,7 @@ impl Guest {
             return Ok(());
         }
         self.blocks.count(place, content.is_none())?;
-        sink.put(place, content)
+        sink.take_page(place, content)
     }
 
     /// Returns the place of the page that begins at the byte `offset` of a block; None if none

@@ -5,7 +5,7 @@ ghost use Rattle.std.specs.Prelude.{◌≡◌, ◌+◌, ◌<◌, ◌≤◌, ◌^
 use crate::guest::Guest;
 use crate::sink::PageSink;
 use mig_answer::{Status, channel_end};
-use mig_packet::{Came, PacketHead, PageContent, PageReader};
+use mig_packet::{ChannelEvent, PacketHead, PageContent, PageReader};
 use std::alloc::Global;
 use std::fs::Files;
 use uuid::Uuid;
@@ -74,7 +74,7 @@ impl Lane {
         uuid: Uuid,
         channels: usize,
     ) -> Result<Lane, Trouble> {
-        let Ok(reader) = PageReader::new(alloc, page_size.bytes(), uuid, channels) else {
+        let Ok(reader) = PageReader::new(alloc, page_size.bytes(), uuid, channels, None) else {
             return Err(Trouble::NoMemory);
         };
         Ok(Lane {
@@ -132,15 +132,15 @@ impl Lane {
             if rest.len() as u64 > u64::MAX - self.reader.fed() {
                 return Err(Trouble::NoMemory);
             }
-            let (came, taken) = self.reader.read_on(rest);
+            let (event, taken) = self.reader.read_on(rest);
             rest = &rest[taken..];
-            match came {
-                Came::More => return Ok((piece.len().saturating_sub(rest.len()), true)),
-                Came::Over => break,
-                Came::Hello(_) => self.counts.valid = self.reader.fed(),
-                Came::Head => self.begin_packet(guest, sink)?,
-                Came::Page(offset, content) => self.put_page(offset, content, guest, sink)?,
-                Came::Packet(sync) => {
+            match event {
+                ChannelEvent::More => return Ok((piece.len().saturating_sub(rest.len()), true)),
+                ChannelEvent::Over => break,
+                ChannelEvent::Hello(_) => self.counts.valid = self.reader.fed(),
+                ChannelEvent::Head => self.begin_packet(guest, sink)?,
+                ChannelEvent::Page(offset, content) => self.put_page(offset, content, guest, sink)?,
+                ChannelEvent::Packet(sync) => {
                     self.end_packet(sync);
                     if sync {
                         break;
@@ -186,7 +186,7 @@ impl Lane {
             return Ok(());
         };
         match guest.place(block, offset) {
-            Some(place) => guest.put(place, Some(self.reader.content(content)), sink),
+            Some(place) => guest.pass_page(place, Some(self.reader.content(content)), sink),
             None => Ok(()),
         }
     }
@@ -209,7 +209,7 @@ fn put_zeros<H: Files, S: PageSink<H>>(
     let normal = head.normal_len();
     for i in normal..normal.saturating_add(head.zero_len()) {
         if let Some(place) = guest.place(block, head.offset(i)) {
-            guest.put(place, None, sink)?;
+            guest.pass_page(place, None, sink)?;
         }
     }
     Ok(())

@@ -40,12 +40,13 @@ impl MainStream {
     pub fn new(alloc: Global, words: &StreamWords<'_>) -> Result<MainStream, Trouble> {
         let page_size = words.page_size.bytes();
         Ok(MainStream {
-            reader: StreamReader::new_in(
+            reader: StreamReader::new_with(
                 alloc,
                 words.frame,
                 Mode::MainAsShown,
                 page_size,
                 words.limit(),
+                None,
             ),
             pieces: Pieces::new(alloc)?,
             report: Report::new(alloc),

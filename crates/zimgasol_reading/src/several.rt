@@ -2,8 +2,8 @@
 //! Passes each page on as it is read.
 //!
 //! No page is kept, only a bit for each page, and the number of each packet of the current round.
-//! The verdict on the sources' statuses is that of `verdict_told` (`mig_answer`), the verdict on a
-//! complete round that of `Arrivals::judge` (`mig_assemble`).
+//! The verdict on the sources' statuses is that of `sources_verdict` (`mig_answer`), the verdict on
+//! a complete round that of `Arrivals::judge` (`mig_assemble`).
 
 ghost use Rattle.std.specs.Prelude.{◌≡◌, ◌↔◌, ◌≤◌, Some, IsNone, IfSome, IsTrue};
 ghost use Rattle.mig_single_load.specs.declared.fault.LoadFault.{LoadFault};
@@ -15,7 +15,7 @@ use crate::channel::{Channel, channels_of, hello_uuid, open_inlets};
 use crate::guest::Guest;
 use crate::main_stream::MainStream;
 use crate::sink::PageSink;
-use mig_answer::{Verdict, repeated_id, verdict_told};
+use mig_answer::{Verdict, repeated_id, sources_verdict};
 use mig_single_load::{Fault, LoadFault, Origin};
 use mig_stream::Frame;
 use std::alloc::{AllocGlobal, Global};
@@ -201,7 +201,7 @@ impl<F: Read + OpenFile + Drop> Several<F> {
         }
         let repeated = repeated_id(&hellos);
         let main = self.main.status();
-        match verdict_told(self.rounds, main, &statuses, repeated) {
+        match sources_verdict(self.rounds, main, &statuses, repeated) {
             Some(verdict) => Ok(Some(verdict)),
             None => self.judged(),
         }

@@ -10,7 +10,7 @@ pub trait PageSink<H: Files> {
     fn begin(&mut self, rt: &H, table: &Table) -> Result<(), Trouble>;
 
     /// Takes the content of a page from its record: its bytes, or None for a page of zeros.
-    fn put(&mut self, place: Place, content: Option<&[u8]>) -> Result<(), Trouble>;
+    fn take_page(&mut self, place: Place, content: Option<&[u8]>) -> Result<(), Trouble>;
 }
 
 /// Takes pages, and drops them.
@@ -22,7 +22,7 @@ impl<H: Files> PageSink<H> for NoSink {
         Ok(())
     }
 
-    fn put(&mut self, _place: Place, _content: Option<&[u8]>) -> Result<(), Trouble> {
+    fn take_page(&mut self, _place: Place, _content: Option<&[u8]>) -> Result<(), Trouble> {
         Ok(())
     }
 }

@@ -12,7 +12,7 @@ use crate::notes::Notes;
 use crate::sink::PageSink;
 use crate::tail::{Ending, Tail};
 use mig_mem::Place;
-use mig_stream::{Frame, Given, Pause, RecordReader, Report, StreamState};
+use mig_stream::{Frame, Pause, RecordEvent, RecordReader, Report, StreamState};
 use std::alloc::{AllocGlobal, Global};
 use std::fs::{File, Files, Metadata, OpenFile};
 use std::io::{Read, Write};
@@ -86,7 +86,7 @@ impl Survey {
             is_laid_over: false,
             is_partial: words.partial,
             is_begun: false,
-            pause: Some(Pause::new_in(alloc, words.frame, page_size, words.limit())),
+            pause: Some(Pause::new(alloc, words.frame, page_size, words.limit(), None)),
             report: Report::new(alloc),
             fed: 0,
             tail: Tail::new(alloc, words.checks_tail()),
@@ -265,7 +265,7 @@ impl Survey {
             let gave = reader.read_on_reporting(&mut self.report)?;
             self.notes.take(&mut self.report)?;
             self.list_blocks(rt, reader)?;
-            if let Given::End(found) = gave {
+            if let RecordEvent::End(found) = gave {
                 return Ok(found);
             }
             self.begin(rt, reader, sink)?;
@@ -314,7 +314,7 @@ impl Survey {
         let given = reader.given();
         for i in 0..given.len() {
             let (place, content) = given.record(i);
-            sink.put(place, content)?;
+            sink.take_page(place, content)?;
             self.last = Some(place);
             if let Some(blocks) = &mut self.blocks {
                 blocks.count(place, content.is_none())?;

@@ -424,7 +424,7 @@ static int load_wrong(zimgasol_table *table) {
     return 0;
 }
 
-/* A channel that ends within its hello is told as cut at once, while the load goes on. */
+/* A channel that ends within its hello is reported as cut at once, while the load goes on. */
 static int load_cut(zimgasol_table *table) {
     zimgasol_in_place_session load = {0};
     zimgasol_fault fault = {.number = 7};
@@ -448,7 +448,7 @@ static int load_cut(zimgasol_table *table) {
     return 0;
 }
 
-/* In a session a channel that lacks its last byte is told as cut while the main stream goes on, and
+/* In a session a channel that lacks its last byte is reported as cut while the main stream goes on, and
  * still once the verdict is there. */
 static int session_cut(void) {
     zimgasol_session load = {0};

@@ -9,7 +9,8 @@ returns-then-are_zero_blocks c =
     let xs = c.args.bytes.now in
     let n = length xs / 256 in
     let cut = c.as_chunks.ensures in (
-      (λ yes. zero_from_blocks 256 n xs (All-same IsZero _ _ (sym cut.front) (c.are_zero_blocks.ensures.0 c.if-are_zero_blocks.true)) (All-same (λ b. b ≡ 0) _ _ (sym cut.back) (c.is_zero_plain.ensures.0 yes))),
+      (λ yes. zero_from_blocks 256 n xs (All-same IsZero _ _ (sym cut.front)
+          (c.are_zero_blocks.ensures.0 c.if-are_zero_blocks.true)) (All-same (λ b. b ≡ 0) _ _ (sym cut.back) (c.is_zero_plain.ensures.0 yes))),
       (λ all. c.is_zero_plain.ensures.1 (All-same (λ b. b ≡ 0) _ _ cut.back (All-drop (λ b. b ≡ 0) (n * 256) xs all))),
     )
 

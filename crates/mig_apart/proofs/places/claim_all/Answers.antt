@@ -12,13 +12,18 @@ pub mark-requires : goal.mark-requires
 mark-requires g c =
     let table : RamTable = c.args.claimed.now.table in
     let head : List ℕ = c.args.head.now.bytes.now in
-    let same : c.place.result ≡ nth table c.args.block head c.places.i = c.place.ensures ∙ ap (λ (n : ℕ). place_at c.args.block (offset_at head c.places.i / n)) c.requires.page_size in
-    let low : c.places.i < normal_count head + zero_count head = omega (arith, c.places-test.true, c.places.auto.i-end, c.normal_len.ensures, c.zero_len.ensures) in
-    subst (λ (t : RamTable). IsPlace t c.place.result) (sym c.places.invariant.same_table) (subst (λ (p : Place). IsPlace table p) (sym same) (lies table c.args.block head c.requires.lies c.places.i low))
+    let same : c.place.result ≡ nth table c.args.block head c.places.i = c.place.ensures
+    ∙ ap (λ (n : ℕ). place_at c.args.block (offset_at head c.places.i / n)) c.requires.page_size in
+    let low : c.places.i < normal_count head + zero_count head =
+    omega (arith, c.places-test.true, c.places.auto.i-end, c.normal_len.ensures, c.zero_len.ensures) in
+    subst (λ (t : RamTable). IsPlace t c.place.result) (sym c.places.invariant.same_table)
+    (subst (λ (p : Place). IsPlace table p) (sym same) (lies table c.args.block head c.requires.lies c.places.i low))
 
 pub places-preserved : goal.places-preserved
 places-preserved g c =
     let table : RamTable = c.args.claimed.now.table in
     let head : List ℕ = c.args.head.now.bytes.now in
-    let same : c.place.result ≡ nth table c.args.block head c.places.i = c.place.ensures ∙ ap (λ (n : ℕ). place_at c.args.block (offset_at head c.places.i / n)) c.requires.page_size in
-    claimed_more table (nth table c.args.block head) c.places.i c.args.claimed.now c.places.claimed c.mark.new.self (c.mark.ensures.set ∙ ap (λ (p : Place). with_place c.places.claimed p) same) c.places.invariant
+    let same : c.place.result ≡ nth table c.args.block head c.places.i = c.place.ensures
+    ∙ ap (λ (n : ℕ). place_at c.args.block (offset_at head c.places.i / n)) c.requires.page_size in
+    claimed_more table (nth table c.args.block head) c.places.i c.args.claimed.now c.places.claimed c.mark.new.self
+    (c.mark.ensures.set ∙ ap (λ (p : Place). with_place c.places.claimed p) same) c.places.invariant

@@ -6,5 +6,6 @@ use Rattle.mig_assemble.proofs.doubles.double_place.Goals as goal
 
 pub returns-clause-seen : goal.returns-clause-seen
 returns-clause-seen g c =
-    all_gone c.args.seen.now c.mark_all-double.new.seen c.unmark_records.new.seen c.unmark_packets.new.seen (pages_of_round c.args.round.now) (map fields c.args.packets.now) c.mark_all-double.result
+    all_gone c.args.seen.now c.mark_all-double.new.seen c.unmark_records.new.seen c.unmark_packets.new.seen
+    (pages_of_round c.args.round.now) (map fields c.args.packets.now) c.mark_all-double.result
     c.requires.seen c.mark_all-double.ensures c.unmark_records.ensures.table c.unmark_records.ensures.seen c.unmark_packets.ensures.seen

@@ -10,7 +10,8 @@ use Rattle.mig_assemble.proofs.doubles.mark_all.Goals as goal
 
 pub loop-packet-init : goal.loop-packet-init
 loop-packet-init g c =
-    subst (λ (l : List Page). HasSeen c.args.seen.now.table (places_of l) c.mark_records-double.new.seen c.mark_records-double.result) (sym (append-nil (pages_of_round c.args.round.now)))
+    subst (λ (l : List Page). HasSeen c.args.seen.now.table
+    (places_of l) c.mark_records-double.new.seen c.mark_records-double.result) (sym (append-nil (pages_of_round c.args.round.now)))
     (c.mark_records-double.ensures.seen [] (seen_nothing c.args.seen.now c.requires.seen))
 
 pub mark_packet-double-requires-clause-lawful : goal.mark_packet-double-requires-clause-lawful

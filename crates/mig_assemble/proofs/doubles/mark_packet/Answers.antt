@@ -15,7 +15,8 @@ pub mark_pages-requires-clause-lawful : goal.mark_pages-requires-clause-lawful
 mark_pages-requires-clause-lawful g c =
     let q : Fields = fields c.args.packet.now in
     let found : block_of c.args.seen.now.table.blocks q.id ≡ Some c.in-Some.block = search rules in
-    subst (λ (os : List ℕ). All (λ offset. is_outside c.args.seen.now.table.page_size (block c.args.seen.now.table.blocks c.in-Some.block).pages offset ≡ false) os)
+    subst (λ (os : List ℕ). All (λ offset. is_outside c.args.seen.now.table.page_size
+    (block c.args.seen.now.table.blocks c.in-Some.block).pages offset ≡ false) os)
     (sym (head_offsets c.args.packet.now c.head.result.bytes.now c.head.ensures.bytes))
     (lawful_inside c.args.seen.now.table q c.in-Some.block c.requires.lawful found)
 

@@ -16,7 +16,10 @@ mark-double-requires g c =
     let all : List ℕ = offsets_in c.args.head.now.bytes.now in
     let within : c.loop-i.i < length all = omega arith in
     let inside : is_outside table.page_size (block table.blocks c.args.block).pages (get_or all c.loop-i.i 0) ≡ false = c.requires.lawful c.loop-i.i 0 within in
-    let at : place_of table c.args.block (get_or all c.loop-i.i 0) ≡ record { block = c.args.block; page = c.offset.result / c.page_size.result } = search rules in
+    let at : place_of table c.args.block (get_or all c.loop-i.i 0) ≡ record {
+      block = c.args.block;
+      page = c.offset.result / c.page_size.result;
+    } = search rules in
     subst (λ (t : RamTable). IsPlace t (record { block = c.args.block; page = c.offset.result / c.page_size.result })) (sym c.loop-i.invariant.table)
     (subst (λ (p : Place). IsPlace table p) at (place_inside table c.args.block (get_or all c.loop-i.i 0) c.requires.block inside))
 
@@ -26,5 +29,6 @@ returns-clause-seen g c = λ places h.
     let q : Fields = as_zeros c.args.head.now.bytes.now in
     let past : length (offsets_in c.args.head.now.bytes.now) ≤ c.loop-i.i = omega arith in
     let all : map (place_of table c.args.block) (take c.loop-i.i (offsets_in c.args.head.now.bytes.now)) ≡ places_of (pages_in table q c.args.block) =
-    ap (λ (l : List ℕ). map (place_of table c.args.block) l) (take_all c.loop-i.i (offsets_in c.args.head.now.bytes.now) past) ∙ sym (places-in table q c.args.block) in
+    ap (λ (l : List ℕ). map (place_of table c.args.block) l) (take_all c.loop-i.i (offsets_in c.args.head.now.bytes.now) past)
+    ∙ sym (places-in table q c.args.block) in
     subst (λ (ps : List Place). HasSeen table (places ++ ps) c.loop-i.seen c.loop-i.double) all (c.loop-i.invariant.seen places h)

@@ -10,6 +10,7 @@ unmark_packet-requires-clause-lawful g c =
 pub loop-packet-preserved : goal.loop-packet-preserved
 loop-packet-preserved g c = record {
   table = c.unmark_packet.ensures.table ∙ c.loop-packet.invariant.table;
-  seen = less_packet c.args.seen.now c.loop-packet.seen c.unmark_packet.new.seen c.args.packets.now c.loop-packet.packet-index c.packet-item.result c.loop-packet-test.true c.packet-item.is
+  seen = less_packet c.args.seen.now c.loop-packet.seen c.unmark_packet.new.seen c.args.packets.now c.loop-packet.packet-index
+      c.packet-item.result c.loop-packet-test.true c.packet-item.is
       c.loop-packet.invariant.table c.unmark_packet.ensures.seen c.loop-packet.invariant.seen;
 }

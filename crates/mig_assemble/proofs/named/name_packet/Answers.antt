@@ -15,7 +15,8 @@ pub name_pages-requires-clause-lawful : goal.name_pages-requires-clause-lawful
 name_pages-requires-clause-lawful g c =
     let q : Fields = fields c.args.packet.now in
     let found : block_of c.args.named.now.table.blocks q.id ≡ Some c.in-Some.block = search rules in
-    subst (λ (os : List ℕ). All (λ offset. is_outside c.args.named.now.table.page_size (block c.args.named.now.table.blocks c.in-Some.block).pages offset ≡ false) os)
+    subst (λ (os : List ℕ). All (λ offset. is_outside c.args.named.now.table.page_size
+    (block c.args.named.now.table.blocks c.in-Some.block).pages offset ≡ false) os)
     (sym (head_offsets c.args.packet.now c.head.result.bytes.now c.head.ensures.bytes))
     (lawful_inside c.args.named.now.table q c.in-Some.block c.requires.lawful found)
 

@@ -11,6 +11,7 @@ name_packet-requires-clause-lawful g c =
 pub loop-packet-preserved : goal.loop-packet-preserved
 loop-packet-preserved g c = record {
   table = c.name_packet.ensures.table ∙ c.loop-packet.invariant.table;
-  named = packet_named c.args.named.now c.loop-packet.named c.name_packet.new.named c.args.packets.now c.loop-packet.packet-index c.packet-item.result c.loop-packet-test.true c.packet-item.is
+  named = packet_named c.args.named.now c.loop-packet.named c.name_packet.new.named c.args.packets.now c.loop-packet.packet-index
+      c.packet-item.result c.loop-packet-test.true c.packet-item.is
       c.loop-packet.invariant.table c.name_packet.ensures.named c.loop-packet.invariant.named;
 }

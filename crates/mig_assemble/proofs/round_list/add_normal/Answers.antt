@@ -23,9 +23,11 @@ loop-i-preserved g c =
     let i : ℕ = c.loop-i.i in
     let x : RoundPage = record { place = place_at b (c.offset.result / c.page_size-page_size.result); content = Some c.page.result } in
     let same : round_page table.page_size x ≡ normal_page_at table b packet.page_size packet.bytes.now i =
-    ap (λ (page : ℕ). record { place = place_at b page; content = c.page.result.now }) (ap (λ (n : ℕ). n / c.page_size-page_size.result) c.offset.ensures ∙ ap (λ (n : ℕ). offset_at packet.bytes.now i / n) c.page_size-page_size.ensures)
+    ap (λ (page : ℕ). record { place = place_at b page; content = c.page.result.now })
+    (ap (λ (n : ℕ). n / c.page_size-page_size.result) c.offset.ensures ∙ ap (λ (n : ℕ). offset_at packet.bytes.now i / n) c.page_size-page_size.ensures)
     ∙ ap (λ (l : List ℕ). page_in table b (offset_at packet.bytes.now i) l) c.page.ensures.content in
-    adds_numbered table.page_size c.args.list.now.items c.loop-i.list.items c.push.new.self.items x (normal_page_at table b packet.page_size packet.bytes.now) 0 i i
+    adds_numbered table.page_size c.args.list.now.items c.loop-i.list.items c.push.new.self.items x
+    (normal_page_at table b packet.page_size packet.bytes.now) 0 i i
     c.loop-i.invariant (omega arith) c.in_ok-push.ensures.items same (c.page.ensures.size ∙ c.requires.page_size)
 
 pub returns : goal.returns
@@ -34,4 +36,5 @@ returns g c =
     let packet = c.args.packet.now in
     let all : c.loop-i.i ≡ normal_count packet.bytes.now = omega (arith, c.normal_len-normal_count.ensures) in
     let f : ℕ → Page = normal_page_at table c.args.block packet.page_size packet.bytes.now in
-    subst (λ (l : List Page). Adds table.page_size c.args.list.now.items c.loop-i.list.items l) (ap (λ (n : ℕ). map f (range_with_len 0 n)) all ∙ normal_by_number table c.args.block packet.page_size packet.bytes.now) c.loop-i.invariant
+    subst (λ (l : List Page). Adds table.page_size c.args.list.now.items c.loop-i.list.items l)
+    (ap (λ (n : ℕ). map f (range_with_len 0 n)) all ∙ normal_by_number table c.args.block packet.page_size packet.bytes.now) c.loop-i.invariant

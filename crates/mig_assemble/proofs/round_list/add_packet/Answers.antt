@@ -26,5 +26,6 @@ returns g c =
     let known : block_of table.blocks packet.id ≡ Some b =
     ap (λ (id : List ℕ). block_of table.blocks id) (sym c.id.ensures) ∙ sym c.find.ensures ∙ c.in-Some.is in
     subst (λ (o : Option ℕ). Adds table.page_size c.args.list.now.items c.add_zeros.new.list.items (pages_in table packet (unwrap_or o 0))) (sym known)
-    (adds_after table.page_size c.args.list.now.items c.add_normal.new.list.items c.add_zeros.new.list.items (normal_pages table b packet) (zero_pages table b packet)
+    (adds_after table.page_size c.args.list.now.items c.add_normal.new.list.items c.add_zeros.new.list.items
+    (normal_pages table b packet) (zero_pages table b packet)
     c.in_ok-add_normal.ensures c.in_ok-add_zeros.ensures)

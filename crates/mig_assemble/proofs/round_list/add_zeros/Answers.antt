@@ -23,7 +23,8 @@ loop-i-preserved g c =
     let i : ℕ = first + c.loop-i.i in
     let x : RoundPage = record { place = place_at b (c.offset.result / c.page_size-page_size.result); content = None } in
     let same : round_page table.page_size x ≡ zero_page_at table b packet.bytes.now i =
-    ap (λ (page : ℕ). record { place = place_at b page; content = zero_page table.page_size }) (ap (λ (n : ℕ). n / c.page_size-page_size.result) c.offset.ensures ∙ ap (λ (n : ℕ). offset_at packet.bytes.now i / n) c.page_size-page_size.ensures) in
+    ap (λ (page : ℕ). record { place = place_at b page; content = zero_page table.page_size })
+    (ap (λ (n : ℕ). n / c.page_size-page_size.result) c.offset.ensures ∙ ap (λ (n : ℕ). offset_at packet.bytes.now i / n) c.page_size-page_size.ensures) in
     adds_numbered table.page_size c.args.list.now.items c.loop-i.list.items c.push.new.self.items x (zero_page_at table b packet.bytes.now) first c.loop-i.i i
     c.loop-i.invariant refl c.in_ok-push.ensures.items same tt
 

@@ -9,4 +9,5 @@ use Rattle.mig_assemble.proofs.round_list.round_list.Given as goal
 
 abbrev pub invariant-loop-packet : goal.invariant-loop-packet
 invariant-loop-packet g l =
-    Adds l.table.page_size [] l.list.items (pages_of_round l.round ++ flat_map (λ (p : Packet). packet_pages l.table (fields p)) (take l.packet-index l.packets))
+    Adds l.table.page_size [] l.list.items (pages_of_round l.round ++ flat_map (λ (p : Packet). packet_pages l.table (fields p))
+    (take l.packet-index l.packets))

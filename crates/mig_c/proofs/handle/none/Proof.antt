@@ -25,6 +25,7 @@ use Rattle.mig_c.proofs.handle.none.Code as code
 abbrev hs : Stays ended.signature.params ended.kept
 hs = tt
 
+-- `none` creates a handle without an object
 pub none_spec : {M : Type 1} → statement M
 none_spec 𝓤 𝓛 𝓜 𝓡 wired =
     let 𝓣 = tables 𝓤 𝓛.H 𝓜 𝓡 𝓡.env in let c = clauses 𝓛 𝓜.mem 𝓡.returns in let fn = code.function in

@@ -14,7 +14,8 @@ returns-then-channel-len c =
     let e = c.args.streams.now in
     drains_none e c.args.channel c.args.out.now (λ setting long lt. elim c.then-channel-len.branch [
       | then-channel-len-via-then-channel-len w ↦ past_all e c.args.channel (omega (arith, w.if-channel-len.true, c.len.ensures, e.sent.channels.ok.0))
-      | then-channel-len-via-else-channel-len+then-channel-len-2 w ↦ absurd (omega (arith, long, lt, w.if-channel-len-2.true, w.len-else-channel-len.ensures, e.given.ok.0))
+      | then-channel-len-via-else-channel-len+then-channel-len-2 w ↦
+          absurd (omega (arith, long, lt, w.if-channel-len-2.true, w.len-else-channel-len.ensures, e.given.ok.0))
     ])
 
 pub returns : goal.returns
@@ -25,11 +26,13 @@ returns c =
     let items : Vec ℕ Global → List ℕ = λ v. v.items in
     let lt : at < length e.given.items = omega (arith, c.if-channel-len-2.false, c.len-else-channel-len.ensures, e.given.ok.0) in
     let within : at < length e.sent.channels.items = omega (arith, c.if-channel-len.false, c.len.ensures, e.sent.channels.ok.0) in
-    let given : c.index-given.result.now ≡ get_or e.given.items at 0 = c.index-given.ensures ∙ get_or_default_zero e.given.items at c.index-given.result.now lt in
+    let given : c.index-given.result.now ≡ get_or e.given.items at 0 = c.index-given.ensures
+    ∙ get_or_default_zero e.given.items at c.index-given.result.now lt in
     let text : get_or (texts_of e.sent.channels.items) at [] ≡ c.index.result.now.items =
     get_or-map items e.sent.channels.items at c.index.result.now [] within ∙ ap items (sym c.index.ensures) in
-    let here : c.behind.result.now ≡ left_of e at =
-    c.behind.ensures ∙ ap (λ (n : ℕ). drop n c.deref.result.now) given ∙ ap (λ (l : List ℕ). drop (get_or e.given.items at 0) l) (c.deref.ensures.value ∙ sym text) in
+    let here : c.undrained.result.now ≡ left_of e at =
+    c.undrained.ensures ∙ ap (λ (n : ℕ). drop n c.deref.result.now) given
+    ∙ ap (λ (l : List ℕ). drop (get_or e.given.items at 0) l) (c.deref.ensures.value ∙ sym text) in
     drains_left e _ at count c.copy_front-count.new.out lt within refl (ap (λ (n : ℕ). set e.given.items at (n + count)) given) refl refl
     c.copy_front-count.ensures.fits (c.copy_front-count.ensures.front ∙ ap (λ (l : List ℕ). take count l) here)
     (λ zero room. ap (λ (l : List ℕ). length l) (sym here) ∙ c.copy_front-count.ensures.none zero room)

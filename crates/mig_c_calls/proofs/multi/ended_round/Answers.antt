@@ -14,7 +14,8 @@ returns-then-given_back-channels c = record {
 
 pub returns-in-Ok : goal.returns-in-Ok
 returns-in-Ok c =
-    let all : length c.args.dealt.round.spents ≡ length c.args.dealt.round.sender.channels = omega (arith, c.given_back.ensures, c.channels.ensures, c.if-given_back-channels.false) in
+    let all : length c.args.dealt.round.spents ≡ length c.args.dealt.round.sender.channels =
+    omega (arith, c.given_back.ensures, c.channels.ensures, c.if-given_back-channels.false) in
     record {
       is_named = refl;
       ends = λ _ setting image dirty drained rounds lawful table is.

@@ -7,7 +7,8 @@ returns-in-Ok-end_streams c = record {
   is_named = refl;
   ends = λ _. (tt, refl);
   keeps = λ setting drained rounds sends.
-      finishes c.args.left_open c.args.sender c.in-Ok-end_streams.sent c.in-Ok.given c.channels.result setting drained rounds c.in-Ok.ensures c.channels.ensures sends.0
+      finishes c.args.left_open c.args.sender c.in-Ok-end_streams.sent c.in-Ok.given c.channels.result setting drained rounds
+      c.in-Ok.ensures c.channels.ensures sends.0
       (c.in-Ok-end_streams.ensures.ok drained rounds sends.1);
   same = λ no. absurd (no refl);
   wrong = grind arith;

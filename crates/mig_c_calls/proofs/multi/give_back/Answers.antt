@@ -14,4 +14,5 @@ returns-in-Ok c =
 pub returns-in-Err : goal.returns-in-Err
 returns-in-Err c =
     subst (λ (s : MultiState). TakesBackWorker 60 c.args.worker s (Round c.given_back.new.dealt) (Some c.in-Err.worker)) (sym c.in-Round.is)
-    (takes_not c.in-Round.dealt c.given_back.new.dealt c.args.worker c.in-Err.worker c.in-Err.ensures.same c.in-Err.ensures.err (c.if-not-can_come_back.ensures.0 refl))
+    (takes_not c.in-Round.dealt c.given_back.new.dealt c.args.worker c.in-Err.worker c.in-Err.ensures.same c.in-Err.ensures.err
+    (c.if-not-can_come_back.ensures.0 refl))

@@ -7,4 +7,5 @@ use Rattle.mig_c_calls.proofs.multi.marked.Goals as goal
 pub mark-requires : goal.mark-requires
 mark-requires c =
     subst (λ (t : RamTable). IsPlace t c.place_of.result) (sym c.loop-named.invariant.table)
-    (place_there (IsPlace c.args.table.now) c.args.places.now c.loop-named.named-index _ c.place_of.result (omega (arith, c.loop-named-test.true)) c.place_of.ensures c.requires)
+    (place_there (IsPlace c.args.table.now) c.args.places.now c.loop-named.named-index _ c.place_of.result
+    (omega (arith, c.loop-named-test.true)) c.place_of.ensures c.requires)

@@ -14,10 +14,12 @@ returns-then-workers_left-channels c = record {
 
 pub returns : goal.returns
 returns c =
-    let all : length c.args.dealt.round.seats ≡ length c.args.dealt.round.sender.channels = omega (arith, c.workers_left.ensures, c.channels.ensures, c.if-workers_left-channels.false) in
+    let all : length c.args.dealt.round.seats ≡ length c.args.dealt.round.sender.channels =
+    omega (arith, c.workers_left.ensures, c.channels.ensures, c.if-workers_left-channels.false) in
     record {
       is_named = refl;
-      takes = λ _ setting image dirty drained rounds is. goes_back c.args.dealt.round c.take_back.result setting image dirty drained rounds c.take_back.ensures is;
+      takes = λ _ setting image dirty drained rounds is. goes_back c.args.dealt.round c.take_back.result setting image dirty
+          drained rounds c.take_back.ensures is;
       idle = λ _. tt;
       same = λ no. absurd (no refl);
       wrong = grind arith;

@@ -7,8 +7,8 @@ pub returns : goal.returns
 returns c =
     let count : ℕ = c.copy_front.result in
     let mid = c.refill.new.sender in
-    let here : c.behind.result.now ≡ waiting mid =
-    c.behind.ensures ∙ ap (λ (l : List ℕ). drop mid.given l) c.deref.ensures.value in (
+    let here : c.undrained.result.now ≡ waiting mid =
+    c.undrained.ensures ∙ ap (λ (l : List ℕ). drop mid.given l) c.deref.ensures.value in (
       c.refill.ensures,
       record {
         fits = c.copy_front.ensures.fits;

@@ -8,7 +8,8 @@ returns-then-sender-len c = refills_same c.args.sender.now (omega (arith, c.args
 pub returns-in-Idle : goal.returns-in-Idle
 returns-in-Idle c =
     refills_idle c.args.sender.now _ c.in-Idle.writer c.drain_into.new.self c.in-Idle.is refl
-    (omega (arith, c.args.sender.now.drained.ok.0, c.len.ensures, c.if-sender-len.false)) c.drain_into.ensures.table c.drain_into.ensures.all c.drain_into.ensures.drained
+    (omega (arith, c.args.sender.now.drained.ok.0, c.len.ensures, c.if-sender-len.false)) c.drain_into.ensures.table
+    c.drain_into.ensures.all c.drain_into.ensures.drained
 
 pub returns-in-Over : goal.returns-in-Over
 returns-in-Over c =
@@ -18,4 +19,5 @@ returns-in-Over c =
 pub returns-in-LeftOpen : goal.returns-in-LeftOpen
 returns-in-LeftOpen c =
     refills_open c.args.sender.now _ c.in-LeftOpen.text c.take_text-in-LeftOpen.new.text c.in-LeftOpen.is refl
-    (omega (arith, c.args.sender.now.drained.ok.0, c.len.ensures, c.if-sender-len.false)) c.take_text-in-LeftOpen.ensures.none c.take_text-in-LeftOpen.ensures.taken
+    (omega (arith, c.args.sender.now.drained.ok.0, c.len.ensures, c.if-sender-len.false)) c.take_text-in-LeftOpen.ensures.none
+    c.take_text-in-LeftOpen.ensures.taken

@@ -9,4 +9,5 @@ returns-in-Ok-clause-packed c = λ image before drained same packed.
     let new = c.step.new.self in
     let stepped = c.step.ensures.step in
     subst (λ (terms : RoundTerms). HasPackedTo image terms before (drained ++ new.text) new.hand) (sym stepped.same_terms)
-    (end_packed c.args.memory.now image old.terms c.step.result old.hand new.hand old.text new.text before drained (c.requires.table ∙ sym same) c.requires.none c.requires.claimed stepped.is_step packed)
+    (end_packed c.args.memory.now image old.terms c.step.result old.hand new.hand old.text new.text before drained
+    (c.requires.table ∙ sym same) c.requires.none c.requires.claimed stepped.is_step packed)

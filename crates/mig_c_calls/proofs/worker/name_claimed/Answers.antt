@@ -6,5 +6,6 @@ use Rattle.mig_c_calls.proofs.worker.name_claimed.Goals as goal
 
 pub name_batch-requires : goal.name_batch-requires
 name_batch-requires c =
-    let size : IsPageSize c.args.worker.now.terms.table.page_size = subst (λ (t : RamTable). IsPageSize t.page_size) c.table.ensures c.keeps_limits.ensures.has_page_size in
+    let size : IsPageSize c.args.worker.now.terms.table.page_size =
+    subst (λ (t : RamTable). IsPageSize t.page_size) c.table.ensures c.keeps_limits.ensures.has_page_size in
     omega (arith, c.in-Some.ensures.batch.has_few, few_pages c.args.worker.now.terms.table.page_size size)

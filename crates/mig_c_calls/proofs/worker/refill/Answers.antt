@@ -9,7 +9,8 @@ returns-then-is_empty c =
     let rest = c.drain_into.ensures.rest in
     record {
       keeps = λ image sent given more packs.
-          worker_refills image sent given more c.drain_into.new.bytes.items c.args.held.now _ (c.if-is_empty.ensures.0 refl) refl c.drain_into.ensures.packed packs;
+          worker_refills image sent given more c.drain_into.new.bytes.items c.args.held.now _
+          (c.if-is_empty.ensures.0 refl) refl c.drain_into.ensures.packed packs;
       none = λ _. ap (λ (w : ChannelWork). w.text) rest;
       same_left = ap (λ (w : ChannelWork). c.drain_into.new.bytes.items ++ w.text) rest
           ∙ append-nil c.drain_into.new.bytes.items

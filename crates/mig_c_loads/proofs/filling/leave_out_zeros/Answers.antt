@@ -14,8 +14,10 @@ zeros-preserved c =
           let few = c.zeros.invariant.few in
           let room : all.normal + c.zeros.left < length all.pages = omega (arith, long, few, c.requires, c.zeros-test.true) in
           rw (w.seen-is, w.left-is)
-          (left_more c.args.filled.now c.args.block all all c.zeros.seen c.zeros.left c.zeros.i page (all.normal + c.zeros.left) c.zeros.invariant refl refl room (sym c.has.ensures ∙ w.if-has.true))
+          (left_more c.args.filled.now c.args.block all all c.zeros.seen c.zeros.left c.zeros.i page
+          (all.normal + c.zeros.left) c.zeros.invariant refl refl room (sym c.has.ensures ∙ w.if-has.true))
       | else-has w ↦
           rw (w.seen-is, w.left-is)
-          (left_as_it_is c.args.filled.now c.args.block all all c.zeros.seen c.zeros.left c.zeros.i page c.zeros.invariant refl (sym c.has.ensures ∙ w.if-has.false))
+          (left_as_it_is c.args.filled.now c.args.block all all c.zeros.seen c.zeros.left c.zeros.i page c.zeros.invariant refl
+          (sym c.has.ensures ∙ w.if-has.false))
     ]

@@ -17,7 +17,8 @@ unmark-requires c =
     c.place.ensures ∙ ap (λ (n : ℕ). place_at c.args.block (offset_at head (n + c.zeros.i) / c.args.head.now.page_size)) c.normal_len-normals.ensures
     ∙ ap (λ (n : ℕ). place_at c.args.block (offset_at head at / n)) c.requires.page_size in
     let low : at < normal_count head + zero_count head = omega (arith, c.zeros-test.true, c.zeros.auto.i-end, c.zero_len-i-end.ensures) in
-    subst (λ (t : RamTable). IsPlace t c.place.result) (sym c.zeros.invariant.same_table) (subst (λ (p : Place). IsPlace table p) (sym same) (lies table c.args.block head c.requires.lies at low))
+    subst (λ (t : RamTable). IsPlace t c.place.result) (sym c.zeros.invariant.same_table)
+    (subst (λ (p : Place). IsPlace table p) (sym same) (lies table c.args.block head c.requires.lies at low))
 
 pub zeros-preserved : goal.zeros-preserved
 zeros-preserved c =
@@ -27,4 +28,5 @@ zeros-preserved c =
     let same : c.place.result ≡ nth table c.args.block head at =
     c.place.ensures ∙ ap (λ (n : ℕ). place_at c.args.block (offset_at head (n + c.zeros.i) / c.args.head.now.page_size)) c.normal_len-normals.ensures
     ∙ ap (λ (n : ℕ). place_at c.args.block (offset_at head at / n)) c.requires.page_size in
-    freed_more table (λ i. nth table c.args.block head (normal_count head + i)) c.zeros.i c.args.filled.now c.zeros.filled c.unmark.new.self (c.unmark.ensures ∙ ap (λ (p : Place). without_place c.zeros.filled p) same) c.zeros.invariant
+    freed_more table (λ i. nth table c.args.block head (normal_count head + i)) c.zeros.i c.args.filled.now c.zeros.filled
+    c.unmark.new.self (c.unmark.ensures ∙ ap (λ (p : Place). without_place c.zeros.filled p) same) c.zeros.invariant

@@ -6,8 +6,12 @@ use Rattle.mig_c_loads.proofs.held_session.report_fault.Goals as goal
 
 pub returns : goal.returns
 returns c = record {
-  stands = λ _ memory given uuid first texts stands.
-      (c.fault_of.result, c.fault_of.ensures.stands memory given uuid first texts stands, c.of_source-fault.ensures ∙ ap (λ (n : ℕ). seen_of_source n c.args.source c.fault_of.result) c.rounds.ensures);
+  stands = λ _ memory given uuid first texts stands. (
+    c.fault_of.result,
+    c.fault_of.ensures.stands memory given uuid first texts stands,
+    c.of_source-fault.ensures
+        ∙ ap (λ (n : ℕ). seen_of_source n c.args.source c.fault_of.result) c.rounds.ensures,
+  );
   lacking = λ memory given uuid first texts lacks _.
       let none : c.fault_of.result ≡ None = c.fault_of.ensures.lacking memory given uuid first texts lacks in
       c.of_source-fault.ensures ∙ ap (λ (o : Option Fault). seen_of_source c.rounds.result c.args.source o) none;

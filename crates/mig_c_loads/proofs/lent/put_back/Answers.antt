@@ -16,7 +16,8 @@ loop-i-preserved c =
       put =
           take_more_set c.loop-i.blocks i c.take.result (omega (arith, within, so_far.count, so_far.room, c.requires))
           ∙ ap (λ (l : List (MutBor (List ℕ))). l ++ c.take.result ∷ []) so_far.put
-          ∙ ap (λ (x : MutBor (List ℕ)). take i c.args.list.now ++ x ∷ []) (c.take.ensures.value ∙ still_there c.loop-i.list c.args.list.now i no_loan so_far.rest)
+          ∙ ap (λ (x : MutBor (List ℕ)). take i c.args.list.now ++ x ∷ [])
+          (c.take.ensures.value ∙ still_there c.loop-i.list c.args.list.now i no_loan so_far.rest)
           ∙ sym (take_more c.args.list.now i no_loan (omega (arith, within, so_far.count)));
       rest = next_there c.loop-i.list c.args.list.now i c.take.new.dest so_far.rest;
       count = length-set c.loop-i.list i c.take.new.dest ∙ so_far.count;

@@ -15,7 +15,8 @@ loop-i-preserved c =
       out =
           c.push_reserved.ensures.items
           ∙ ap (λ (l : List (MutBor (List ℕ))). l ++ c.take.result ∷ []) so_far.out
-          ∙ ap (λ (x : MutBor (List ℕ)). take i c.args.blocks.now ++ x ∷ []) (c.take.ensures.value ∙ still_there c.loop-i.blocks c.args.blocks.now i no_loan so_far.rest)
+          ∙ ap (λ (x : MutBor (List ℕ)). take i c.args.blocks.now ++ x ∷ [])
+          (c.take.ensures.value ∙ still_there c.loop-i.blocks c.args.blocks.now i no_loan so_far.rest)
           ∙ sym (take_more c.args.blocks.now i no_loan (omega (arith, c.loop-i-test.true, so_far.count)));
       rest = next_there c.loop-i.blocks c.args.blocks.now i c.take.new.dest so_far.rest;
       count = length-set c.loop-i.blocks i c.take.new.dest ∙ so_far.count;

@@ -20,6 +20,7 @@ loop-k-preserved c =
     let changes : ChangesPart size old c.write_page.new.bytes k bytes =
     subst (λ (l : List ℕ). ChangesPart size old l k bytes) (sym becomes) (content_changes size k old bytes room c.in-Some.ensures.size) in
     record {
-      pages = parts_on c.args.memory.now c.args.block c.args.page k old c.write_page.new.bytes bytes changes (sym c.in-Some.ensures.value) c.loop-k.invariant.pages;
+      pages = parts_on c.args.memory.now c.args.block c.args.page k old c.write_page.new.bytes bytes changes
+          (sym c.in-Some.ensures.value) c.loop-k.invariant.pages;
       len = changes.len ∙ c.loop-k.invariant.len;
     }

@@ -5,4 +5,5 @@ use Rattle.mig_c_loads.proofs.reading.filled.Goals as goal
 
 pub returns : goal.returns
 returns c = let id = c.args.id.now in
-    ap (λ (front : List ℕ). front ++ drop (length id) (replicate 256 0)) c.copy_from_slice.ensures.after ∙ ap (λ (back : List ℕ). id ++ back) (drop-replicate (length id) 256 0)
+    ap (λ (front : List ℕ). front ++ drop (length id) (replicate 256 0)) c.copy_from_slice.ensures.after
+    ∙ ap (λ (back : List ℕ). id ++ back) (drop-replicate (length id) 256 0)

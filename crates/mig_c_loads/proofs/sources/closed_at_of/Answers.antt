@@ -10,8 +10,10 @@ use Rattle.mig_c_loads.proofs.sources.closed_at_of.Goals as goal
 pub returns-in-Some : goal.returns-in-Some
 returns-in-Some c =
     let session = c.args.session.now in
-    let closed : (given : LoadSettings) (uuid : List ℕ) (texts : Texts) → StandsFor given uuid texts session → IsClosedAt (main_of given) texts.main.bytes c.in-Some.count =
-    subst (λ (n : Option ℕ). IfSome n (λ k. (given : LoadSettings) (uuid : List ℕ) (texts : Texts) → StandsFor given uuid texts session → IsClosedAt (main_of given) texts.main.bytes k))
+    let closed : (given : LoadSettings) (uuid : List ℕ) (texts : Texts) → StandsFor given uuid texts session
+    → IsClosedAt (main_of given) texts.main.bytes c.in-Some.count =
+    subst (λ (n : Option ℕ). IfSome n (λ k. (given : LoadSettings) (uuid : List ℕ) (texts : Texts)
+    → StandsFor given uuid texts session → IsClosedAt (main_of given) texts.main.bytes k))
     c.in-Some.is c.closed_at.ensures.closed in
     record {
       is_named = refl;

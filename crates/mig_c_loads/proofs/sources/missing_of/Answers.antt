@@ -5,7 +5,8 @@ use Rattle.mig_c_loads.proofs.sources.missing_of.Goals as goal
 pub returns-in-Some : goal.returns-in-Some
 returns-in-Some c = record {
   known = λ _ given uuid texts stands.
-      subst (λ (n : Option ℕ). AsRead given uuid texts c.args.session.now (λ read. HasMissing given uuid read (answer_in c.args.session.now).rounds n)) c.in-Some.is
+      subst (λ (n : Option ℕ). AsRead given uuid texts c.args.session.now
+      (λ read. HasMissing given uuid read (answer_in c.args.session.now).rounds n)) c.in-Some.is
       (c.missing.ensures.stands given uuid texts stands);
   unknown = λ no. absurd cc;
   lacking = λ given uuid texts lacks.
@@ -17,7 +18,8 @@ pub returns-in-None : goal.returns-in-None
 returns-in-None c = record {
   known = λ no. absurd cc;
   unknown = λ _ given uuid texts stands.
-      subst (λ (n : Option ℕ). AsRead given uuid texts c.args.session.now (λ read. HasMissing given uuid read (answer_in c.args.session.now).rounds n)) c.in-None.is
+      subst (λ (n : Option ℕ). AsRead given uuid texts c.args.session.now
+      (λ read. HasMissing given uuid read (answer_in c.args.session.now).rounds n)) c.in-None.is
       (c.missing.ensures.stands given uuid texts stands);
   lacking = λ _ _ _ _. refl;
   same = λ _. refl;

@@ -28,7 +28,8 @@ returns-clause-ok g c =
     let lines : map seen c.deref.result.now ≡ map seen scenario.lines.items = ap (λ (l : List Line). map seen l) c.deref.ensures.value in
     let table : scenario.table ≡ table_in layout text = judged.ok.0 ∙ ap (λ (size : ℕ). table_of size (lines_of text)) c.bytes-page_size.ensures.value in
     let sent = has_text c.in_ok-senders.senders.single played.texts.single _ c.in_ok-senders.ensures.single c.in_ok-played.ensures.texts.single_text in
-    let load = subst (λ (size : ℕ). IsSomeAnd played.texts.single (λ t. IsLoadOf size t.items c.load_stream-loaded.result)) c.bytes-page_size.ensures.value c.load_stream-loaded.ensures in
+    let load = subst (λ (size : ℕ). IsSomeAnd played.texts.single (λ t. IsLoadOf size t.items c.load_stream-loaded.result))
+    c.bytes-page_size.ensures.value c.load_stream-loaded.ensures in
     outcomes layout text scenario.table (map seen c.deref.result.now) played.image played.texts.single c.load_stream-loaded.result
     c.keeps_limits.ensures table (lines ∙ judged.ok.1)
     (subst (λ (l : List ScenarioLine). All (λ x. IsTrue (is_within scenario.table x)) l) (sym lines) judged.within)
@@ -42,7 +43,8 @@ returns-clause-several g c =
     let judged = c.in_ok-scenario.ensures in
     let lines : map seen c.deref.result.now ≡ map seen scenario.lines.items = ap (λ (l : List Line). map seen l) c.deref.ensures.value in
     let table : scenario.table ≡ table_in layout text = judged.ok.0 ∙ ap (λ (size : ℕ). table_of size (lines_of text)) c.bytes-page_size.ensures.value in
-    gone layout text scenario.table (map seen c.deref.result.now) c.nil.result c.in_ok-senders.senders.several c.in_ok-played.played.texts.several table (lines ∙ judged.ok.1) c.nil.ensures
+    gone layout text scenario.table (map seen c.deref.result.now) c.nil.result c.in_ok-senders.senders.several
+    c.in_ok-played.played.texts.several table (lines ∙ judged.ok.1) c.nil.ensures
     c.in_ok-senders.ensures.several c.in_ok-played.ensures.texts.several_texts
 
 pub returns-clause-channels : goal.returns-clause-channels

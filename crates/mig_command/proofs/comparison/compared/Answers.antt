@@ -6,7 +6,8 @@ use Rattle.mig_command.proofs.comparison.compared.Goals as goal
 
 pub returns-in-None : goal.returns-in-None
 returns-in-None g c =
-    compared_same c.in_ok-found.found.marked (sym c.first_from.ensures ∙ c.in-None.is) ∙ ap (λ (s : PlaceSet). comparison_of s.marked) c.in_ok-found.ensures.value
+    compared_same c.in_ok-found.found.marked (sym c.first_from.ensures ∙ c.in-None.is)
+    ∙ ap (λ (s : PlaceSet). comparison_of s.marked) c.in_ok-found.ensures.value
 
 pub returns : goal.returns
 returns g c =

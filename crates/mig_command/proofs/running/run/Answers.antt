@@ -7,7 +7,8 @@ use Rattle.mig_command.proofs.running.run.Goals.{in-Ok, in-Err}
 
 pub returns-clause-check : goal.returns-clause-check
 returns-clause-check g c = λ layout ask other.
-    let answers : AnswersInput layout (g.R.Read.remaining c.args.input.now) (g.R.Read.remaining c.match-asked.input) c.match-asked.answer = elim c.match-asked.branch [
+    let answers : AnswersInput layout (g.R.Read.remaining c.args.input.now)
+    (g.R.Read.remaining c.match-asked.input) c.match-asked.answer = elim c.match-asked.branch [
       | in-Ok w ↦ rw (w.input-is, w.answer-is) (of_check _ layout _ (w.in-Ok.ensures.ok layout ask) w.answer_to-answer.ensures)
       | in-Err w ↦ rw (w.input-is, w.answer-is) (wants_memory layout _ _ w.in-Err.answer (w.in-Err.ensures.err layout ask))
     ] in

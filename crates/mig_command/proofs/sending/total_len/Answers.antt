@@ -14,12 +14,14 @@ loop-text-preserved g c =
     let most = 2 ^ 64 - 1 in
     let many : length texts ≡ length channels = length-map channels (λ (t : Vec ℕ _). t.items) in
     let lt : i < length channels = omega arith in
-    let row : get_or texts i [] ≡ c.text-item.result.items = get_or-map (λ (t : Vec ℕ _). t.items) channels i c.text-item.result [] lt ∙ ap (λ (t : Vec ℕ _). t.items) (sym c.text-item.is) in
+    let row : get_or texts i [] ≡ c.text-item.result.items =
+    get_or-map (λ (t : Vec ℕ _). t.items) channels i c.text-item.result [] lt ∙ ap (λ (t : Vec ℕ _). t.items) (sym c.text-item.is) in
     let so_far : ℕ = sum_by length (take i texts) in
     let added : c.saturating_add-total.result ≡ min (min so_far most + c.len.result) most =
     c.saturating_add-total.ensures ∙ ap (λ (n : ℕ). min (n + c.len.result) most) c.loop-text.invariant in
     let more : sum_by length (take (i + 1) texts) ≡ so_far + c.len.result =
-    sum_by_more length texts i [] (omega (arith, many)) ∙ ap (λ (n : ℕ). so_far + n) (ap (λ (l : List ℕ). length l) row ∙ sym c.text-item.result.ok.0 ∙ sym c.len.ensures) in
+    sum_by_more length texts i [] (omega (arith, many))
+    ∙ ap (λ (n : ℕ). so_far + n) (ap (λ (l : List ℕ). length l) row ∙ sym c.text-item.result.ok.0 ∙ sym c.len.ensures) in
     added ∙ saturated so_far c.len.result most ∙ ap (λ (n : ℕ). min n most) (sym more)
 
 pub returns : goal.returns

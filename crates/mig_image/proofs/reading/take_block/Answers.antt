@@ -38,4 +38,6 @@ loop-page-preserved g c =
 pub returns-clause-memory : goal.returns-clause-memory
 returns-clause-memory g c =
     c.loop-page.invariant.0 ∙ all_pages c.args.memory.now c.args.block c.loop-page.page c.args.bytes.now
-    (let le = c.loop-page.auto.page-end in let ge = c.loop-page-test.false in let same : c.loop-page.page ≡ c.pages-page-end.result = omega (arith, le, ge) in same ∙ c.pages-page-end.ensures.value ∙ ap (λ (t : RamTable). (block t.blocks c.args.block).pages) c.table-2.ensures.value)
+    (let le = c.loop-page.auto.page-end in let ge = c.loop-page-test.false in
+    let same : c.loop-page.page ≡ c.pages-page-end.result = omega (arith, le, ge) in same ∙ c.pages-page-end.ensures.value
+    ∙ ap (λ (t : RamTable). (block t.blocks c.args.block).pages) c.table-2.ensures.value)

@@ -12,6 +12,7 @@ loop-page-preserved g c = elim c.match-page.branch [
   | in_default w ↦
       let blocks : c.table.result.now ≡ c.args.memory.now.table = c.table.ensures.value in
       let page : c.loop-page.page < (block c.args.memory.now.table.blocks c.args.block).pages =
-      subst (λ (t : RamTable). c.loop-page.page < (block t.blocks c.args.block).pages) blocks (let lt = c.loop-page-test.true in let e = c.pages-page-end.ensures.value in omega (arith, lt, e)) in
+      subst (λ (t : RamTable). c.loop-page.page < (block t.blocks c.args.block).pages) blocks
+      (let lt = c.loop-page-test.true in let e = c.pages-page-end.ensures.value in omega (arith, lt, e)) in
       let some = subst IsSome w.in_default.is (c.page.ensures.there.1 (record { has_block = c.requires; has_page = page })) in absurd cc
 ]

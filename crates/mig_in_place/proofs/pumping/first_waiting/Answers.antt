@@ -15,10 +15,12 @@ returns-then-has_turn-clause-some g c = (
 pub loop-number-preserved : goal.loop-number-preserved
 loop-number-preserved g c = elim c.else-not-is_empty.branch [
   | else-not-is_empty-via-then-not-is_empty+else-has_turn w ↦
-      more_waits c.loop-number.number c.args.sources.now c.args.load.now c.source_at-source.result c.source_at-source.ensures (λ some. w.has_turn.ensures.none w.if-has_turn.false) c.loop-number.invariant
+      more_waits c.loop-number.number c.args.sources.now c.args.load.now c.source_at-source.result c.source_at-source.ensures
+      (λ some. w.has_turn.ensures.none w.if-has_turn.false) c.loop-number.invariant
   | else-not-is_empty-via-else-not-is_empty w ↦
       more_waits c.loop-number.number c.args.sources.now c.args.load.now c.source_at-source.result c.source_at-source.ensures
-      (λ some. absurd (some (none_wait_there c.args.sources.now c.source_at-source.result c.loop-number.number c.index-sources-number.result c.waiting.result.now c.is_empty.result
+      (λ some. absurd (some (none_wait_there c.args.sources.now c.source_at-source.result c.loop-number.number
+      c.index-sources-number.result c.waiting.result.now c.is_empty.result
       c.source_at-source.ensures c.loop-number-test.true c.index-sources-number.is c.waiting.ensures.value c.is_empty.ensures w.if-not-is_empty.false)))
       c.loop-number.invariant
 ]

@@ -10,7 +10,8 @@ use Rattle.mig_in_place.proofs.session.new_channels.Given as goal
 
 abbrev pub invariant-loop : goal.invariant-loop
 invariant-loop g l = record {
-  holds : (table : RamTable) → AllZip (λ (text : Text) (c : KeptChannel). HoldsChannel (channel_of l.settings l.uuid l.channels) table 0 text (none_given (channel_of l.settings l.uuid l.channels)) c)
+  holds : (table : RamTable) → AllZip (λ (text : Text) (c : KeptChannel). HoldsChannel
+      (channel_of l.settings l.uuid l.channels) table 0 text (none_given (channel_of l.settings l.uuid l.channels)) c)
       (replicate l.counter no_text) l.made.items;
   counts : map channel_count l.made.items ≡ replicate l.counter no_count;
   count : vec_len l.made ≡ l.counter;

@@ -13,6 +13,7 @@ returns g c =
     let held : (with_items v new).items ≡ new = with_items_is v new (c.clear_after.auto.words ∙ c.deref_mut.ensures.len) in
     let bitmap = c.args.bitmap.now in
     let is : front ≡ take ((c.args.pages + 63) / 64) bitmap =
-    c.deref_mut.ensures.value ∙ c.in_ok-extend_from_slice.ensures.items ∙ rw c.in_ok-words.ensures.items (ap (λ (n : ℕ). take n bitmap) c.words_for-count.ensures) in
+    c.deref_mut.ensures.value ∙ c.in_ok-extend_from_slice.ensures.items
+    ∙ rw c.in_ok-words.ensures.items (ap (λ (n : ℕ). take n bitmap) c.words_for-count.ensures) in
     subst (λ (l : List ℕ). IsRowOf bitmap c.args.pages l) (sym held)
     (row_of bitmap front new c.args.pages c.requires is c.clear_after.auto.words c.clear_after.ensures)

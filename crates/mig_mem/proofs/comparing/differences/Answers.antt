@@ -19,11 +19,15 @@ loop-block-preserved g c =
 
 pub returns-clause-value : goal.returns-clause-value
 returns-clause-value g c =
-    let end : c.loop-block.block ≡ length c.args.a.now.table.blocks = omega (arith, c.len-block-end.ensures.value, ap (λ (t : RamTable). length t.blocks) c.table-2.ensures.value) in
-    c.from_rows.ensures ∙ differing_set c.args.a.now c.args.b.now c.in_ok-table.table c.loop-block.rows.items c.loop-block.block (c.in_ok-table.ensures ∙ c.table-3.ensures.value) end c.loop-block.invariant
+    let end : c.loop-block.block ≡ length c.args.a.now.table.blocks =
+    omega (arith, c.len-block-end.ensures.value, ap (λ (t : RamTable). length t.blocks) c.table-2.ensures.value) in
+    c.from_rows.ensures ∙ differing_set c.args.a.now c.args.b.now c.in_ok-table.table c.loop-block.rows.items c.loop-block.block
+    (c.in_ok-table.ensures ∙ c.table-3.ensures.value) end c.loop-block.invariant
 
 pub returns-clause-least : goal.returns-clause-least
 returns-clause-least g c =
-    let end : c.loop-block.block ≡ length c.args.a.now.table.blocks = omega (arith, c.len-block-end.ensures.value, ap (λ (t : RamTable). length t.blocks) c.table-2.ensures.value) in
-    let value = c.from_rows.ensures ∙ differing_set c.args.a.now c.args.b.now c.in_ok-table.table c.loop-block.rows.items c.loop-block.block (c.in_ok-table.ensures ∙ c.table-3.ensures.value) end c.loop-block.invariant in
+    let end : c.loop-block.block ≡ length c.args.a.now.table.blocks =
+    omega (arith, c.len-block-end.ensures.value, ap (λ (t : RamTable). length t.blocks) c.table-2.ensures.value) in
+    let value = c.from_rows.ensures ∙ differing_set c.args.a.now c.args.b.now c.in_ok-table.table c.loop-block.rows.items
+    c.loop-block.block (c.in_ok-table.ensures ∙ c.table-3.ensures.value) end c.loop-block.invariant in
     ap (λ (s : PlaceSet). slice_get s.marked 0) value ∙ least_differing c.args.a.now c.args.b.now

@@ -12,13 +12,16 @@ pub loop-bit-preserved : goal.loop-bit-preserved
 loop-bit-preserved g c =
     let test = differs_in c.args.a.now c.args.b.now c.args.block in
     elim c.if-not-is_same_at.branch [
-      | then-not-is_same_at w ↦ rw w.word-is (word_more test c.args.i c.loop-bit.bit c.loop-bit.word (omega arith) c.loop-bit.invariant (c.is_same_at.ensures ∙ ap not w.if-not-is_same_at.true))
-      | else-not-is_same_at w ↦ rw w.word-is (word_same test c.args.i c.loop-bit.bit c.loop-bit.word c.loop-bit.invariant (c.is_same_at.ensures ∙ ap not w.if-not-is_same_at.false))
+      | then-not-is_same_at w ↦ rw w.word-is (word_more test c.args.i c.loop-bit.bit c.loop-bit.word
+          (omega arith) c.loop-bit.invariant (c.is_same_at.ensures ∙ ap not w.if-not-is_same_at.true))
+      | else-not-is_same_at w ↦ rw w.word-is (word_same test c.args.i c.loop-bit.bit c.loop-bit.word c.loop-bit.invariant
+          (c.is_same_at.ensures ∙ ap not w.if-not-is_same_at.false))
     ]
 
 pub returns : goal.returns
 returns g c =
     let pages : c.pages-pages.result ≡ (block c.args.a.now.table.blocks c.args.block).pages =
     c.pages-pages.ensures.value ∙ ap (λ (t : RamTable). (block t.blocks c.args.block).pages) c.table.ensures.value in
-    let end : c.args.i * 64 + c.loop-bit.bit ≡ min (block c.args.a.now.table.blocks c.args.block).pages (c.args.i * 64 + 64) = omega (arith, c.min-count.ensures) in
+    let end : c.args.i * 64 + c.loop-bit.bit ≡ min (block c.args.a.now.table.blocks c.args.block).pages (c.args.i * 64 + 64) =
+    omega (arith, c.min-count.ensures) in
     differing_word c.args.a.now c.args.b.now c.args.block c.args.i c.loop-bit.bit c.loop-bit.word end c.loop-bit.invariant

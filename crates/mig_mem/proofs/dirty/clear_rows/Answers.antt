@@ -20,8 +20,10 @@ loop-i-preserved g c =
     let zero : v.items ≡ replicate (length (get_or (buffers_of rows) i [])) 0 =
     held ∙ c.clear.ensures ∙ ap (λ (l : List ℕ). replicate (length l) 0) (c.deref_mut.ensures.value ∙ sym row) in
     let lt : i < length (buffers_of c.args.rows.now) = omega (arith, length-map c.args.rows.now (λ (w : Vec ℕ g.row.A.Denot). w.items)) in
-    rw (map-set (λ (w : Vec ℕ g.row.A.Denot). w.items) rows i v) (cleared_more (buffers_of c.args.rows.now) (buffers_of rows) i v.items lt c.loop-i.invariant zero)
+    rw (map-set (λ (w : Vec ℕ g.row.A.Denot). w.items) rows i v)
+    (cleared_more (buffers_of c.args.rows.now) (buffers_of rows) i v.items lt c.loop-i.invariant zero)
 
 pub returns : goal.returns
 returns g c =
-    cleared_all (buffers_of c.args.rows.now) (buffers_of c.loop-i.rows) c.loop-i.i (omega (arith, length-map c.args.rows.now (λ (w : Vec ℕ g.row.A.Denot). w.items))) c.loop-i.invariant
+    cleared_all (buffers_of c.args.rows.now) (buffers_of c.loop-i.rows) c.loop-i.i
+    (omega (arith, length-map c.args.rows.now (λ (w : Vec ℕ g.row.A.Denot). w.items))) c.loop-i.invariant

@@ -8,7 +8,8 @@ returns-then-first-words-clause-none c = λ q lo. unset_past c.args.words.now q 
 
 pub returns-in-Some-clause-some : goal.returns-in-Some-clause-some
 returns-in-Some-clause-some c =
-    first_in_word c.args.words.now c.args.from (c.args.from / 64) (c.args.from % 64) c.in-Some.bit (omega arith) c.in-Some.ensures.some (omega arith) (λ q lo hi. absurd (omega arith))
+    first_in_word c.args.words.now c.args.from (c.args.from / 64) (c.args.from % 64) c.in-Some.bit
+    (omega arith) c.in-Some.ensures.some (omega arith) (λ q lo hi. absurd (omega arith))
 
 pub loop-i-init : goal.loop-i-init
 loop-i-init c = record {
@@ -19,7 +20,8 @@ loop-i-init c = record {
 pub returns-in-Some-lowest_bit-clause-some : goal.returns-in-Some-lowest_bit-clause-some
 returns-in-Some-lowest_bit-clause-some c =
     let past : c.args.from ≤ c.loop-i.i * 64 = c.loop-i.invariant.past in
-    first_in_word c.args.words.now c.args.from c.loop-i.i 0 c.in-Some-lowest_bit.bit (omega arith) c.in-Some-lowest_bit.ensures.some (omega arith) (λ q lo hi. c.loop-i.invariant.none q lo (omega arith))
+    first_in_word c.args.words.now c.args.from c.loop-i.i 0 c.in-Some-lowest_bit.bit
+    (omega arith) c.in-Some-lowest_bit.ensures.some (omega arith) (λ q lo hi. c.loop-i.invariant.none q lo (omega arith))
 
 pub loop-i-preserved : goal.loop-i-preserved
 loop-i-preserved c =

@@ -14,7 +14,8 @@ returns g c =
     let pages = c.args.pages.now in
     puts_all size count c.args.block old new pages some c.requires.count.0 c.for_each_chunk_mut.auto.s (λ n lt.
     let k = c.for_each_chunk_mut.ensures.chunks n lt in
-    subst (λ (first : ℕ). PutsAll size c.args.block first (take (count * size) (drop (n * (count * size)) old)) (take (count * size) (drop (n * (count * size)) new)) pages)
+    subst (λ (first : ℕ). PutsAll size c.args.block first (take (count * size) (drop (n * (count * size)) old))
+    (take (count * size) (drop (n * (count * size)) new)) pages)
     (first_page size count n some)
     (subst (λ (l : List ℕ). PutsAll size c.args.block (n * (count * size) / size) (take (count * size) (drop (n * (count * size)) old)) l pages) k.left
     (subst (λ (l : List ℕ). PutsAll size c.args.block (n * (count * size) / size) l k.after_call.now pages) k.argument_is k.call)))

@@ -8,12 +8,14 @@ use Rattle.mig_mem.proofs.region_puts.put_regions.Goals as goal
 
 pub for_each_chunk_mut-requires-clause-accepts : goal.for_each_chunk_mut-requires-clause-accepts
 for_each_chunk_mut-requires-clause-accepts g c κs within = λ start p is. (
-  (let h : start * c.args.per + c.args.per ≤ length c.args.regions.now * c.args.per = page_before c.args.per (length c.args.regions.now) start (omega (arith, is.in_bounds, is.nonempty)) in
+  (let h : start * c.args.per + c.args.per ≤ length c.args.regions.now * c.args.per =
+      page_before c.args.per (length c.args.regions.now) start (omega (arith, is.in_bounds, is.nonempty)) in
       omega (arith, h, c.requires.room)),
   (
     c.requires.per,
     (
-      (λ k d lt. subst (λ (x : BlockPages). IsRegion c.args.per c.args.size x) (sym (is.elements k d lt)) (c.requires.are (start + k) d (omega (arith, is.in_bounds, lt)))),
+      (λ k d lt. subst (λ (x : BlockPages). IsRegion c.args.per c.args.size x) (sym (is.elements k d lt))
+          (c.requires.are (start + k) d (omega (arith, is.in_bounds, lt)))),
       c.requires.sizes,
     ),
   ),

@@ -12,9 +12,11 @@ loop-page-init g c = regions_none c.args.size c.args.per c.args.block c.args.fir
 
 pub put_among-requires-clause-are : goal.put_among-requires-clause-are
 put_among-requires-clause-are g c =
-    regions_stay c.args.size c.args.per c.args.block c.args.first c.args.part.now c.loop-page.part (take c.loop-page.page-index c.args.pages.now) c.requires.are c.loop-page.invariant
+    regions_stay c.args.size c.args.per c.args.block c.args.first c.args.part.now c.loop-page.part
+    (take c.loop-page.page-index c.args.pages.now) c.requires.are c.loop-page.invariant
 
 pub loop-page-preserved : goal.loop-page-preserved
 loop-page-preserved g c =
     rw (take_more c.args.pages.now c.loop-page.page-index no_page c.loop-page-test.true)
-    (regions_more c.args.size c.args.per c.args.block c.args.first c.args.part.now c.loop-page.part c.put_among.new.part _ _ c.loop-page.invariant c.put_among.ensures)
+    (regions_more c.args.size c.args.per c.args.block c.args.first c.args.part.now c.loop-page.part c.put_among.new.part _ _
+    c.loop-page.invariant c.put_among.ensures)

@@ -13,7 +13,8 @@ put_pages-requires-clause-sizes g c κs within =
     let now = c.loop-b.blocks in
     let start = c.args.blocks.now in
     let lt : b < length now = omega (arith, c.loop-b.invariant.len) in
-    let same : get_or now b c.index-blocks-b.result ≡ pages_of_block start b = get_or_default now b c.index-blocks-b.result no_pages lt ∙ c.loop-b.invariant.behind b (omega arith) in
+    let same : get_or now b c.index-blocks-b.result ≡ pages_of_block start b =
+    get_or_default now b c.index-blocks-b.result no_pages lt ∙ c.loop-b.invariant.behind b (omega arith) in
     subst (λ (x : BlockPages). All (HasPageSize x.size) c.args.pages.now) (sym same) (c.requires.sizes b no_pages (omega arith))
 
 pub loop-b-preserved : goal.loop-b-preserved

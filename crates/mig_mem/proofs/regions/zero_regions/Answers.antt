@@ -17,13 +17,15 @@ pub overflow_mul-first : goal.overflow_mul-first
 overflow_mul-first g c =
     let few : c.args.count ≤ 268435456 = few_pages c.args.size c.args.count c.requires.size c.requires.room in
     let under = (div_ceil_times c.args.count c.args.per c.requires.per).1 in
-    let first : c.loop-i.i * c.args.per < c.args.count = begins c.args.count c.args.per c.div_ceil-regions_needed.result c.loop-i.i (rw c.div_ceil-regions_needed.ensures under) c.loop-i-test.true in
+    let first : c.loop-i.i * c.args.per < c.args.count =
+    begins c.args.count c.args.per c.div_ceil-regions_needed.result c.loop-i.i (rw c.div_ceil-regions_needed.ensures under) c.loop-i-test.true in
     omega arith
 
 pub overflow_sub-count : goal.overflow_sub-count
 overflow_sub-count g c =
     let under = (div_ceil_times c.args.count c.args.per c.requires.per).1 in
-    let first : c.loop-i.i * c.args.per < c.args.count = begins c.args.count c.args.per c.div_ceil-regions_needed.result c.loop-i.i (rw c.div_ceil-regions_needed.ensures under) c.loop-i-test.true in
+    let first : c.loop-i.i * c.args.per < c.args.count =
+    begins c.args.count c.args.per c.div_ceil-regions_needed.result c.loop-i.i (rw c.div_ceil-regions_needed.ensures under) c.loop-i-test.true in
     omega arith
 
 pub zeroed-requires-clause-room : goal.zeroed-requires-clause-room

@@ -20,4 +20,5 @@ returns-in-Faulty-clause-ok g c =
     let all : c.len.result + length c.args.piece.now ≡ length (c.args.pending.now.items ++ c.args.piece.now) =
     omega (arith, count, length-append c.args.pending.now.items c.args.piece.now) in
     now_faulty c.args.progress.now (c.args.pending.now.items ++ c.args.piece.now) c.fill_up.new.pending.items _ c.in-Faulty.fault all
-    (subst (λ (x : Filled). Fills c.args.progress.now (c.args.pending.now.items ++ c.args.piece.now) c.fill_up.new.pending.items x) c.in-Faulty.is c.in_ok-rest.ensures.ok)
+    (subst (λ (x : Filled). Fills c.args.progress.now
+    (c.args.pending.now.items ++ c.args.piece.now) c.fill_up.new.pending.items x) c.in-Faulty.is c.in_ok-rest.ensures.ok)

@@ -40,4 +40,5 @@ loop-j-preserved g c =
 pub returns : goal.returns
 returns g c =
     let ends = c.args.collector.now in
-    seen_none c.loop-j.j (map hello_in (received_of ends)) c.loop-j.seen c.loop-j.invariant (omega (arith, as_many ends, c.loop-j-test.false, c.len-j-end.ensures))
+    seen_none c.loop-j.j (map hello_in (received_of ends)) c.loop-j.seen c.loop-j.invariant
+    (omega (arith, as_many ends, c.loop-j-test.false, c.len-j-end.ensures))

@@ -1,4 +1,4 @@
-use Rattle.std.proofs.Common.{ℕ, ◌≡◌, ◌∙◌, Option, length, replicate, arith, ap, subst}
+use Rattle.std.proofs.Common.{ℕ, ◌≡◌, ◌∙◌, length, replicate, arith, ap, subst}
 use Rattle.std.proofs.lemmas.Result.{IfOk-weaker, IfErr-weaker}
 use Rattle.mig_single_load.specs.Settings.{mode_of}
 use Rattle.mig_stream.specs.Reading.{Settings, settings, in_frame, with_waiting}
@@ -23,10 +23,14 @@ returns-in_default-starts-clause-received g c = rw c.without_memory-in_default-s
 pub with_table-requires : goal.with_table-requires
 with_table-requires g c =
     let l = load_of_relay c.args.settings c.args.main.now c.args.collector.now c.page_size-page_size.ensures.relay in
-    let read : Mode → Settings = λ e. with_waiting c.waiting-waiting.result (in_frame c.args.settings.frame (settings e c.page_size-page_size.result c.args.settings.limit)) in
+    let read : Mode → Settings = λ e. with_waiting c.waiting-waiting.result
+    (in_frame c.args.settings.frame (settings e c.page_size-page_size.result c.args.settings.limit)) in
     let read_so = c.end.ensures.stands (read c.main_mode.result) (with_piece c.args.main.now nothing_yet) c.in-Ok.ensures.stands in
-    let stands : Stands (read (mode_of c.args.settings.round_end)) (over (with_piece c.args.main.now nothing_yet)) c.end.new.self = subst (λ (e : Mode). Stands (read e) (over (with_piece c.args.main.now nothing_yet)) c.end.new.self) c.main_mode.ensures read_so in
-    let places : c.in-Ok-starts.places.items ≡ replicate (length c.args.collector.now) 0 = c.in-Ok-starts.ensures ∙ ap (λ (m : ℕ). replicate m 0) c.len.ensures in (
+    let stands : Stands (read (mode_of c.args.settings.round_end))
+    (over (with_piece c.args.main.now nothing_yet)) c.end.new.self =
+    subst (λ (e : Mode). Stands (read e) (over (with_piece c.args.main.now nothing_yet)) c.end.new.self) c.main_mode.ensures read_so in
+    let places : c.in-Ok-starts.places.items ≡ replicate (length c.args.collector.now) 0 = c.in-Ok-starts.ensures
+    ∙ ap (λ (m : ℕ). replicate m 0) c.len.ensures in (
       l.0,
       rw places (begins_load c.args.settings c.args.main.now c.args.collector.now c.end.new.self l.0 c.page_size-page_size.result c.waiting-waiting.result l.1
           c.page_size-page_size.ensures.value c.waiting-waiting.ensures stands (omega arith)),
@@ -45,10 +49,14 @@ returns-in_default-starts-clause-some g c = load_of_relay c.args.settings c.args
 begun : (g : _) (c : goal.After-with_table g) (l : Load) → IsLoadOf c.args.settings c.args.main.now c.args.collector.now l
     → Begins l c.end.new.self c.in-Ok-starts.places.items c.args.collector.now
 begun g c l is =
-    let read : Mode → Settings = λ e. with_waiting c.waiting-waiting.result (in_frame c.args.settings.frame (settings e c.page_size-page_size.result c.args.settings.limit)) in
+    let read : Mode → Settings = λ e. with_waiting c.waiting-waiting.result
+    (in_frame c.args.settings.frame (settings e c.page_size-page_size.result c.args.settings.limit)) in
     let read_so = c.end.ensures.stands (read c.main_mode.result) (with_piece c.args.main.now nothing_yet) c.in-Ok.ensures.stands in
-    let stands : Stands (read (mode_of c.args.settings.round_end)) (over (with_piece c.args.main.now nothing_yet)) c.end.new.self = subst (λ (e : Mode). Stands (read e) (over (with_piece c.args.main.now nothing_yet)) c.end.new.self) c.main_mode.ensures read_so in
-    let places : c.in-Ok-starts.places.items ≡ replicate (length c.args.collector.now) 0 = c.in-Ok-starts.ensures ∙ ap (λ (m : ℕ). replicate m 0) c.len.ensures in
+    let stands : Stands (read (mode_of c.args.settings.round_end))
+    (over (with_piece c.args.main.now nothing_yet)) c.end.new.self =
+    subst (λ (e : Mode). Stands (read e) (over (with_piece c.args.main.now nothing_yet)) c.end.new.self) c.main_mode.ensures read_so in
+    let places : c.in-Ok-starts.places.items ≡ replicate (length c.args.collector.now) 0 = c.in-Ok-starts.ensures
+    ∙ ap (λ (m : ℕ). replicate m 0) c.len.ensures in
     rw places (begins_load c.args.settings c.args.main.now c.args.collector.now c.end.new.self l c.page_size-page_size.result c.waiting-waiting.result is
     c.page_size-page_size.ensures.value c.waiting-waiting.ensures stands (omega arith))
 

@@ -19,38 +19,42 @@ next_round-requires g c = (c.requires.0, c.rounds.invariant.goes c.requires.0 c.
 pub returns-in-Err-clause-ended : goal.returns-in-Err-clause-ended
 returns-in-Err-clause-ended g c = λ l before.
     let goes = c.rounds.invariant.goes l before in
-    ends_here l c.rounds.going.reader c.rounds.going.target c.next_round.new.going.target c.in-Err.verdict c.rounds.going.places.items c.rounds.collector c.next_round.new.collector
+    ends_here l c.rounds.going.reader c.rounds.going.target c.next_round.new.going.target c.in-Err.verdict
+    c.rounds.going.places.items c.rounds.collector c.next_round.new.collector
     goes c.next_round.ensures.target (c.in-Err.ensures.err l goes)
 
 pub returns-in-Err-clause-continues : goal.returns-in-Err-clause-continues
-returns-in-Err-clause-continues g c = all_go_further c.args.collector.now c.rounds.collector c.next_round.new.collector c.rounds.invariant.continues c.next_round.ensures.continues
+returns-in-Err-clause-continues g c = all_go_further c.args.collector.now c.rounds.collector c.next_round.new.collector
+    c.rounds.invariant.continues c.next_round.ensures.continues
 
-pub put-requires-clause-fits : goal.put-requires-clause-fits
-put-requires-clause-fits g c = (c.in-Ok.ensures.ok c.requires.0 (c.rounds.invariant.goes c.requires.0 c.requires.1)).comes.fits
+pub apply-requires-clause-fits : goal.apply-requires-clause-fits
+apply-requires-clause-fits g c = (c.in-Ok.ensures.ok c.requires.0 (c.rounds.invariant.goes c.requires.0 c.requires.1)).comes.fits
 
-pub put-requires-clause-page_sizes : goal.put-requires-clause-page_sizes
-put-requires-clause-page_sizes g c = (c.in-Ok.ensures.ok c.requires.0 (c.rounds.invariant.goes c.requires.0 c.requires.1)).has_page_size
+pub apply-requires-clause-page_sizes : goal.apply-requires-clause-page_sizes
+apply-requires-clause-page_sizes g c = (c.in-Ok.ensures.ok c.requires.0 (c.rounds.invariant.goes c.requires.0 c.requires.1)).has_page_size
 
-pub put-requires-clause-packets : goal.put-requires-clause-packets
-put-requires-clause-packets g c = (c.in-Ok.ensures.ok c.requires.0 (c.rounds.invariant.goes c.requires.0 c.requires.1)).comes.few_packets
+pub apply-requires-clause-packets : goal.apply-requires-clause-packets
+apply-requires-clause-packets g c = (c.in-Ok.ensures.ok c.requires.0 (c.rounds.invariant.goes c.requires.0 c.requires.1)).comes.few_packets
 
-pub returns-in-Err-put-clause-ended : goal.returns-in-Err-put-clause-ended
-returns-in-Err-put-clause-ended g c = λ l before.
+pub returns-in-Err-apply-clause-ended : goal.returns-in-Err-apply-clause-ended
+returns-in-Err-apply-clause-ended g c = λ l before.
     let ready = c.in-Ok.ensures.ok l (c.rounds.invariant.goes l before) in
     let target = c.next_round.new.going.target in
     let refused = subst (λ (r : Result ⊤ LoadFault). IsRoundError target.rounds
-    (refusal target.memory.table target.base (pages_of_round c.in-Ok.next.0) (map fields c.in-Ok.next.1)) r) c.in-Err-put.is c.put.ensures.refused in
-    ready_refused l c.next_round.new.going.reader c.next_round.new.going.target c.put.new.target c.in-Err-put.fault c.next_round.new.going.places.items c.next_round.new.collector
-    c.in-Ok.next.0 c.in-Ok.next.1 ready c.in-Err-put.ensures.err refused
+    (refusal target.memory.table target.base (pages_of_round c.in-Ok.next.0) (map fields c.in-Ok.next.1)) r) c.in-Err-apply.is c.apply.ensures.refused in
+    ready_refused l c.next_round.new.going.reader c.next_round.new.going.target c.apply.new.target c.in-Err-apply.fault
+    c.next_round.new.going.places.items c.next_round.new.collector
+    c.in-Ok.next.0 c.in-Ok.next.1 ready c.in-Err-apply.ensures.err refused
 
-pub returns-in-Err-put-clause-continues : goal.returns-in-Err-put-clause-continues
-returns-in-Err-put-clause-continues g c = all_go_further c.args.collector.now c.rounds.collector c.next_round.new.collector c.rounds.invariant.continues c.next_round.ensures.continues
+pub returns-in-Err-apply-clause-continues : goal.returns-in-Err-apply-clause-continues
+returns-in-Err-apply-clause-continues g c =
+    all_go_further c.args.collector.now c.rounds.collector c.next_round.new.collector c.rounds.invariant.continues c.next_round.ensures.continues
 
 pub rounds-preserved : goal.rounds-preserved
 rounds-preserved g c = record {
   goes = λ l before.
       let ready = c.in-Ok.ensures.ok l (c.rounds.invariant.goes l before) in
-      ready_put l c.next_round.new.going.reader c.next_round.new.going.target c.put.new.target c.next_round.new.going.places.items c.next_round.new.collector
+      ready_put l c.next_round.new.going.reader c.next_round.new.going.target c.apply.new.target c.next_round.new.going.places.items c.next_round.new.collector
       c.in-Ok.next.0 c.in-Ok.next.1 ready c.in_default.ensures.lawful c.in_default.ensures.ok c.in_default.ensures.few;
   continues = all_go_further c.args.collector.now c.rounds.collector c.next_round.new.collector c.rounds.invariant.continues c.next_round.ensures.continues;
 }

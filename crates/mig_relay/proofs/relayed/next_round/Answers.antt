@@ -23,7 +23,8 @@ end-requires g c =
     let last = of_none _ c.take_round.result c.take_round.ensures.ok none c.take_round.ensures.last given so_far goes.stands in
     let has = c.state-state.ensures given so_far (subst (λ r. Stands given so_far r) (sym same) goes.stands) in (
       l,
-      goes_to_end l c.rounds-rounds.result c.args.going.now.reader c.take_round.new.self c.args.going.now.target c.state-state.result c.args.going.now.places.items c.args.collector.now
+      goes_to_end l c.rounds-rounds.result c.args.going.now.reader c.take_round.new.self c.args.going.now.target
+          c.state-state.result c.args.going.now.places.items c.args.collector.now
           c.rounds-rounds.ensures goes same last has,
     )
 
@@ -35,13 +36,15 @@ returns-in_default-clause-err g c = λ l goes.
     let same = of_none _ c.take_round.result c.take_round.ensures.ok none c.take_round.ensures.none in
     let last = of_none _ c.take_round.result c.take_round.ensures.ok none c.take_round.ensures.last given so_far goes.stands in
     let has = c.state-state.ensures given so_far (subst (λ r. Stands given so_far r) (sym same) goes.stands) in
-    let at = goes_to_end l c.rounds-rounds.result c.args.going.now.reader c.take_round.new.self c.args.going.now.target c.state-state.result c.args.going.now.places.items c.args.collector.now
+    let at = goes_to_end l c.rounds-rounds.result c.args.going.now.reader c.take_round.new.self c.args.going.now.target
+    c.state-state.result c.args.going.now.places.items c.args.collector.now
     c.rounds-rounds.ensures goes same last has in
     subst (λ (n : ℕ). HasEnded l n c.end.result c.end.new.collector) c.rounds-rounds.ensures (c.end.ensures.ended l at)
 
-pub returns-in_default-told_at-clause-err : goal.returns-in_default-told_at-clause-err
-returns-in_default-told_at-clause-err g c = λ l goes.
-    ends_without l c.args.going.now.target.rounds c.no_memory.result c.args.going.now.places.items c.args.collector.now c.told_at.new.collector goes.loading c.told_at.ensures.continues
+pub returns-in_default-verdict_at_round-clause-err : goal.returns-in_default-verdict_at_round-clause-err
+returns-in_default-verdict_at_round-clause-err g c = λ l goes.
+    ends_without l c.args.going.now.target.rounds c.no_memory.result c.args.going.now.places.items c.args.collector.now
+    c.verdict_at_round.new.collector goes.loading c.verdict_at_round.ensures.continues
     (c.no_memory.ensures ∙ ap no_memory_at c.rounds-rounds.ensures)
 
 pub answer_of-requires : goal.answer_of-requires
@@ -56,8 +59,9 @@ answer_of-requires g c =
     let round = of_some _ c.in-Ok-Some.field-0 c.in-Ok-Some.round c.in-Ok-Some.field-0-is c.in-Ok-Some.ensures.round given so_far goes.stands in
     let lies = of_some _ c.in-Ok-Some.field-0 c.in-Ok-Some.round c.in-Ok-Some.field-0-is c.in-Ok-Some.ensures.places given so_far goes.stands in
     let comes = comes_in l c.args.going.now.reader target places ends c.in-Ok-Some.round goes round.0 round.1 lies in
-    let told = told_now l c.rounds-rounds.result target c.in-Ok.told (Some c.in-Some.verdict) places c.told_at.new.places.items ends c.told_at.new.collector c.in-Ok-Some.round
-    (map fields c.told_at.new.gathered) c.rounds-rounds.ensures c.in-Some.is comes (c.in-Ok.ensures.told l) in
+    let told = told_now l c.rounds-rounds.result target c.in-Ok.found
+    (Some c.in-Some.verdict) places c.verdict_at_round.new.places.items ends c.verdict_at_round.new.collector c.in-Ok-Some.round
+    (map fields c.verdict_at_round.new.gathered) c.rounds-rounds.ensures c.in-Some.is comes (c.in-Ok.ensures.told l) in
     (told.stops c.in-Some.verdict refl).2
 
 pub returns-in-Some-clause-err : goal.returns-in-Some-clause-err
@@ -70,10 +74,12 @@ returns-in-Some-clause-err g c = λ l goes.
     let round = of_some _ c.in-Ok-Some.field-0 c.in-Ok-Some.round c.in-Ok-Some.field-0-is c.in-Ok-Some.ensures.round given so_far goes.stands in
     let lies = of_some _ c.in-Ok-Some.field-0 c.in-Ok-Some.round c.in-Ok-Some.field-0-is c.in-Ok-Some.ensures.places given so_far goes.stands in
     let comes = comes_in l c.args.going.now.reader target places ends c.in-Ok-Some.round goes round.0 round.1 lies in
-    let packets = map fields c.told_at.new.gathered in
-    let told = told_now l c.rounds-rounds.result target c.in-Ok.told (Some c.in-Some.verdict) places c.told_at.new.places.items ends c.told_at.new.collector c.in-Ok-Some.round packets
+    let packets = map fields c.verdict_at_round.new.gathered in
+    let told = told_now l c.rounds-rounds.result target c.in-Ok.found
+    (Some c.in-Some.verdict) places c.verdict_at_round.new.places.items ends c.verdict_at_round.new.collector c.in-Ok-Some.round packets
     c.rounds-rounds.ensures c.in-Some.is comes (c.in-Ok.ensures.told l) in
-    ends_told l target.rounds Whole c.in-Some.verdict c.answer_of.result places c.told_at.new.places.items ends c.told_at.new.collector packets goes.loading c.told_at.ensures.continues told
+    ends_told l target.rounds Whole c.in-Some.verdict c.answer_of.result places c.verdict_at_round.new.places.items ends
+    c.verdict_at_round.new.collector packets goes.loading c.verdict_at_round.ensures.continues told
     c.answer_of.ensures
 
 pub returns-clause-ok : goal.returns-clause-ok
@@ -90,10 +96,12 @@ returns-clause-ok g c = λ l goes.
       places_before = places;
       ends_before = ends;
       comes = comes;
-      continues = c.told_at.ensures.continues;
-      told = told_now l c.rounds-rounds.result target c.in-Ok.told None places c.told_at.new.places.items ends c.told_at.new.collector c.in-Ok-Some.round (map fields c.told_at.new.gathered)
+      continues = c.verdict_at_round.ensures.continues;
+      told = told_now l c.rounds-rounds.result target c.in-Ok.found None places c.verdict_at_round.new.places.items ends
+          c.verdict_at_round.new.collector c.in-Ok-Some.round (map fields c.verdict_at_round.new.gathered)
           c.rounds-rounds.ensures c.in-None.is comes (c.in-Ok.ensures.told l);
-      has_page_size = sizes_of_packets l target.rounds target places ends c.told_at.new.gathered goes.loading goes.has_loaded c.in-Ok.ensures.page_size;
+      has_page_size = sizes_of_packets l target.rounds target places ends c.verdict_at_round.new.gathered goes.loading
+          goes.has_loaded c.in-Ok.ensures.page_size;
       stands = of_some _ c.in-Ok-Some.field-0 c.in-Ok-Some.round c.in-Ok-Some.field-0-is c.in-Ok-Some.ensures.stands given so_far goes.stands;
       is_short = goes.is_short;
     }

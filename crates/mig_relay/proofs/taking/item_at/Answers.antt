@@ -16,7 +16,8 @@ has g c = elim c.if-at-received.branch [
 ]
 
 pub bounds-received-at : goal.bounds-received-at
-bounds-received-at g c = is_below c.args.j c.args.at c.args.collector.now c.if-at-received.collector c.received-2.result.now (has g c) c.received-2.ensures.items
+bounds-received-at g c = is_below c.args.j c.args.at c.args.collector.now c.if-at-received.collector c.received-2.result.now
+    (has g c) c.received-2.ensures.items
 
 pub offset_bounds-received-at : goal.offset_bounds-received-at
 offset_bounds-received-at g c =

@@ -23,29 +23,35 @@ place_is places j at below is = slice_get_read places.items (length places.items
 pub index-requires : goal.index-requires
 index-requires g c =
     let below : c.loop-j.j < length c.args.collector.now = omega (arith, c.loop-j-test.true, c.len-j-end.ensures) in
-    let have = has_place c.requires.places.0 c.loop-j.j c.args.places.now.items c.loop-j.places.items c.args.collector.now c.loop-j.collector c.loop-j.invariant.rest c.requires.places.1 below in
+    let have = has_place c.requires.places.0 c.loop-j.j c.args.places.now.items c.loop-j.places.items c.args.collector.now
+    c.loop-j.collector c.loop-j.invariant.rest c.requires.places.1 below in
     omega (arith, have, c.loop-j.places.ok.0)
 
 pub take_of_channel-requires-clause-at : goal.take_of_channel-requires-clause-at
 take_of_channel-requires-clause-at g c =
     let below : c.loop-j.j < length c.args.collector.now = omega (arith, c.loop-j-test.true, c.len-j-end.ensures) in
-    let have = has_place c.requires.places.0 c.loop-j.j c.args.places.now.items c.loop-j.places.items c.args.collector.now c.loop-j.collector c.loop-j.invariant.rest c.requires.places.1 below in (
+    let have = has_place c.requires.places.0 c.loop-j.j c.args.places.now.items c.loop-j.places.items c.args.collector.now
+    c.loop-j.collector c.loop-j.invariant.rest c.requires.places.1 below in (
       c.requires.places.0,
-      next_at_round c.requires.places.0 c.loop-j.j c.index.result.now c.args.places.now.items c.loop-j.places.items c.args.collector.now c.loop-j.collector c.loop-j.invariant.rest c.requires.places.1 below
+      next_at_round c.requires.places.0 c.loop-j.j c.index.result.now c.args.places.now.items c.loop-j.places.items
+          c.args.collector.now c.loop-j.collector c.loop-j.invariant.rest c.requires.places.1 below
           (place_is c.loop-j.places c.loop-j.j c.index.result.now have c.index.ensures),
     )
 
 pub returns-in_err-status-clause-continues : goal.returns-in_err-status-clause-continues
-returns-in_err-status-clause-continues g c = all_go_further c.args.collector.now c.loop-j.collector c.take_of_channel.new.collector c.loop-j.invariant.continues c.take_of_channel.ensures.continues
+returns-in_err-status-clause-continues g c =
+    all_go_further c.args.collector.now c.loop-j.collector c.take_of_channel.new.collector c.loop-j.invariant.continues c.take_of_channel.ensures.continues
 
 pub index_mut-requires : goal.index_mut-requires
 index_mut-requires g c =
     let below : c.loop-j.j < length c.args.collector.now = omega (arith, c.loop-j-test.true, c.len-j-end.ensures) in
-    let have = has_place c.requires.places.0 c.loop-j.j c.args.places.now.items c.loop-j.places.items c.args.collector.now c.loop-j.collector c.loop-j.invariant.rest c.requires.places.1 below in
+    let have = has_place c.requires.places.0 c.loop-j.j c.args.places.now.items c.loop-j.places.items c.args.collector.now
+    c.loop-j.collector c.loop-j.invariant.rest c.requires.places.1 below in
     omega (arith, have, c.loop-j.places.ok.0)
 
 pub returns-in_err-push-clause-continues : goal.returns-in_err-push-clause-continues
-returns-in_err-push-clause-continues g c = all_go_further c.args.collector.now c.loop-j.collector c.take_of_channel.new.collector c.loop-j.invariant.continues c.take_of_channel.ensures.continues
+returns-in_err-push-clause-continues g c =
+    all_go_further c.args.collector.now c.loop-j.collector c.take_of_channel.new.collector c.loop-j.invariant.continues c.take_of_channel.ensures.continues
 
 pub loop-j-preserved : goal.loop-j-preserved
 loop-j-preserved g c =
@@ -72,10 +78,12 @@ loop-j-preserved g c =
           (gone_more k j at to places_before places old now new c.loop-j.statuses.items status c.loop-j.gathered more c.loop-j.invariant.rest are
           (place_is c.loop-j.places j at have c.index.ensures) (c.loop-j.invariant.gone k are) goes);
       sizes = λ page_size all. rw found.1
-          (sizes_more page_size j at to places_before places old now new status c.loop-j.gathered more c.loop-j.invariant.rest goes all (c.loop-j.invariant.sizes page_size all));
+          (sizes_more page_size j at to places_before places old now new status c.loop-j.gathered more c.loop-j.invariant.rest
+          goes all (c.loop-j.invariant.sizes page_size all));
     }
 
 pub returns-clause-ok : goal.returns-clause-ok
 returns-clause-ok g c = λ k are.
-    gone_all k c.loop-j.j c.args.places.now.items c.loop-j.places.items c.args.collector.now c.loop-j.collector c.loop-j.statuses.items c.loop-j.gathered c.loop-j.invariant.rest are (c.loop-j.invariant.gone k are)
+    gone_all k c.loop-j.j c.args.places.now.items c.loop-j.places.items c.args.collector.now c.loop-j.collector
+    c.loop-j.statuses.items c.loop-j.gathered c.loop-j.invariant.rest are (c.loop-j.invariant.gone k are)
     (omega (arith, c.loop-j-test.false, c.len-j-end.ensures))

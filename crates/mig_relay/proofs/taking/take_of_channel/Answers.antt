@@ -26,7 +26,8 @@ loop-preserved-in-Hello g c =
     let gives = subst (GivesItem c.args.j c.loop.at c.loop.collector c.item_at.new.collector) c.in-Hello.is c.in_ok-item.ensures.item in (
       c.loop.invariant.0,
       c.loop.invariant.1,
-      going_hello c.args.j c.args.at c.loop.at c.in-Hello.field-0 c.args.collector.now c.loop.collector c.item_at.new.collector c.loop.invariant.0 c.loop.invariant.2 gives,
+      going_hello c.args.j c.args.at c.loop.at c.in-Hello.field-0 c.args.collector.now c.loop.collector c.item_at.new.collector
+          c.loop.invariant.0 c.loop.invariant.2 gives,
     )
 
 pub returns-in-Stop-clause-ok : goal.returns-in-Stop-clause-ok
@@ -34,8 +35,10 @@ returns-in-Stop-clause-ok g c =
     let gives = subst (GivesItem c.args.j c.loop.at c.loop.collector c.item_at.new.collector) c.in-Stop.is c.in_ok-item.ensures.item in (
       c.loop.invariant.0,
       c.loop.invariant.1,
-      subst (λ (s : Status). GoesThrough c.args.j c.args.at c.args.collector.now c.item_at.new.collector (c.loop.at + 1) s c.loop.invariant.0) (sym c.stop_status.ensures)
-          (gone_stop c.args.j c.args.at c.loop.at c.in-Stop.end c.args.collector.now c.loop.collector c.item_at.new.collector c.loop.invariant.0 c.loop.invariant.2 gives),
+      subst (λ (s : Status). GoesThrough c.args.j c.args.at c.args.collector.now c.item_at.new.collector
+          (c.loop.at + 1) s c.loop.invariant.0) (sym c.stop_status.ensures)
+          (gone_stop c.args.j c.args.at c.loop.at c.in-Stop.end c.args.collector.now c.loop.collector c.item_at.new.collector
+          c.loop.invariant.0 c.loop.invariant.2 gives),
     )
 
 pub returns-in-Stop-clause-continues : goal.returns-in-Stop-clause-continues
@@ -49,7 +52,8 @@ returns-in_err-push-in-Page-clause-continues g c =
     (going_within c.args.j c.args.at c.loop.at c.args.collector.now c.loop.collector c.loop.invariant.0 c.loop.invariant.2) c.item_at.ensures.continues
 
 -- the packets so far, and one more
-pushed : (old gathered new packets : List Packet) (packet : Packet) → gathered ≡ old ++ packets → new ≡ gathered ++ packet ∷ [] → new ≡ old ++ (packets ++ packet ∷ [])
+pushed : (old gathered new packets : List Packet) (packet : Packet) → gathered ≡ old ++ packets → new ≡ gathered ++ packet ∷ []
+    → new ≡ old ++ (packets ++ packet ∷ [])
 pushed old gathered new packets packet so_far push = push ∙ ap (λ (l : List Packet). l ++ packet ∷ []) so_far ∙ append_assoc old packets (packet ∷ [])
 
 pub returns-then-sync-clause-ok : goal.returns-then-sync-clause-ok
@@ -59,7 +63,8 @@ returns-then-sync-clause-ok g c =
     let gives = subst (GivesItem c.args.j c.loop.at c.loop.collector c.item_at.new.collector) c.in-Page.is c.in_ok-item.ensures.item in (
       packets ++ packet ∷ [],
       pushed c.args.gathered.now c.loop.gathered c.push.new.self packets packet c.loop.invariant.1 c.in_ok-push-in-Page.ensures.ok,
-      gone_whole c.args.j c.args.at c.loop.at packet c.args.collector.now c.loop.collector c.item_at.new.collector packets c.loop.invariant.2 gives (sym c.sync.ensures ∙ c.if-sync.true),
+      gone_whole c.args.j c.args.at c.loop.at packet c.args.collector.now c.loop.collector c.item_at.new.collector packets
+          c.loop.invariant.2 gives (sym c.sync.ensures ∙ c.if-sync.true),
     )
 
 pub returns-then-sync-clause-continues : goal.returns-then-sync-clause-continues
@@ -74,5 +79,6 @@ loop-preserved g c =
     let gives = subst (GivesItem c.args.j c.loop.at c.loop.collector c.item_at.new.collector) c.in-Page.is c.in_ok-item.ensures.item in (
       packets ++ packet ∷ [],
       pushed c.args.gathered.now c.loop.gathered c.push.new.self packets packet c.loop.invariant.1 c.in_ok-push-in-Page.ensures.ok,
-      going_packet c.args.j c.args.at c.loop.at packet c.args.collector.now c.loop.collector c.item_at.new.collector packets c.loop.invariant.2 gives (sym c.sync.ensures ∙ c.if-sync.false),
+      going_packet c.args.j c.args.at c.loop.at packet c.args.collector.now c.loop.collector c.item_at.new.collector packets
+          c.loop.invariant.2 gives (sym c.sync.ensures ∙ c.if-sync.false),
     )

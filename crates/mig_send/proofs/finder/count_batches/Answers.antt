@@ -25,7 +25,8 @@ overflow_add-count g c =
 
 pub batches-preserved : goal.batches-preserved
 batches-preserved g c =
-    one_counted c.args.limit c.args.dirty.now.marked c.batches.count c.in-Some.first c.after_batch-next.result (rw c.in-Some.is at c.batches.invariant) c.after_batch-next.ensures
+    one_counted c.args.limit c.args.dirty.now.marked c.batches.count c.in-Some.first c.after_batch-next.result
+    (rw c.in-Some.is at c.batches.invariant) c.after_batch-next.ensures
 
 pub returns-clause-count : goal.returns-clause-count
 returns-clause-count g c = (all_counted c.args.limit c.args.dirty.now.marked c.batches.count (rw c.in_default.is at c.batches.invariant)).0

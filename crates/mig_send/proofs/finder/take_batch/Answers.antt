@@ -8,9 +8,11 @@ unreachable-requires g c =
 pub returns-clause-batch : goal.returns-clause-batch
 returns-clause-batch g c =
     let made = c.unpacked-batch.result in
-    (walk_on c.args.limit c.args.dirty.now.marked c.args.walk c.in-Some.first made.0 made.1 c.requires.walk c.in-Some.is c.unpacked-batch.ensures.batch c.unpacked-batch.ensures.behind).0
+    (walk_on c.args.limit c.args.dirty.now.marked c.args.walk c.in-Some.first made.0 made.1 c.requires.walk c.in-Some.is
+    c.unpacked-batch.ensures.batch c.unpacked-batch.ensures.behind).0
 
 pub returns-clause-walk : goal.returns-clause-walk
 returns-clause-walk g c =
     let made = c.unpacked-batch.result in
-    (walk_on c.args.limit c.args.dirty.now.marked c.args.walk c.in-Some.first made.0 made.1 c.requires.walk c.in-Some.is c.unpacked-batch.ensures.batch c.unpacked-batch.ensures.behind).1
+    (walk_on c.args.limit c.args.dirty.now.marked c.args.walk c.in-Some.first made.0 made.1 c.requires.walk c.in-Some.is
+    c.unpacked-batch.ensures.batch c.unpacked-batch.ensures.behind).1

@@ -13,6 +13,7 @@ loop-walk-preserved g c =
     let marked = c.args.dirty.now.marked in
     let after = c.after_batch.ensures in
     record {
-      is_walk = (walk_on c.args.limit marked c.loop-walk.walk c.in-Some.first after.batch c.after_batch.result c.loop-walk.invariant.is_walk c.in-Some.is after.is_first after.is_in_set).1;
+      is_walk = (walk_on c.args.limit marked c.loop-walk.walk c.in-Some.first after.batch c.after_batch.result
+          c.loop-walk.invariant.is_walk c.in-Some.is after.is_first after.is_in_set).1;
       is_before = omega arith;
     }

@@ -17,7 +17,8 @@ channels-preserved g c =
     let before = c.channels.invariant in
     let inside : i < length news = omega (arith, c.channels-test.true, c.requires, before.len, c.channels.channels.ok.0) in
     let cut : List (List ℕ) = cut_texts (take i lens) olds in
-    let at : text.items ≡ get_or cut i [] = ap items c.index_mut.ensures.value ∙ (sym (get_or-map items news i text [] inside) ∙ ap (λ (l : List (List ℕ)). get_or l i []) before.texts) in
+    let at : text.items ≡ get_or cut i [] = ap items c.index_mut.ensures.value
+    ∙ (sym (get_or-map items news i text [] inside) ∙ ap (λ (l : List (List ℕ)). get_or l i []) before.texts) in
     let long : i < length cut = omega (arith, inside, length-map news items, ap length before.texts) in
     let next : suc i ≡ i + 1 = omega arith in
     record {

@@ -8,7 +8,8 @@ use Rattle.mig_send.proofs.packed.append_packet.Goals as goal
 
 pub append_pages-requires-clause-block : goal.append_pages-requires-clause-block
 append_pages-requires-clause-block g c =
-    let lt = batch_block (g.M.GuestPages.image c.args.memory.now).table c.args.batch.now c.requires in rw (ap (λ (b : BatchOfPages). b.block) c.batch.view_is) lt
+    let lt = batch_block (g.M.GuestPages.image c.args.memory.now).table c.args.batch.now c.requires in
+    rw (ap (λ (b : BatchOfPages). b.block) c.batch.view_is) lt
 
 pub append_pages-requires-clause-few : goal.append_pages-requires-clause-few
 append_pages-requires-clause-few g c =

@@ -10,7 +10,8 @@ use Rattle.mig_send.proofs.packed.put_flagged.Goals as goal
 pub overflow_mul-offset : goal.overflow_mul-offset
 overflow_mul-offset g c =
     let fits : get_or c.args.pages.now c.loop-i.i 0 * c.page_size-page_size.result < 2 ^ 64 =
-    rw c.page_size-page_size.ensures (page_offset_fits c.args.table.now c.args.block c.args.pages.now c.loop-i.i c.requires.table c.requires.places c.loop-i-test.true) in
+    rw c.page_size-page_size.ensures (page_offset_fits c.args.table.now c.args.block c.args.pages.now c.loop-i.i c.requires.table
+    c.requires.places c.loop-i-test.true) in
     omega (arith, fits)
 
 pub loop-i-preserved-then-zeros-i : goal.loop-i-preserved-then-zeros-i
@@ -52,9 +53,11 @@ loop-i-preserved g c =
 pub returns-clause-normal : goal.returns-clause-normal
 returns-clause-normal g c =
     let pages : List (ℕ × Bool) = zip c.args.pages.now c.args.zeros.now in
-    c.loop-i.invariant.normal ∙ ap (others_at c.args.table.now.page_size) (take_all c.loop-i.i pages (let e = length-zip c.args.pages.now c.args.zeros.now in omega (arith, e, c.loop-i-test.false)))
+    c.loop-i.invariant.normal ∙ ap (others_at c.args.table.now.page_size)
+    (take_all c.loop-i.i pages (let e = length-zip c.args.pages.now c.args.zeros.now in omega (arith, e, c.loop-i-test.false)))
 
 pub returns-clause-zero : goal.returns-clause-zero
 returns-clause-zero g c =
     let pages : List (ℕ × Bool) = zip c.args.pages.now c.args.zeros.now in
-    c.loop-i.invariant.zero ∙ ap (zeros_at c.args.table.now.page_size) (take_all c.loop-i.i pages (let e = length-zip c.args.pages.now c.args.zeros.now in omega (arith, e, c.loop-i-test.false)))
+    c.loop-i.invariant.zero ∙ ap (zeros_at c.args.table.now.page_size)
+    (take_all c.loop-i.i pages (let e = length-zip c.args.pages.now c.args.zeros.now in omega (arith, e, c.loop-i-test.false)))

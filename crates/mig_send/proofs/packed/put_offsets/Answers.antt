@@ -19,7 +19,8 @@ overflow_mul-offset g c =
     let size : c.page_size-page_size.result ≡ (g.M.GuestPages.image c.args.memory.now).table.page_size =
     c.page_size-page_size.ensures ∙ ap (λ (t : RamTable). t.page_size) c.table.ensures.value in
     let fits : get_or c.args.pages.now c.loop-page.page-index 0 * c.page_size-page_size.result < 2 ^ 64 =
-    rw size (page_offset_fits (g.M.GuestPages.image c.args.memory.now).table c.args.block c.args.pages.now c.loop-page.page-index c.requires.table c.requires.places
+    rw size (page_offset_fits (g.M.GuestPages.image c.args.memory.now).table c.args.block c.args.pages.now c.loop-page.page-index
+    c.requires.table c.requires.places
     c.loop-page-test.true) in
     omega (arith, fits)
 

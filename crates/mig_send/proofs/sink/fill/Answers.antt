@@ -13,7 +13,8 @@ draws-preserved g c =
     let batch = c.index-batches-number.result in
     let claims = subst (λ (base : ℕ). batch ≡ get_or c.args.batches.now (c.in-Work.number - base) batch) c.base.ensures c.index-batches-number.is in
     record {
-      so_far = filled_more g.S.Sink.entries (g.M.GuestPages.image c.args.memory.now) c.args.batches.now c.args.deal.now c.args.seat c.draws.seat c.in-Work.next c.in-Work.number batch
+      so_far = filled_more g.S.Sink.entries (g.M.GuestPages.image c.args.memory.now) c.args.batches.now c.args.deal.now
+          c.args.seat c.draws.seat c.in-Work.next c.in-Work.number batch
           (g.S.Sink.held c.args.sink.now) (g.S.Sink.held c.draws.sink) (g.S.Sink.held c.add_after-made.new.sink) c.draws.made c.add_after-made.result
           c.draws.invariant.so_far c.requires.own c.requires.batches.as_many is.0.appended is.0.next is.1
           claims c.add_after-made.ensures.made c.add_after-made.ensures.ok c.add_after-made.ensures.prefix;

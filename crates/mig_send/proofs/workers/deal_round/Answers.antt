@@ -73,6 +73,15 @@ returns-clause-ok g c =
     let channels_long = length-map channels.items (λ text. text.items) in
     let seats : deal.seats ≡ length olds = omega (arith, terms.2, c.len-count.ensures, channels.ok.0, channels_long) in
     let long : length spents.items ≡ length olds =
-    omega (arith, AllZip-long HasSpent slots.items spents.items c.put_back-made.ensures.spents, slots.ok.0, c.run_slots.ensures.count, c.seat_all.ensures.count, channels.ok.0, channels_long) in
-    carried deal image c.args.batches.now olds (texts_of c.put_back-made.new.channels.items) slots.items spents.items c.put_back-made.result c.args.base c.close-next.result
+    omega (
+      arith,
+      AllZip-long HasSpent slots.items spents.items c.put_back-made.ensures.spents,
+      slots.ok.0,
+      c.run_slots.ensures.count,
+      c.seat_all.ensures.count,
+      channels.ok.0,
+      channels_long,
+    ) in
+    carried deal image c.args.batches.now olds
+    (texts_of c.put_back-made.new.channels.items) slots.items spents.items c.put_back-made.result c.args.base c.close-next.result
     are c.put_back-made.ensures.texts c.put_back-made.ensures.made terms.0 terms.1 seats long c.close-next.ensures.next c.close-next.ensures.once

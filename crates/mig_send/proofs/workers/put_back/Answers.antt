@@ -30,7 +30,8 @@ slots-preserved g c =
       done = All-tail IsAnswer slot (reverse left) answers;
       returned = returned_more c.args.slots.items left c.slots.channels.items c.put.new.list.items c.slots.spents.items c.put-in-Done.new.list.items
           c.slots.all_made c.both-all_made.result slot c.in-Done.written c.in-Done.is
-          (subst (λ l. HaveReturned c.args.slots.items l c.slots.channels.items c.slots.spents.items c.slots.all_made) c.in-Some.ensures.items before.returned) c.put.ensures.items c.put-in-Done.ensures.items c.both-all_made.ensures;
+          (subst (λ l. HaveReturned c.args.slots.items l c.slots.channels.items c.slots.spents.items c.slots.all_made)
+          c.in-Some.ensures.items before.returned) c.put.ensures.items c.put-in-Done.ensures.items c.both-all_made.ensures;
       room_for_texts = omega (arith, before.room_for_texts, c.in-Some.ensures.len, c.put.ensures.len, c.put.ensures.capacity);
       room_for_seats = omega (arith, before.room_for_seats, c.in-Some.ensures.len, c.put-in-Done.ensures.len, c.put-in-Done.ensures.capacity);
     }

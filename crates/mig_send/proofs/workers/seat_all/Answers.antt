@@ -20,7 +20,8 @@ texts-init g c =
     record {
       new = c.requires.new;
       ready = λ i d lt. absurd (omega (arith, lt, ap length none));
-      texts = ap texts_of (sym (reverse-reverse olds) ∙ ap reverse (sym c.reverse.ensures.items)) ∙ ap (λ l. map slot_text l ++ texts_of (reverse left)) (sym none);
+      texts = ap texts_of (sym (reverse-reverse olds) ∙ ap reverse (sym c.reverse.ensures.items))
+          ∙ ap (λ l. map slot_text l ++ texts_of (reverse left)) (sym none);
       as_many = c.requires.as_many ∙ sym long;
       count = omega (arith, slots.ok.0, ap length none, long);
       room = omega (arith, slots.ok.0, ap length none, long, c.requires.room.1, c.requires.as_many);
@@ -38,7 +39,8 @@ texts-preserved g c =
       new = all_front P left c.in-Some-pop.seat seats;
       ready = subst (All (IsReady c.args.deal.now)) (sym c.put.ensures.items)
           (All-push (IsReady c.args.deal.now) c.texts.slots.items slot before.ready (all_end P left c.in-Some-pop.seat seats));
-      texts = seated_more (texts_of c.args.channels.now.items) c.texts.slots.items c.put.new.list.items c.texts.channels.items c.pop.new.self.items slot c.in-Some.text
+      texts = seated_more (texts_of c.args.channels.now.items) c.texts.slots.items c.put.new.list.items c.texts.channels.items
+          c.pop.new.self.items slot c.in-Some.text
           before.texts c.in-Some.ensures.items c.put.ensures.items refl;
       as_many = omega (arith, before.as_many, c.in-Some.ensures.len, c.in-Some-pop.ensures.len);
       count = omega (arith, before.count, c.in-Some.ensures.len, c.put.ensures.len);

@@ -41,7 +41,8 @@ returns-in-Ok-eq0-clause-pumped g c =
     let ends : Ends c.args.source c.loop.session new =
     record { steps = e.steps; lacking = e.lacking; settled = e.settled; has_counts = e.counts; same_target = e.same } in
     let pumps : Pumps c.args.source c.args.turns (Ok c.loop.total) (reads before) (reads after) (left before) (left after) old new =
-    finds_end c.args.source c.args.turns c.loop.counter c.loop.total (reads before) (reads here) (reads after) (left before) (left here) (left after) old c.loop.session new
+    finds_end c.args.source c.args.turns c.loop.counter c.loop.total (reads before) (reads here) (reads after) (left before)
+    (left here) (left after) old c.loop.session new
     c.loop-test.true c.loop.invariant.so_far is_end given (read.bytes.1 none (omega (arith, read.len, long))) ends in pumps.pump_step
 
 pub feed-requires-clause-room : goal.feed-requires-clause-room
@@ -49,7 +50,8 @@ feed-requires-clause-room g c =
     let reads = g.P.PieceReader.reads in
     let left = g.P.PieceReader.remaining in
     let short : c.in-Ok.n ≤ piece_limit = omega (arith, c.in-Ok.ensures.within, c.deref_mut.ensures.len, c.loop.invariant.has_room) in
-    let room = has_room c.args.source c.args.turns c.loop.counter c.loop.total c.in-Ok.n (reads c.args.reader.now) (reads c.loop.reader) (left c.args.reader.now) (left c.loop.reader)
+    let room = has_room c.args.source c.args.turns c.loop.counter c.loop.total c.in-Ok.n (reads c.args.reader.now)
+    (reads c.loop.reader) (left c.args.reader.now) (left c.loop.reader)
     c.args.session.now c.loop.session c.loop.invariant.so_far c.requires.source c.requires.room c.loop-test.true short in
     omega (arith, room, front_len c.in-Ok.n c.deref.result.now (omega (arith, c.deref.ensures.len, c.loop.invariant.has_room, short)))
 
@@ -65,15 +67,23 @@ returns-in_err-feed-in-Ok-clause-pumped g c =
     let piece = take c.in-Ok.n c.deref.result.now in
     let read = c.in-Ok.ensures in
     let q : ReadsPiece c.in-Ok.n piece (reads here) (reads after) (left here) (left after) =
-    reads_piece c.in-Ok.n c.loop.buffer.len c.deref_mut.result.now c.loop.buffer.items c.read_piece.new.piece c.deref.result.now (reads here) (reads after) (left here) (left after)
-    c.in-Ok.n-test.1 read.within read.len c.deref_mut.ensures.value c.deref_mut.ensures.len c.loop.invariant.has_room c.deref.ensures.value read.reads read.bytes.0 in
+    reads_piece c.in-Ok.n c.loop.buffer.len c.deref_mut.result.now c.loop.buffer.items c.read_piece.new.piece c.deref.result.now
+    (reads here) (reads after) (left here) (left after)
+    c.in-Ok.n-test.1 read.within read.len c.deref_mut.ensures.value c.deref_mut.ensures.len c.loop.invariant.has_room
+    c.deref.ensures.value read.reads read.bytes.0 in
     let e = c.in_err-feed-in-Ok.ensures in
-    let f : Feeds c.args.source piece c.loop.session new = record { lacking = e.lacking; settled = λ over. (e.settled over).1; has_counts = e.counts; keeps = e.keeps } in
+    let f : Feeds c.args.source piece c.loop.session new = record {
+      lacking = e.lacking;
+      settled = λ over. (e.settled over).1;
+      has_counts = e.counts;
+      keeps = e.keeps;
+    } in
     let result = c.from_residual-in_err-feed-in-Ok.result in
     let pumps : Pumps c.args.source c.args.turns result (reads before) (reads after) (left before) (left after) old new =
     subst (λ (r : Result ℕ PumpFault). Pumps c.args.source c.args.turns r (reads before) (reads after) (left before) (left after) old new)
     (sym (is_no_memory result c.from_residual-in_err-feed-in-Ok.ensures))
-    (runs_out c.args.source c.args.turns c.loop.counter c.loop.total c.in-Ok.n piece (reads before) (reads here) (reads after) (left before) (left here) (left after) old c.loop.session new
+    (runs_out c.args.source c.args.turns c.loop.counter c.loop.total c.in-Ok.n piece (reads before) (reads here) (reads after)
+    (left before) (left here) (left after) old c.loop.session new
     c.requires.source c.loop-test.true c.loop.invariant.so_far q f e.err e.failed (λ over. let no = (e.settled over).0 in cc)) in pumps.pump_step
 
 pub overflow_add-total : goal.overflow_add-total
@@ -92,12 +102,20 @@ loop-preserved g c =
     let piece = take c.in-Ok.n c.deref.result.now in
     let read = c.in-Ok.ensures in
     let q : ReadsPiece c.in-Ok.n piece (reads here) (reads after) (left here) (left after) =
-    reads_piece c.in-Ok.n c.loop.buffer.len c.deref_mut.result.now c.loop.buffer.items c.read_piece.new.piece c.deref.result.now (reads here) (reads after) (left here) (left after)
-    c.in-Ok.n-test.1 read.within read.len c.deref_mut.ensures.value c.deref_mut.ensures.len c.loop.invariant.has_room c.deref.ensures.value read.reads read.bytes.0 in
+    reads_piece c.in-Ok.n c.loop.buffer.len c.deref_mut.result.now c.loop.buffer.items c.read_piece.new.piece c.deref.result.now
+    (reads here) (reads after) (left here) (left after)
+    c.in-Ok.n-test.1 read.within read.len c.deref_mut.ensures.value c.deref_mut.ensures.len c.loop.invariant.has_room
+    c.deref.ensures.value read.reads read.bytes.0 in
     let e = c.in_ok-feed-in-Ok.ensures in
-    let f : Feeds c.args.source piece c.loop.session c.feed.new.self = record { lacking = e.lacking; settled = λ over. (e.settled over).1; has_counts = e.counts; keeps = e.keeps } in
+    let f : Feeds c.args.source piece c.loop.session c.feed.new.self = record {
+      lacking = e.lacking;
+      settled = λ over. (e.settled over).1;
+      has_counts = e.counts;
+      keeps = e.keeps;
+    } in
     record {
-      so_far = goes_on c.args.source c.loop.counter c.loop.total c.in-Ok.n piece (reads before) (reads here) (reads after) (left before) (left here) (left after)
+      so_far = goes_on c.args.source c.loop.counter c.loop.total c.in-Ok.n piece (reads before) (reads here) (reads after)
+          (left before) (left here) (left after)
           c.args.session.now c.loop.session c.feed.new.self c.requires.source c.loop.invariant.so_far q f e.ok;
       has_room = c.loop.invariant.has_room;
     }

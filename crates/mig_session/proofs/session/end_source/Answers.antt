@@ -11,10 +11,15 @@ note-requires g c =
 
 pub returns-clause-holds : goal.returns-clause-holds
 returns-clause-holds g c = λ given uuid k texts holds.
-    subst (λ (s : FedSources). Holds given uuid k (end_step c.args.source texts) s) (sym c.told.ensures.same) (c.end.ensures.holds given uuid k texts holds)
+    subst (λ (s : FedSources). Holds given uuid k (end_step c.args.source texts) s) (sym c.sources_verdict.ensures.same)
+    (c.end.ensures.holds given uuid k texts holds)
 
 pub returns-clause-told : goal.returns-clause-told
-returns-clause-told g c = (c.told.result, subst (λ (s : FedSources). TellsAll c.args.rounds s c.told.result) (sym c.told.ensures.same) c.told.ensures.told, c.unwrap_or.ensures)
+returns-clause-told g c = (
+  c.sources_verdict.result,
+  subst (λ (s : FedSources). TellsAll c.args.rounds s c.sources_verdict.result) (sym c.sources_verdict.ensures.same) c.sources_verdict.ensures.told,
+  c.unwrap_or.ensures,
+)
 
 pub returns-clause-places : goal.returns-clause-places
 returns-clause-places g c = λ given uuid k texts holds have. c.note.ensures given uuid k over texts (c.end.ensures.holds given uuid k texts holds) have

@@ -6,7 +6,7 @@ use Rattle.mig_session.proofs.session.judge_rounds.Given as goal
 abbrev pub invariant-rounds : goal.invariant-rounds
 invariant-rounds g l = record {
   advances : (f : Feeding) → Advances f l.fn.sources (Some l.fn.target) → Advances f l.sources (Some l.target);
-  told : TellsAll l.target.rounds l.sources l.told;
+  told : TellsAll l.target.rounds l.sources l.found;
   counts : counts_of l.sources ≡ counts_of l.fn.sources;
   more : l.fn.target.rounds ≤ l.target.rounds;
 }

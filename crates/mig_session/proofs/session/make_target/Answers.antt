@@ -11,7 +11,8 @@ returns-in_ok-new-in-Some-clause-ok g c = λ f advances.
     let none : c.args.target.now ≡ None = none_where c.args.target.now (c.is_some.ensures) c.if-is_some.false in
     let before = subst (λ (o : Option LoadTarget). Advances f c.args.sources.now o) none advances in
     let found : f.readings.main.table ≡ Some c.in-Some.table.now =
-    table_found f c.args.sources.now (option_copied c.table.result) before (c.table.ensures f.given f.uuid 0 f.texts before.holds) ∙ ap option_copied c.in-Some.is in (
+    table_found f c.args.sources.now (option_copied c.table.result) before (c.table.ensures f.given f.uuid 0 f.texts before.holds)
+    ∙ ap option_copied c.in-Some.is in (
       zeros_advance f c.args.sources.now c.in-Some.table.now c.in_ok-new-in-Some.field-0 before found c.in_ok-new-in-Some.ensures,
       λ bad. absurd cc,
     )
@@ -28,5 +29,6 @@ returns-in-None-clause-ok g c = λ f advances. (
   advances,
   λ none.
       let before = subst (λ (o : Option LoadTarget). Advances f c.args.sources.now o) none advances in
-      table_found f c.args.sources.now (option_copied c.table.result) before (c.table.ensures f.given f.uuid 0 f.texts before.holds) ∙ ap option_copied c.in-None.is,
+      table_found f c.args.sources.now (option_copied c.table.result) before
+      (c.table.ensures f.given f.uuid 0 f.texts before.holds) ∙ ap option_copied c.in-None.is,
 )

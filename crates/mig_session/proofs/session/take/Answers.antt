@@ -3,8 +3,9 @@ use Rattle.mig_session.specs.Session.{HasSource, rounds_loaded, feed_step}
 use Rattle.mig_session.specs.Advancing.{Feeding}
 use Rattle.mig_answer.specs.Texts.{with_piece}
 use Rattle.mig_session.specs.Sources.{Counts, counts_of}
-use Rattle.mig_session.proofs.Sessions.{any_ok, there_fed, further, goes_fed, next_feeding, rounds_further, advances_further, taken_of}
+use Rattle.mig_session.proofs.Sessions.{any_ok, further, goes_fed, next_feeding, rounds_further, advances_further, taken_of}
 use Rattle.mig_session.proofs.session.take.Goals as goal
+use Rattle.mig_session.proofs.Pumped.{source_stays}
 
 pub returns-in_default-clause-taken : goal.returns-in_default-clause-taken
 returns-in_default-clause-taken g c = λ f advances readings are. (
@@ -23,7 +24,8 @@ advance-requires g c =
 
 pub note-requires : goal.note-requires
 note-requires g c =
-    subst (λ (x : Counts). HasSource x c.args.source) (sym c.in-Ok.ensures.counts) (there_fed (counts_of c.args.sources.now) c.args.source (length c.args.piece.now) c.requires.source)
+    subst (λ (x : Counts). HasSource x c.args.source) (sym c.in-Ok.ensures.counts)
+    (source_stays (counts_of c.args.sources.now) c.args.source (length c.args.piece.now) c.requires.source)
 
 pub returns-clause-places : goal.returns-clause-places
 returns-clause-places g c =

@@ -11,5 +11,6 @@ loop-channel-preserved g c =
     record {
       packets = c.in_ok-gather.ensures.packets ∙ ap (λ (l : List Fields). l ++ packets_of item) c.loop-channel.invariant.packets
           ∙ packets_more c.args.channels.now i item c.loop-channel-test.true (sym c.channel-item.is);
-      sizes = λ n all. c.in_ok-gather.ensures.page_size n (subst (IsOfSize n) (sym c.channel-item.is) (all i item c.loop-channel-test.true)) (c.loop-channel.invariant.sizes n all);
+      sizes = λ n all. c.in_ok-gather.ensures.page_size n
+          (subst (IsOfSize n) (sym c.channel-item.is) (all i item c.loop-channel-test.true)) (c.loop-channel.invariant.sizes n all);
     }

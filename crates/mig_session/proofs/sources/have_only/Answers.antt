@@ -10,7 +10,8 @@ loop-channel-preserved g c =
     let so_far = c.loop-channel.invariant.told in
     let t : Bool = c.has_only.result in
     let more : AllZip TellsOnly (take (c.loop-channel.channel-index + 1) c.args.channels.now) (so_far.0 ++ t ∷ []) =
-    zip_more TellsOnly c.args.channels.now so_far.0 c.loop-channel.channel-index c.channel-item.result t c.loop-channel-test.true (sym c.channel-item.is) so_far.1 c.has_only.ensures in
+    zip_more TellsOnly c.args.channels.now so_far.0 c.loop-channel.channel-index c.channel-item.result t c.loop-channel-test.true
+    (sym c.channel-item.is) so_far.1 c.has_only.ensures in
     record {
       told = (
         so_far.0 ++ t ∷ [],

@@ -17,7 +17,8 @@ loop-preserved g c =
     record {
       holds = rw c.push_reserved.ensures.items (zip_replicate (HoldsChannel given 0) i no_text c.new.result before c.loop.invariant.holds c.new.ensures.holds);
       counts = ap (map channel_count) c.push_reserved.ensures.items ∙ map-append channel_count before (c.new.result ∷ [])
-          ∙ ap (λ (l : List Count). l ++ channel_count c.new.result ∷ []) c.loop.invariant.counts ∙ ap (λ (x : Count). replicate i no_count ++ x ∷ []) c.new.ensures.count
+          ∙ ap (λ (l : List Count). l ++ channel_count c.new.result ∷ []) c.loop.invariant.counts
+          ∙ ap (λ (x : Count). replicate i no_count ++ x ∷ []) c.new.ensures.count
           ∙ replicate_more i no_count;
       count = omega (arith, c.push_reserved.ensures.len, c.loop.invariant.count);
       room = omega (arith, c.push_reserved.ensures.capacity, c.loop.invariant.room);

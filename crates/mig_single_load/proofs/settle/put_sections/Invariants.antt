@@ -7,7 +7,8 @@ use Rattle.mig_single_load.proofs.settle.put_sections.Given as goal
 
 abbrev pub invariant-sections : goal.invariant-sections
 invariant-sections g l = record {
-  put : (given : LoadSettings) (first : Image) (text : List ℕ) (ended : Bool) → HasPutSections given first text ended l.fn.reader l.fn.target → HasPutSections given first text ended l.reader l.target;
+  put : (given : LoadSettings) (first : Image) (text : List ℕ) (ended : Bool)
+      → HasPutSections given first text ended l.fn.reader l.fn.target → HasPutSections given first text ended l.reader l.target;
   fed : l.reader.fed ≡ l.fn.reader.fed;
   ended : l.reader.ended ≡ l.fn.reader.ended;
 }

@@ -11,7 +11,8 @@ returns-in-Some-default g c = λ given text ended loads.
     let o = c.args.target.now in
     let l = loader r o in
     let single = single_of given in
-    judged given l text ended c.state.result c.verdict_at.result loads.is_page_size (all_there given r o c.in-Some-default.target text ended c.in-Some-default.is-0 loads)
+    judged given l text ended c.state.result c.verdict_at.result loads.is_page_size
+    (all_there given r o c.in-Some-default.target text ended c.in-Some-default.is-0 loads)
     (c.state.ensures single (put_so_far text ended (sections_loaded l)) loads.stands)
     (c.verdict_at.ensures ∙ ap (λ n. verdict_of n c.state.result) (c.rounds.ensures ∙ ap (λ x. sections_loaded (loader r x)) (sym c.in-Some-default.is-0)))
 

@@ -8,6 +8,7 @@ use Rattle.mig_single_load.proofs.single.load_single.Goals as goal
 pub returns-clause-sent : goal.returns-clause-sent
 returns-clause-sent g c =
     let text = c.args.text.now in
-    let loaded = c.load_single_in.result in
+    let loaded = c.load_single_with.result in
     sent_is_loaded c.args.page_size c.args.limit text loaded c.requires.page_size
-    (subst (λ (given : LoadSettings). IsSingleAnswer given text loaded ⊎ IsSingleWithoutMemory given text loaded) c.new.ensures c.load_single_in.ensures.answer)
+    (subst (λ (given : LoadSettings). IsSingleAnswer given text loaded
+    ⊎ IsSingleWithoutMemory given text loaded) c.new.ensures c.load_single_with.ensures.answer)

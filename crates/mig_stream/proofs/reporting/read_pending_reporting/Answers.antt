@@ -15,7 +15,8 @@ pub returns-in_default-clause-reports : goal.returns-in_default-clause-reports
 returns-in_default-clause-reports g c =
     let p = c.args.progress.now in
     let all : List ℕ = c.args.pending.now.items ++ c.args.piece.now in
-    let short = none_at c.in_ok-rest.field-0 ((c.complete.new.pending.items ≡ all) × IsUnfinished p c.complete.new.pending.items) c.in_default.is c.in_ok-rest.ensures.short in
+    let short = none_at c.in_ok-rest.field-0
+    ((c.complete.new.pending.items ≡ all) × IsUnfinished p c.complete.new.pending.items) c.in_default.is c.in_ok-rest.ensures.short in
     reports_same p p all _ c.args.report.now c.args.report.now refl (append-nil c.complete.new.pending.items ∙ short.0) refl
 
 pub returns-in-Ok-clause-reports : goal.returns-in-Ok-clause-reports
@@ -27,7 +28,8 @@ returns-in-Ok-clause-reports g c =
     let rest : List ℕ = c.in-Some.rest.now in
     let text : item ++ rest ≡ c.args.pending.now.items ++ c.args.piece.now =
     text_at c.in_ok-rest.field-0 c.in-Some.rest (λ r. item ++ r.now ≡ c.args.pending.now.items ++ c.args.piece.now) c.in-Some.is c.in_ok-rest.ensures.text in
-    let whole : length item ≡ size p.page_size p.due item = text_at c.in_ok-rest.field-0 c.in-Some.rest (λ r. length item ≡ size p.page_size p.due item) c.in-Some.is c.in_ok-rest.ensures.whole in
+    let whole : length item ≡ size p.page_size p.due item =
+    text_at c.in_ok-rest.field-0 c.in-Some.rest (λ r. length item ≡ size p.page_size p.due item) c.in-Some.is c.in_ok-rest.ensures.whole in
     let is : IsItem p.page_size p.due item = record { is_due = is_due p.page_size p.due c.args.pending.now.items c.requires; is_whole = whole } in
     let free : first_fault p item ≡ None = ap (λ (x : List ℕ). first_fault p x) (sym c.deref.ensures.value) ∙ c.in-Ok.ensures.takes.0 in
     let next : c.take_reporting.new.self ≡ after p item = c.in-Ok.ensures.takes.1 ∙ ap (λ (x : List ℕ). after p x) c.deref.ensures.value in

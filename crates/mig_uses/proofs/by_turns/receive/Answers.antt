@@ -3,6 +3,7 @@ use Rattle.std.specs.Prelude.{IfOk}
 use Rattle.std.proofs.lemmas.List.{length-map}
 use Rattle.mig_mem.specs.RamTable.{RamTable}
 use Rattle.mig_mem.specs.Image.{Image}
+use Rattle.mig_single_load.specs.declared.settings.LoadSettings.{LoadSettings}
 use Rattle.mig_single_load.specs.Settings.{ram_settings}
 use Rattle.mig_answer.specs.Texts.{no_texts}
 use Rattle.mig_answer.specs.declared.verdict.Verdict.{Verdict}
@@ -20,11 +21,18 @@ returns-clause-answer g c =
     let n : ℕ = c.len-channels.result - 1 in
     let old : AtTurns g.row.O.Denot = record { load = c.in-Ok.load; memory = first; sources = c.deref_mut.result.now; order = c.args.order.now } in
     let new : AtTurns g.row.O.Denot =
-    record { load = c.pump_by_turns.new.load; memory = image c.pump_by_turns.new.memory; sources = c.pump_by_turns.new.sources; order = c.pump_by_turns.new.order } in
-    let page : c.table.result.now.page_size ≡ first.table.page_size = ap (λ (t : RamTable). t.page_size) c.table.ensures.value in
-    let stands = subst (λ (p : ℕ). StandsFor (ram_settings p c.args.limit) c.args.uuid.now first (no_texts n) first c.in-Ok.load) page
-    (c.in-Ok.ensures.stands first c.table.ensures.image (sym c.table.ensures.value)) in
-    received_by g.O.TurnOrder.chooses (2 ^ 40) (ram_settings first.table.page_size c.args.limit) c.args.uuid.now first (map g.R.Read.remaining c.args.connections.items) n old new c.pump_by_turns.result
+    record {
+      load = c.pump_by_turns.new.load;
+      memory = image c.pump_by_turns.new.memory;
+      sources = c.pump_by_turns.new.sources;
+      order = c.pump_by_turns.new.order;
+    } in
+    let given : LoadSettings = ram_settings first.table.page_size c.args.limit in
+    let page = c.page_size.ensures ∙ ap (λ (t : RamTable). t.page_size) c.table-table.ensures.value in
+    let own : c.new-settings.result ≡ given = c.new-settings.ensures ∙ ap (λ (p : ℕ). ram_settings p c.args.limit) page in
+    let stands = subst (λ (s : LoadSettings). StandsFor s c.args.uuid.now first (no_texts n) first c.in-Ok.load) own
+    (c.in-Ok.ensures.stands first c.table-table.ensures.image (sym c.table-table.ensures.value)) in
+    received_by g.O.TurnOrder.chooses (2 ^ 40) given c.args.uuid.now first (map g.R.Read.remaining c.args.connections.items) n old new c.pump_by_turns.result
     (omega (arith, length-map c.args.connections.items g.R.Read.remaining, c.len-channels.ensures, c.args.connections.ok.0, c.requires.connections.0))
     (c.deref_mut.ensures.value ∙ c.in-Ok-buffered.ensures) stands c.pump_by_turns.ensures.turns c.pump_by_turns.ensures.bytes
 
@@ -34,4 +42,6 @@ returns-clause-sent g c = λ done.
     let first : Image = image c.args.memory.now in
     let last : Image = image c.pump_by_turns.new.memory in
     sent_received c.args.limit c.args.uuid.now first last (map g.R.Read.remaining c.args.connections.items)
-    (subst (λ (r : Result Verdict TurnFault). IfOk r (IsReceived (ram_settings first.table.page_size c.args.limit) c.args.uuid.now first (map g.R.Read.remaining c.args.connections.items) last)) done (returns-clause-answer g c))
+    (subst (λ (r : Result Verdict TurnFault). IfOk r
+    (IsReceived (ram_settings first.table.page_size c.args.limit) c.args.uuid.now first
+    (map g.R.Read.remaining c.args.connections.items) last)) done (returns-clause-answer g c))

@@ -24,8 +24,10 @@ returns g c =
     let sender = c.in_ok-sender.sender in
     let stream = c.in_ok-stream.stream in
     let same = c.table-table.ensures.value in
-    let set = IfOk-at_ok (λ (d : PlaceSet). IsPlaceSet d × (d.table ≡ table)) (is_ok_of c.every_page.result dirty c.in_ok-dirty.ensures.value) c.every_page.ensures.set in
-    let every = IfOk-at_ok (λ (d : PlaceSet). (p : Place) → IsPlace table p → IsTrue (has_place d.marked p)) (is_ok_of c.every_page.result dirty c.in_ok-dirty.ensures.value)
+    let set = IfOk-at_ok (λ (d : PlaceSet). IsPlaceSet d × (d.table ≡ table))
+    (is_ok_of c.every_page.result dirty c.in_ok-dirty.ensures.value) c.every_page.ensures.set in
+    let every = IfOk-at_ok (λ (d : PlaceSet). (p : Place) → IsPlace table p → IsTrue (has_place d.marked p))
+    (is_ok_of c.every_page.result dirty c.in_ok-dirty.ensures.value)
     c.every_page.ensures.all in
     let made = is_ok_of c.new.result sender c.in_ok-sender.ensures.value in
     let begun = IfOk-at_ok (λ (s : Writer). HasSent s []) made c.new.ensures.none in

@@ -1,6 +1,6 @@
-use Rattle.std.proofs.Common.{◌≡◌, ◌≤◌, List, All, MatchResult, sym, ap, subst, ◌∙◌}
+use Rattle.std.proofs.Common.{◌≡◌, ◌≤◌, All, MatchResult, sym, ap, subst, ◌∙◌}
 use Rattle.mig_mem.specs.RamTable.{RamTable}
-use Rattle.mig_mem.specs.Image.{Page, Image, zero_image}
+use Rattle.mig_mem.specs.Image.{Image, zero_image}
 use Rattle.mig_mem.specs.Round.{IsRound, with_rounds}
 use Rattle.mig_stream.specs.Text.{total_bytes}
 use Rattle.mig_stream.specs.Written.{single}

@@ -14,10 +14,18 @@ loop-i-preserved g c =
     let rest = c.args.rest.now in
     let i = c.loop-i.i in
     let old = c.index_mut.result.now in
-    let here : i < length texts = omega (arith, c.loop-i-test.true, c.requires, c.loop-i.invariant.as_many, length-map texts items, length-map c.args.texts.now.items items) in
+    let here : i < length texts = omega (
+      arith,
+      c.loop-i-test.true,
+      c.requires,
+      c.loop-i.invariant.as_many,
+      length-map texts items,
+      length-map c.args.texts.now.items items,
+    ) in
     let more : c.deref.result.now ≡ get_or (texts_of rest) i [] =
     c.deref.ensures.value ∙ text_at rest i c.index-rest-i.result c.loop-i-test.true c.index-rest-i.is in
-    let new = c.in_ok-extend_from_slice.ensures.items ∙ (ap (λ (l : List ℕ). old.items ++ l) more ∙ ap (λ (l : List ℕ). l ++ get_or (texts_of rest) i []) (ap items c.index_mut.ensures.value)) in
+    let new = c.in_ok-extend_from_slice.ensures.items
+    ∙ (ap (λ (l : List ℕ). old.items ++ l) more ∙ ap (λ (l : List ℕ). l ++ get_or (texts_of rest) i []) (ap items c.index_mut.ensures.value)) in
     one_more texts olds (texts_of rest) i c.extend_from_slice.new.self old here new c.loop-i.invariant
 
 pub returns : goal.returns

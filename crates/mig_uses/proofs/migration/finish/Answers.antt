@@ -13,7 +13,8 @@ returns g c =
     let main : c.extend_from_slice.new.self.items ≡ before.main ++ c.in-Ok.rest.main.items =
     c.in_ok-extend_from_slice.ensures.items ∙ ap (λ (l : List ℕ). before.main ++ l) c.deref.ensures.value in
     on_ok c.append_all.result c.append_all.ensures (λ each rounds has.
-    let texts : HaveEachAppended (texts_of c.args.arrived.now.channels.items) rest (texts_of c.append_all.new.texts.items) = rw c.deref-2.ensures.value at each in
+    let texts : HaveEachAppended (texts_of c.args.arrived.now.channels.items) rest (texts_of c.append_all.new.texts.items) =
+    rw c.deref-2.ensures.value at each in
     subst (λ (l : List (List ℕ)). IsSending s.main.table s.uuid s.limit (length s.channels) rounds c.extend_from_slice.new.self.items l) (sym texts)
     (subst (λ (l : List ℕ). IsSending s.main.table s.uuid s.limit (length s.channels) rounds l (whole_texts before rest)) (sym main)
     (c.in-Ok.ensures.ok before rounds has)))

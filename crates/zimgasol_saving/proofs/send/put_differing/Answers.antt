@@ -5,8 +5,12 @@ use Rattle.zimgasol_files.proofs.Sent.{sent_more, put_is_sent}
 use Rattle.zimgasol_saving.proofs.send.put_differing.Goals as goal
 
 pub returns-in_default-clause-sent : goal.returns-in_default-clause-sent
-returns-in_default-clause-sent c = λ sent are put.
-    (sent, sent_more c.args.block c.args.first (piece_of c.args.pages.now) c.args.page sent sent are (inr ((λ d. false≢true (c.in_default.ensures.differs.1 d)), refl)), put)
+returns-in_default-clause-sent c = λ sent are put. (
+  sent,
+  sent_more c.args.block c.args.first (piece_of c.args.pages.now) c.args.page sent sent are
+      (inr ((λ d. false≢true (c.in_default.ensures.differs.1 d)), refl)),
+  put,
+)
 
 pub returns-clause-sent : goal.returns-clause-sent
 returns-clause-sent c = λ sent are put.

@@ -15,13 +15,16 @@ returns-clause-claims g c =
     let same : bytes ≡ c.args.head.now = c.in-Some.ensures.head.0 in
     let seen : i.claimed.table ≡ c.args.self.now.load.table = c.self.invariant ∙ ap (λ (x : ApartLoad). x.load.table) c.self.view_is in
     let new = c.claim_all.new.claimed in
-    let mine : IsNewClaim i.claimed.table (packet_places i.claimed.table b bytes) i.claimed new = new_claim i.claimed.table b bytes i.claimed new (c.any_claimed.ensures.none c.if-any_claimed.false) c.claim_all.ensures.more in
-    let of_head : IsNewClaim i.claimed.table (packet_places i.claimed.table b c.args.head.now) i.claimed new = subst (λ (h : List ℕ). IsNewClaim i.claimed.table (packet_places i.claimed.table b h) i.claimed new) same mine in
+    let mine : IsNewClaim i.claimed.table (packet_places i.claimed.table b bytes) i.claimed new =
+    new_claim i.claimed.table b bytes i.claimed new (c.any_claimed.ensures.none c.if-any_claimed.false) c.claim_all.ensures.more in
+    let of_head : IsNewClaim i.claimed.table (packet_places i.claimed.table b c.args.head.now) i.claimed new =
+    subst (λ (h : List ℕ). IsNewClaim i.claimed.table (packet_places i.claimed.table b h) i.claimed new) same mine in
     let of_table : IsNewClaim c.args.self.now.load.table (packet_places c.args.self.now.load.table b c.args.head.now) i.claimed new =
     subst (λ (t : RamTable). IsNewClaim t (packet_places t b c.args.head.now) i.claimed new) seen of_head in (
       same,
       subst (λ (x : ApartLoad). LieIn x.load.table b c.args.head.now) c.self.view_is c.in-Some.ensures.lies,
-      subst (λ (x : ApartLoad). IsNewClaim c.args.self.now.load.table (packet_places c.args.self.now.load.table b c.args.head.now) x.claimed new) c.self.view_is of_table,
+      subst (λ (x : ApartLoad). IsNewClaim c.args.self.now.load.table
+          (packet_places c.args.self.now.load.table b c.args.head.now) x.claimed new) c.self.view_is of_table,
     )
 
 pub returns-then-any_claimed-clause-claims : goal.returns-then-any_claimed-clause-claims
@@ -42,6 +45,7 @@ returns-then-any_claimed-clause-claims g c =
         subst (λ (x : ApartLoad). LieIn x.load.table b c.args.head.now) c.self.view_is c.in-Some.ensures.lies,
         k,
         subst (λ (h : List ℕ). k < normal_count h + zero_count h) same met.1,
-        subst (λ (x : ApartLoad). has_place x.claimed.marked (place_at b (offset_at c.args.head.now k / x.load.table.page_size)) ≡ true) c.self.view_is of_table,
+        subst (λ (x : ApartLoad). has_place x.claimed.marked
+            (place_at b (offset_at c.args.head.now k / x.load.table.page_size)) ≡ true) c.self.view_is of_table,
       ),
     )

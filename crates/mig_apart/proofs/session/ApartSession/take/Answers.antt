@@ -34,7 +34,8 @@ returns-clause-took g c = λ _ given uuid first texts memory free.
     let agrees : HoldsElsewhere judged (λ p. IsTrue (has_place i.claimed.marked p)) memory =
     subst (λ (x : ApartLoad). HoldsElsewhere judged (λ p. IsTrue (has_place x.claimed.marked p)) memory) (sym c.self.view_is) free.agrees in
     let many : length contents ≡ normal_count head = length-map c.args.contents.now (λ (x : Bor (List ℕ)). x.now) ∙ c.in_ok-take_packet.ensures.count did in
-    let stands = c.in_ok-take_packet.ensures.took did given uuid first texts judged table (subst (λ (x : ApartLoad). StandsFor given uuid first texts judged x.load) (sym c.self.view_is) free.stands) in
+    let stands = c.in_ok-take_packet.ensures.took did given uuid first texts judged table
+    (subst (λ (x : ApartLoad). StandsFor given uuid first texts judged x.load) (sym c.self.view_is) free.stands) in
     record {
       judged = with_round judged (pages_taken judged.table head contents);
       same_table = table ∙ sym c.take_packet.ensures.table.0;

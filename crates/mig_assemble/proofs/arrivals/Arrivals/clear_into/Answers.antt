@@ -15,5 +15,6 @@ returns-clause-adds g c = elim c.if-count-eq0.branch [
   | else-count-eq0 w ↦
       let seen : c.self.inside.seen ≡ c.args.self.now.seen = ap (λ (r : RoundSoFar). r.seen) c.self.view_is in
       let adds = subst (λ (s : PlaceSet). AddsPlaces s.marked c.args.named.now w.add_places.new.named) seen w.add_places.ensures.adds in
-      subst (λ (s : PlaceSet). AddsArrivals c.args.self.now c.args.named.now s) (sym w.named-is) (each_added c.args.self.now c.args.named.now w.add_places.new.named adds)
+      subst (λ (s : PlaceSet). AddsArrivals c.args.self.now c.args.named.now s) (sym w.named-is)
+      (each_added c.args.self.now c.args.named.now w.add_places.new.named adds)
 ]

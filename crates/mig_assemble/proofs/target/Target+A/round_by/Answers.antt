@@ -14,13 +14,15 @@ use Rattle.mig_assemble.proofs.target.Target+A.round_by.Goals as goal
 pub round_list-requires-clause-lawful : goal.round_list-requires-clause-lawful
 round_list-requires-clause-lawful g c =
     let same : c.table.result.now ≡ c.self.inside.seen.table = c.table.ensures.value ∙ sym (ap (λ (s : PlaceSet). s.table) c.self.invariant.is_unmarked) in
-    rw same (each_lies_right c.self.inside.seen.table c.self.inside.base (pages_of_round c.args.round.now) c.packets-packets.result.now c.in_ok-judge.ensures.lawful)
+    rw same (each_lies_right c.self.inside.seen.table c.self.inside.base
+    (pages_of_round c.args.round.now) c.packets-packets.result.now c.in_ok-judge.ensures.lawful)
 
 pub name_packets-requires-clause-lawful : goal.name_packets-requires-clause-lawful
 name_packets-requires-clause-lawful g c =
     let same : c.name_records.new.named.table ≡ c.self.inside.seen.table =
     c.name_records.ensures.table ∙ c.self.invariant.same_table ∙ sym (ap (λ (s : PlaceSet). s.table) c.self.invariant.is_unmarked) in
-    rw same (lawful_lies_right c.self.inside.seen.table c.self.inside.base (pages_of_round c.args.round.now) (map fields c.packets-packets.result.now) c.in_ok-judge.ensures.lawful)
+    rw same (lawful_lies_right c.self.inside.seen.table c.self.inside.base (pages_of_round c.args.round.now)
+    (map fields c.packets-packets.result.now) c.in_ok-judge.ensures.lawful)
 
 pub returns-clause-ok : goal.returns-clause-ok
 returns-clause-ok g c =
@@ -30,7 +32,8 @@ returns-clause-ok g c =
     let table : RamTable = c.table.result.now in
     let put : c.put_pages.new.self ≡ with_round p.memory (map (round_page p.memory.table.page_size) list) =
     c.put_pages.ensures ∙ ap (λ (l : List RoundPage). with_round p.memory (map (round_page p.memory.table.page_size) l)) c.as_slice.ensures.value in
-    listed here c.put_pages.new.self c.name_records.new.named c.name_packets.new.named c.args.round.now c.packets-packets.result.now c.args.gathered.now c.packets-packets.ensures
+    listed here c.put_pages.new.self c.name_records.new.named c.name_packets.new.named c.args.round.now
+    c.packets-packets.result.now c.args.gathered.now c.packets-packets.ensures
     (put ∙ ap (λ (l : List Page). with_round p.memory l) (rw (← c.table.ensures.value) c.in_ok-pages.ensures.stands_for))
     c.self.invariant.same_table c.name_records.ensures.named c.name_records.ensures.table c.name_packets.ensures.named
     ∙ ap (λ (s : LoadTarget). after_round s c.args.round.now (map fields c.args.gathered.now)) c.self.view_is

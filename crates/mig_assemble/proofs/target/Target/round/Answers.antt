@@ -29,8 +29,14 @@ name_packets-requires-clause-lawful g c =
 pub returns-clause-ok : goal.returns-clause-ok
 returns-clause-ok g c =
     applied c.args.self.now
-    (record { memory = g.M.GuestTarget.image c.self-2.inside.memory; named = c.self-2.inside.named; rounds = c.self-2.inside.rounds; base = c.self-2.inside.base })
-    (g.M.GuestTarget.image c.put_packets.new.memory) c.name_packets.new.named c.args.round.now c.packets-packets.result.now c.args.gathered.now c.packets-packets.ensures
+    (record {
+      memory = g.M.GuestTarget.image c.self-2.inside.memory;
+      named = c.self-2.inside.named;
+      rounds = c.self-2.inside.rounds;
+      base = c.self-2.inside.base;
+    })
+    (g.M.GuestTarget.image c.put_packets.new.memory) c.name_packets.new.named c.args.round.now c.packets-packets.result.now
+    c.args.gathered.now c.packets-packets.ensures
     (ap (λ (t : LoadTarget). t.memory) c.self-2.view_is ∙ c.section.ensures.memory
     ∙ ap (λ (t : LoadTarget). with_round t.memory (pages_of_round c.args.round.now)) c.self.view_is)
     (ap (λ (t : LoadTarget). t.named) c.self-2.view_is ∙ c.section.ensures.named

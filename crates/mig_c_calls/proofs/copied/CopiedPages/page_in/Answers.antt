@@ -7,7 +7,8 @@ use Rattle.mig_c_calls.proofs.copied.CopiedPages.page_in.Goals as goal
 
 pub part_of-requires : goal.part_of-requires
 part_of-requires c =
-    rw (c.index_of-i.ensures, c.page_size.ensures) (room_of_part c.self.inside.table.now c.self.inside.pages.now c.self.inside.bytes.now c.args.place.page c.self.invariant)
+    rw (c.index_of-i.ensures, c.page_size.ensures)
+    (room_of_part c.self.inside.table.now c.self.inside.pages.now c.self.inside.bytes.now c.args.place.page c.self.invariant)
 
 pub returns : goal.returns
 returns c =

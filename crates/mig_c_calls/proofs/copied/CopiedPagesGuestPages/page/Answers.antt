@@ -7,8 +7,10 @@ returns-then-not-holds-clause-value c =
 
 pub returns-clause-value : goal.returns-clause-value
 returns-clause-value c =
-    (answer_some c.args.self.now c.table.result.now c.args.place c.page_in.result.now c.table.ensures.image c.table.ensures.value (c.holds.ensures.0 c.if-not-holds.false) c.page_in.ensures).0
+    (answer_some c.args.self.now c.table.result.now c.args.place c.page_in.result.now c.table.ensures.image c.table.ensures.value
+    (c.holds.ensures.0 c.if-not-holds.false) c.page_in.ensures).0
 
 pub returns-clause-size : goal.returns-clause-size
 returns-clause-size c =
-    (answer_some c.args.self.now c.table.result.now c.args.place c.page_in.result.now c.table.ensures.image c.table.ensures.value (c.holds.ensures.0 c.if-not-holds.false) c.page_in.ensures).1
+    (answer_some c.args.self.now c.table.result.now c.args.place c.page_in.result.now c.table.ensures.image c.table.ensures.value
+    (c.holds.ensures.0 c.if-not-holds.false) c.page_in.ensures).1

@@ -9,7 +9,8 @@ returns c =
     record {
       fits = hands.fits;
       hands = λ image sent given more packs.
-          worker_hands image sent given more (take c.hand_out.result c.hand_out.new.out) c.refill.new.held _ hands.has_front refl (c.refill.ensures.keeps image sent given more packs);
+          worker_hands image sent given more (take c.hand_out.result c.hand_out.new.out) c.refill.new.held _ hands.has_front refl
+          (c.refill.ensures.keeps image sent given more packs);
       none = λ zero room.
           let empty : waiting_in c.refill.new.held.drained ≡ [] = hands.none zero room in
           (nothing_left c.hand_out.result c.hand_out.new.out _ _ zero hands.has_front empty, c.refill.ensures.none empty);

@@ -8,5 +8,6 @@ returns-in-Some c =
 pub returns-in-None : goal.returns-in-None
 returns-in-None c =
     let told = c.in-None.ensures.none in
-    gives_head c.args.zeros.now c.give_head.result c.args.written.now c.give_head.new.written c.args.out.now c.give_head.new.out c.args.self.now c.refill.new.held _ c.refill.ensures told.0 told.1
+    gives_head c.args.zeros.now c.give_head.result c.args.written.now c.give_head.new.written c.args.out.now c.give_head.new.out
+    c.args.self.now c.refill.new.held _ c.refill.ensures told.0 told.1
     c.give_head.auto.out c.give_head.ensures

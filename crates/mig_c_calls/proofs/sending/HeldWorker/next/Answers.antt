@@ -22,7 +22,8 @@ returns c =
           worker_steps image sent given more old _ refl
           (λ before drained packed.
           c.end_channel.ensures.packed image before drained (same ∙ ap (λ t. t.table) (sym terms))
-          (subst (λ (l : List ℕ). HasPacked image before (drained ++ l) claimed) (sym text) (c.claim.ensures.packed image before (drained ++ old.worker.text) packed)))
+          (subst (λ (l : List ℕ). HasPacked image before (drained ++ l) claimed) (sym text)
+          (c.claim.ensures.packed image before (drained ++ old.worker.text) packed)))
           packs;
       same_text = λ other. ends.same_text other ∙ text;
       same_named = λ _. (c.name_claimed.ensures.none c.if-name_claimed.false).1;

@@ -18,9 +18,11 @@ returns-in-Ok c =
     let packs = c.pack_on.ensures in
     let claim : OfClaim (λ batch number. HasBatch terms.table pages bytes batch) terms old.worker.hand = c.in-Ok.ensures.ok in
     let drawn : HasClaimed terms.deal old.worker.hand old.worker.hand =
-    claimed_stays terms old.worker.hand (map_claim (λ batch number. HasBatch terms.table pages bytes batch) (λ batch number. Unit {0}) terms old.worker.hand (λ _ _ _. tt) claim) in
+    claimed_stays terms old.worker.hand (map_claim (λ batch number. HasBatch terms.table pages bytes batch)
+    (λ batch number. Unit {0}) terms old.worker.hand (λ _ _ _. tt) claim) in
     let image : c.new-memory.result ≡ copied_image terms.table pages bytes =
-    c.new-memory.ensures ∙ ap (λ (t : RamTable). copied_image t c.deref.result.now bytes) old.same_table ∙ ap (λ (l : List ℕ). copied_image terms.table l bytes) c.deref.ensures.value in
+    c.new-memory.ensures ∙ ap (λ (t : RamTable). copied_image t c.deref.result.now bytes) old.same_table
+    ∙ ap (λ (l : List ℕ). copied_image terms.table l bytes) c.deref.ensures.value in
     let step : IsStep (copied_image terms.table pages bytes) terms packs.made old.worker.hand new.hand old.worker.text new.text =
     subst (λ (i : Image). IsStep i terms packs.made old.worker.hand new.hand old.worker.text new.text) image packs.stepped.is_step in
     let after = step_hand (copied_image terms.table pages bytes) terms packs.made old.worker.hand new.hand old.worker.text new.text drawn step in
@@ -28,8 +30,10 @@ returns-in-Ok c =
       is_named = packs_named c.pack_on.result packs.is_named;
       wrong = λ late. absurd (packs_in_turn c.pack_on.result packs.is_named late);
       unfit = λ bad. absurd (packs_fit c.pack_on.result packs.is_named bad);
-      fits = λ _ _. map_claim (λ batch number. HasBatch terms.table pages bytes batch) (λ batch number. length bytes ≡ length batch.pages * terms.table.page_size) terms old.worker.hand (λ _ _ has. has.has_bytes) claim;
-      writes = λ running image same. copied_writes image terms pages bytes packs.made old.worker.hand new.hand old.worker.text new.text same (packs.is_made.1 running) claim step;
+      fits = λ _ _. map_claim (λ batch number. HasBatch terms.table pages bytes batch)
+          (λ batch number. length bytes ≡ length batch.pages * terms.table.page_size) terms old.worker.hand (λ _ _ has. has.has_bytes) claim;
+      writes = λ running image same. copied_writes image terms pages bytes packs.made old.worker.hand new.hand old.worker.text
+          new.text same (packs.is_made.1 running) claim step;
       packs = λ image sent given more same copied before.
           worker_steps image sent given more old _ refl
           (λ own drained packed.

@@ -9,5 +9,6 @@ returns c =
     let bytes : List ℕ = c.args.self.now.bytes.items in
     let long : c.len.result ≡ length bytes = omega (arith, c.len.ensures, c.args.self.now.bytes.ok.0) in (
       λ past. drop_all given bytes (omega (arith, leb-true c.len.result given past, long)),
-      λ none. let len : length (drop given bytes) ≡ 0 = ap (λ (l : List ℕ). length l) none in le-leb c.len.result given (omega (arith, len, length-drop given bytes, long)),
+      λ none. let len : length (drop given bytes) ≡ 0 = ap (λ (l : List ℕ). length l) none in
+          le-leb c.len.result given (omega (arith, len, length-drop given bytes, long)),
     )

@@ -11,5 +11,6 @@ invariant_of-self c =
     let of_table = c.self.invariant.1 in (
       c.self.invariant.0 ∙ ap (λ (t : RamTable). let some : Option RamTable = Some t in some) same,
       subst (λ (t : RamTable). IfSome c.fill.new.filled (λ f. f.table ≡ t)) same
-          (noted_after i.session.load.table c.in-Some.block c.in-Some.found.bytes.now i.filled c.fill.new.filled of_table (c.fill.ensures i.session.load.table of_table)),
+          (noted_after i.session.load.table c.in-Some.block c.in-Some.found.bytes.now i.filled c.fill.new.filled of_table
+          (c.fill.ensures i.session.load.table of_table)),
     )

@@ -27,6 +27,7 @@ returns-clause-begins c =
       as_many = ap (λ (n : Counts). length n.channels) c.in_ok-session.ensures.counts ∙ length-replicate c.args.channels no_count;
       stands = λ blocks fit.
           let first : Image = lent_image c.args.table.now blocks in
-          subst (λ (n : ℕ). StandsFor (with_round_end (load_settings n (2 ^ 40) c.args.waiting c.args.frame) c.args.round_end) c.args.uuid.now first (no_texts c.args.channels) first session) c.page_size.ensures
+          subst (λ (n : ℕ). StandsFor (with_round_end (load_settings n (2 ^ 40) c.args.waiting c.args.frame) c.args.round_end)
+          c.args.uuid.now first (no_texts c.args.channels) first session) c.page_size.ensures
           (c.in_ok-session.ensures.stands first (lent_is_image c.args.table.now blocks fit) refl);
     }

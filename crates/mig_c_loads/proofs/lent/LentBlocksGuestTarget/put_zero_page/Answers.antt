@@ -11,13 +11,19 @@ pub invariant_of-self : goal.invariant_of-self
 invariant_of-self c =
     let table = c.self.inside.table in
     let is : IsPlace table c.args.place = rw (sym (ap (λ (m : Image). m.table) c.self.view_is)) at c.requires in
-    (block_written table c.self.inside.blocks.items c.args.place c.index_mut.result.now (set_vals c.clear_page.new.bytes c.index_mut.result.now) c.page_size-size.result (zero_page table.page_size)
-    c.self.invariant is c.page_size-size.ensures c.index_mut.ensures.value (length-replicate table.page_size 0) (c.clear_page.ensures ∙ ap (λ (n : ℕ). with_content c.page_size-size.result c.index_mut.result.now.now c.args.place.page (zero_page n)) c.page_size-size.ensures)).0
+    (block_written table c.self.inside.blocks.items c.args.place c.index_mut.result.now
+    (set_vals c.clear_page.new.bytes c.index_mut.result.now) c.page_size-size.result (zero_page table.page_size)
+    c.self.invariant is c.page_size-size.ensures c.index_mut.ensures.value (length-replicate table.page_size 0)
+    (c.clear_page.ensures ∙ ap (λ (n : ℕ). with_content c.page_size-size.result c.index_mut.result.now.now c.args.place.page
+    (zero_page n)) c.page_size-size.ensures)).0
 
 pub returns : goal.returns
 returns c =
     let table = c.self.inside.table in
     let is : IsPlace table c.args.place = rw (sym (ap (λ (m : Image). m.table) c.self.view_is)) at c.requires in
-    sym (block_written table c.self.inside.blocks.items c.args.place c.index_mut.result.now (set_vals c.clear_page.new.bytes c.index_mut.result.now) c.page_size-size.result (zero_page table.page_size)
-    c.self.invariant is c.page_size-size.ensures c.index_mut.ensures.value (length-replicate table.page_size 0) (c.clear_page.ensures ∙ ap (λ (n : ℕ). with_content c.page_size-size.result c.index_mut.result.now.now c.args.place.page (zero_page n)) c.page_size-size.ensures)).1
+    sym (block_written table c.self.inside.blocks.items c.args.place c.index_mut.result.now
+    (set_vals c.clear_page.new.bytes c.index_mut.result.now) c.page_size-size.result (zero_page table.page_size)
+    c.self.invariant is c.page_size-size.ensures c.index_mut.ensures.value (length-replicate table.page_size 0)
+    (c.clear_page.ensures ∙ ap (λ (n : ℕ). with_content c.page_size-size.result c.index_mut.result.now.now c.args.place.page
+    (zero_page n)) c.page_size-size.ensures)).1
     ∙ ap (λ (m : Image). with_page m c.args.place (zero_page m.table.page_size)) c.self.view_is

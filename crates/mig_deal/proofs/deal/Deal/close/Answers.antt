@@ -29,7 +29,8 @@ loop-next-init g c =
       own = all_front (IsOf c.args.self) _ _ own;
       seats = rw is (omega arith);
       lasts = rw is (spent_last c.args.self seat mine c.into_inner-all.ensures.last);
-      numbers = λ test. rw is (let a = held_alone (held_by seat) refl test in let b = count_all_drawn test c.pop.new.self.items seat in let e = ap (λ ds. count_by test (all_drawn ds)) whole in omega arith);
+      numbers = λ test. rw is (let a = held_alone (held_by seat) refl test in
+          let b = count_all_drawn test c.pop.new.self.items seat in let e = ap (λ ds. count_by test (all_drawn ds)) whole in omega arith);
     }
 
 pub join_seat-requires : goal.join_seat-requires
@@ -59,8 +60,10 @@ loop-next-preserved g c =
       free = ap (λ (m : Me (Unit {0}) Holding). m.1) is ∙ before.free;
       own = all_front (IsOf c.args.self) _ _ own;
       seats = rw is (let a = before.seats in omega arith);
-      lasts = rw is (let a = before.lasts in let b = spent_last c.args.self seat mine c.into_inner-given.ensures.last in let e = sum (λ x. leb (c.args.self.base + c.args.self.batches) x) in omega arith);
-      numbers = λ test. rw is (let a = held_alone (held_by seat) refl test in let b = count_all_drawn test c.pop-in-loop-next.new.self.items seat in let e = ap (λ ds. count_by test (all_drawn ds)) whole in
+      lasts = rw is (let a = before.lasts in let b = spent_last c.args.self seat mine c.into_inner-given.ensures.last in
+          let e = sum (λ x. leb (c.args.self.base + c.args.self.batches) x) in omega arith);
+      numbers = λ test. rw is (let a = held_alone (held_by seat) refl test in
+          let b = count_all_drawn test c.pop-in-loop-next.new.self.items seat in let e = ap (λ ds. count_by test (all_drawn ds)) whole in
           let f = before.numbers test in let g = sum test in omega arith);
     }
 
@@ -82,7 +85,8 @@ ended g c =
     let at = c.word-next.ensures in
     let empty : c.loop-next.spents.items ≡ [] = nil_from_length c.loop-next.spents.items (omega arith) in
     finishes terms c.loop-next.all.id taker _ _ c.word-next.result (all_drawn c.args.spents.items)
-    (subst (λ (u : Terms). Final (Seen (IsDealt u) c.loop-next.all.id taker) (slots_items c.close_with-closed.result.words) (slots_items c.close_with-closed.result.slots)) key end)
+    (subst (λ (u : Terms). Final (Seen (IsDealt u) c.loop-next.all.id taker) (slots_items c.close_with-closed.result.words)
+    (slots_items c.close_with-closed.result.slots)) key end)
     at
     (let a = before.seats in omega arith)
     (let a = before.seats in let b = before.lasts in omega arith)

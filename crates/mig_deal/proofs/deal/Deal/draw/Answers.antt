@@ -11,5 +11,6 @@ fetch_add-number-requires g c =
     let key = c.self.invariant.0 in (
       ap (λ (d : DealView). d.id) deal,
       omega arith,
-      draws _ _ _ _ (ap terms_of deal ∙ sym key) c.seat.invariant.1 (subst (λ (t : Terms). IsWithinLimits t.base t.batches t.seats) (sym key) c.self.invariant.3),
+      draws _ _ _ _ (ap terms_of deal ∙ sym key) c.seat.invariant.1
+          (subst (λ (t : Terms). IsWithinLimits t.base t.batches t.seats) (sym key) c.self.invariant.3),
     )

@@ -29,7 +29,8 @@ loop-next-init g c =
       terms = rw is (ap terms_of mine);
       seats = rw is (omega arith);
       lasts = rw is (spent_last c.args.self.now seat mine c.into_inner-all.ensures.last);
-      numbers = λ test. rw is (let a = held_alone (held_by seat) refl test in let b = count_all_drawn test c.pop.new.self.items seat in let e = ap (λ ds. count_by test (all_drawn ds)) whole in omega arith);
+      numbers = λ test. rw is (let a = held_alone (held_by seat) refl test in
+          let b = count_all_drawn test c.pop.new.self.items seat in let e = ap (λ ds. count_by test (all_drawn ds)) whole in omega arith);
     }
 
 pub join_seat-requires : goal.join_seat-requires
@@ -60,8 +61,10 @@ loop-next-preserved g c =
       own = all_front (IsOf c.args.self.now) _ _ own;
       terms = rw is before.terms;
       seats = rw is (let a = before.seats in omega arith);
-      lasts = rw is (let a = before.lasts in let b = spent_last c.args.self.now seat mine c.into_inner-given.ensures.last in let e = sum (λ x. leb (c.args.self.now.base + c.args.self.now.batches) x) in omega arith);
-      numbers = λ test. rw is (let a = held_alone (held_by seat) refl test in let b = count_all_drawn test c.pop-in-loop-next.new.self.items seat in let e = ap (λ ds. count_by test (all_drawn ds)) whole in
+      lasts = rw is (let a = before.lasts in let b = spent_last c.args.self.now seat mine c.into_inner-given.ensures.last in
+          let e = sum (λ x. leb (c.args.self.now.base + c.args.self.now.batches) x) in omega arith);
+      numbers = λ test. rw is (let a = held_alone (held_by seat) refl test in
+          let b = count_all_drawn test c.pop-in-loop-next.new.self.items seat in let e = ap (λ ds. count_by test (all_drawn ds)) whole in
           let f = before.numbers test in let g = sum test in omega arith);
     }
 

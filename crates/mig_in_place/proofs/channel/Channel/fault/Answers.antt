@@ -7,4 +7,5 @@ pub returns : goal.returns
 returns g c =
     let i = c.self.inside in
     subst (λ (m : KeptChannel). TellsChannelFault m c.fault_of.result) c.self.view_is
-    (tells_fault (kept i.reader i.block i.is_whole) c.state.result c.channel_end.result c.fault_of.result c.state.ensures.reading c.channel_end.ensures c.fault_of.ensures)
+    (tells_fault (kept i.reader i.block i.is_whole) c.state.result c.channel_end.result c.fault_of.result c.state.ensures.reading
+    c.channel_end.ensures c.fault_of.ensures)

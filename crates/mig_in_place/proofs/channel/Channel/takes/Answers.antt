@@ -10,4 +10,5 @@ returns-then-is_held_back-clause-tells g c =
 pub returns-clause-tells : goal.returns-clause-tells
 returns-clause-tells g c =
     let held = c.is_held_back.ensures in
-    free_takes c.args.list c.args.self.now held.0 c.status.result c.is_pending.result held.1 c.status.ensures.tells (sym held.2 ∙ c.if-is_held_back.false) c.is_pending.ensures
+    free_takes c.args.list c.args.self.now held.0 c.status.result c.is_pending.result held.1 c.status.ensures.tells
+    (sym held.2 ∙ c.if-is_held_back.false) c.is_pending.ensures

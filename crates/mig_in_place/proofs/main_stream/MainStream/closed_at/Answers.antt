@@ -7,5 +7,6 @@ use Rattle.mig_in_place.proofs.main_stream.MainStream.closed_at.Goals as goal
 
 pub returns : goal.returns
 returns g c =
-    subst (λ (m : KeptMain). (given : Settings) (k : ℕ) (text : Text) → StandsAt given k text m → HasClosedAt given text.bytes c.closed_at.result) c.self.view_is
+    subst (λ (m : KeptMain). (given : Settings) (k : ℕ) (text : Text) → StandsAt given k text m
+    → HasClosedAt given text.bytes c.closed_at.result) c.self.view_is
     (λ given k text stands. c.closed_at.ensures given (so_far_of text (rounds_come k c.self.inside.is_whole)) stands)

@@ -17,7 +17,8 @@ pub returns-in-Reading : goal.returns-in-Reading
 returns-in-Reading g c =
     let m : KeptMain = kept c.self.inside.reader c.self.inside.is_whole in
     let none : is_some (option_copied c.table.result) ≡ false = copied c.table.result ∙ sym c.is_some.ensures ∙ c.if-is_some.false in
-    subst (λ (m : KeptMain). TellsList m list.Awaited) c.self.view_is (lists_awaited m (option_copied c.table.result) c.state.result c.table.ensures none c.state.ensures c.in-Reading.is)
+    subst (λ (m : KeptMain). TellsList m list.Awaited) c.self.view_is
+    (lists_awaited m (option_copied c.table.result) c.state.result c.table.ensures none c.state.ensures c.in-Reading.is)
 
 pub returns-in-Closed : goal.returns-in-Closed
 returns-in-Closed g c =
@@ -27,4 +28,5 @@ returns-in-Closed g c =
       | inl e ↦ absurd (let both = sym e ∙ reads in cc)
       | inr bad ↦ absurd (let both = sym bad.1 ∙ reads in cc)
     ] in
-    subst (λ (m : KeptMain). TellsList m list.Lost) c.self.view_is (lists_lost m (option_copied c.table.result) c.state.result c.table.ensures none c.state.ensures over)
+    subst (λ (m : KeptMain). TellsList m list.Lost) c.self.view_is
+    (lists_lost m (option_copied c.table.result) c.state.result c.table.ensures none c.state.ensures over)

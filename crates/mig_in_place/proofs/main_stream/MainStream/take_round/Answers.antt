@@ -7,7 +7,8 @@ pub returns-clause-stands : goal.returns-clause-stands
 returns-clause-stands g c = λ given k text stands.
     let i = c.self.inside in
     let before : StandsAt given k text (kept i.reader false) =
-    subst (λ (b : Bool). StandsAt given k text (kept i.reader b)) c.if-self.false (subst (λ (m : KeptMain). StandsAt given k text m) (sym c.self.view_is) stands) in
+    subst (λ (b : Bool). StandsAt given k text (kept i.reader b)) c.if-self.false
+    (subst (λ (m : KeptMain). StandsAt given k text m) (sym c.self.view_is) stands) in
     subst (λ (b : Bool). StandsAt given k text (kept c.take_round.new.self b)) (sym c.is_some-self-inside.ensures)
     (taken_stands c.in-Ok.round i.reader c.take_round.new.self c.in-Ok.ensures.none c.in-Ok.ensures.stands given k text before)
 

@@ -19,7 +19,8 @@ returns-clause-keeps g c = λ table came keeps.
 
 pub returns-clause-noted : goal.returns-clause-noted
 returns-clause-noted g c = λ fault wrong.
-    subst (λ (r : KeptRound). IsTrue r.has_misplaced) (sym (c.note.ensures ∙ ap (λ (o : Pages). with_pages o (record { arrivals = c.packet.new.self; has_misplaced = c.self.inside.has_misplaced })) wrong)) refl
+    subst (λ (r : KeptRound). IsTrue r.has_misplaced)
+    (sym (c.note.ensures ∙ ap (λ (o : Pages). with_pages o (record { arrivals = c.packet.new.self; has_misplaced = c.self.inside.has_misplaced })) wrong)) refl
 
 pub returns-clause-right : goal.returns-clause-right
 returns-clause-right g c = λ none.

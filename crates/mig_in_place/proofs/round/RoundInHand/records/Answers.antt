@@ -9,4 +9,5 @@ returns-clause-keeps g c = λ table came keeps.
     let i = c.self.inside in
     let old : KeptRound = record { arrivals = i.arrivals; has_misplaced = i.has_misplaced } in
     let new : KeptRound = record { arrivals = c.records.new.self; has_misplaced = i.has_misplaced } in
-    records_kept (pages_of_round c.args.round.now) old new c.records.ensures.come refl table came (subst (λ (r : KeptRound). Keeps table came r) (sym c.self.view_is) keeps)
+    records_kept (pages_of_round c.args.round.now) old new c.records.ensures.come refl table came
+    (subst (λ (r : KeptRound). Keeps table came r) (sym c.self.view_is) keeps)

@@ -19,7 +19,8 @@ take_main_round-requires-clause-main g c =
     let i = c.self.inside in
     let table : i.table ≡ (g.M.GuestTarget.image c.args.memory.now).table = ap (λ (x : InPlaceLoad). x.table) c.self.view_is ∙ sym c.requires.table in
     let runs = ap (λ (x : InPlaceLoad). x.verdict) c.self.view_is ∙ c.requires.runs in
-    subst (λ (t : RamTable). IsMainOf t c.advance.new.self) table (subst (λ (m : KeptMain). IsMainOf i.table m) (sym c.advance.ensures) (next_main i.table i.main (c.self.invariant.main runs)))
+    subst (λ (t : RamTable). IsMainOf t c.advance.new.self) table
+    (subst (λ (m : KeptMain). IsMainOf i.table m) (sym c.advance.ensures) (next_main i.table i.main (c.self.invariant.main runs)))
 
 pub clear_into-requires : goal.clear_into-requires
 clear_into-requires g c =
@@ -32,12 +33,14 @@ invariant_of-self g c =
     let i = c.self.inside in
     let X : List KeptChannel = c.advance_channels.new.channels in
     let table : i.table ≡ (g.M.GuestTarget.image c.args.memory.now).table = ap (λ (x : InPlaceLoad). x.table) c.self.view_is ∙ sym c.requires.table in
-    let is : X ≡ map at_next_round i.channels.items = c.advance_channels.ensures ∙ ap (λ (l : List KeptChannel). map at_next_round l) c.deref_mut.ensures.value in
+    let is : X ≡ map at_next_round i.channels.items = c.advance_channels.ensures
+    ∙ ap (λ (l : List KeptChannel). map at_next_round l) c.deref_mut.ensures.value in
     let count : length X ≡ length i.channels.items = ap (λ (l : List KeptChannel). length l) is ∙ length-map i.channels.items at_next_round in
     let len : length i.channels.items ≡ i.channels.len = search rules in
     let items : List KeptChannel = (with_items i.channels X).items in
     let items_is : items ≡ X = with_items_is i.channels X (count ∙ len) in
-    let all : All (IsChannelOf i.table) X = subst (λ (l : List KeptChannel). All (IsChannelOf i.table) l) (sym is) (next_channels i.table i.channels.items c.self.invariant.channels) in
+    let all : All (IsChannelOf i.table) X = subst (λ (l : List KeptChannel). All (IsChannelOf i.table) l) (sym is)
+    (next_channels i.table i.channels.items c.self.invariant.channels) in
     let many : length items ≡ length i.channels.items = ap (λ (l : List KeptChannel). length l) items_is ∙ count in
     let base = ap (λ (x : InPlaceLoad). x.base) c.self.view_is in
     let rounds = ap (λ (x : InPlaceLoad). x.rounds) c.self.view_is in
@@ -64,35 +67,58 @@ returns-clause-loads g c = λ f loads due passing.
     let memory : Image = g.M.GuestTarget.image c.args.memory.now in
     let then : Image = g.M.GuestTarget.image c.take_main_round.new.memory in
     let X : List KeptChannel = c.advance_channels.new.channels in
-    let is : X ≡ map at_next_round i.channels.items = c.advance_channels.ensures ∙ ap (λ (l : List KeptChannel). map at_next_round l) c.deref_mut.ensures.value in
+    let is : X ≡ map at_next_round i.channels.items = c.advance_channels.ensures
+    ∙ ap (λ (l : List KeptChannel). map at_next_round l) c.deref_mut.ensures.value in
     let count : length X ≡ length i.channels.items = ap (λ (l : List KeptChannel). length l) is ∙ length-map i.channels.items at_next_round in
     let len : length i.channels.items ≡ i.channels.len = search rules in
     let items_is : (with_items i.channels X).items ≡ map at_next_round i.channels.items = with_items_is i.channels X (count ∙ len) ∙ is in
     let s : InPlaceLoad =
-    record { table = i.table; sources = record { main = i.main; channels = i.channels.items }; round = i.round; rounds = i.rounds; base = i.base; named = i.named; verdict = i.verdict } in
+    record {
+      table = i.table;
+      sources = record { main = i.main; channels = i.channels.items };
+      round = i.round;
+      rounds = i.rounds;
+      base = i.base;
+      named = i.named;
+      verdict = i.verdict;
+    } in
     let mine : Loads f memory s = subst (λ (x : InPlaceLoad). Loads f memory x) (sym c.self.view_is) loads in
     let here : IsDue f i.rounds = subst (λ (x : InPlaceLoad). IsDue f x.rounds) (sym c.self.view_is) due in
     let pass : PassesAt f i.rounds = subst (λ (x : InPlaceLoad). PassesAt f x.rounds) (sym c.self.view_is) passing in
     let given = main_of (for_table f.first.table f.given) in
     let stands : StandsAt given (i.rounds + 1) f.texts.main c.advance.new.self =
     subst (λ (m : KeptMain). StandsAt given (i.rounds + 1) f.texts.main m) (sym c.advance.ensures) (stands_next f memory s mine here) in
-    let taken : HasTakenRecords given (i.rounds + 1) f.texts.main (record i.main { is_whole = false }) c.clear_into.new.self memory c.take_main_round.new.main c.take_main_round.new.round then =
-    subst (λ (m : KeptMain). HasTakenRecords given (i.rounds + 1) f.texts.main m c.clear_into.new.self memory c.take_main_round.new.main c.take_main_round.new.round then) c.advance.ensures
+    let taken : HasTakenRecords given (i.rounds + 1) f.texts.main
+    (record i.main { is_whole = false }) c.clear_into.new.self memory c.take_main_round.new.main c.take_main_round.new.round then =
+    subst (λ (m : KeptMain). HasTakenRecords given
+    (i.rounds + 1) f.texts.main m c.clear_into.new.self memory c.take_main_round.new.main c.take_main_round.new.round then) c.advance.ensures
     (c.take_main_round.ensures.taken given (i.rounds + 1) f.texts.main stands) in
     let base : i.base + c.len.result ≡ i.base + length i.round.arrivals.numbers = ap (λ (n : ℕ). i.base + n) c.len.ensures in
-    subst (λ (l : List KeptChannel). Loads f then (record { table = i.table; sources = record { main = c.take_main_round.new.main; channels = l }; round = c.take_main_round.new.round; rounds = i.rounds + 1; base = i.base + c.len.result; named = c.clear_into.new.named; verdict = i.verdict }))
+    subst (λ (l : List KeptChannel). Loads f then
+    (record {
+      table = i.table;
+      sources = record { main = c.take_main_round.new.main; channels = l };
+      round = c.take_main_round.new.round;
+      rounds = i.rounds + 1;
+      base = i.base + c.len.result;
+      named = c.clear_into.new.named;
+      verdict = i.verdict;
+    }))
     (sym items_is)
-    (advanced f memory s mine here pass c.clear_into.new.self c.take_main_round.new.round c.take_main_round.new.main then (i.base + c.len.result) c.clear_into.new.named c.clear_into.ensures.keeps c.clear_into.ensures.adds base taken)
+    (advanced f memory s mine here pass c.clear_into.new.self c.take_main_round.new.round c.take_main_round.new.main then
+    (i.base + c.len.result) c.clear_into.new.named c.clear_into.ensures.keeps c.clear_into.ensures.adds base taken)
 
 pub returns-clause-counts : goal.returns-clause-counts
 returns-clause-counts g c =
     let i = c.self.inside in
     let X : List KeptChannel = c.advance_channels.new.channels in
-    let is : X ≡ map at_next_round i.channels.items = c.advance_channels.ensures ∙ ap (λ (l : List KeptChannel). map at_next_round l) c.deref_mut.ensures.value in
+    let is : X ≡ map at_next_round i.channels.items = c.advance_channels.ensures
+    ∙ ap (λ (l : List KeptChannel). map at_next_round l) c.deref_mut.ensures.value in
     let count : length X ≡ length i.channels.items = ap (λ (l : List KeptChannel). length l) is ∙ length-map i.channels.items at_next_round in
     let len : length i.channels.items ≡ i.channels.len = search rules in
     let items_is : (with_items i.channels X).items ≡ map at_next_round i.channels.items = with_items_is i.channels X (count ∙ len) ∙ is in
-    let main : main_count c.take_main_round.new.main ≡ main_count i.main = c.take_main_round.ensures.count ∙ ap (λ (m : KeptMain). main_count m) c.advance.ensures in
+    let main : main_count c.take_main_round.new.main ≡ main_count i.main = c.take_main_round.ensures.count
+    ∙ ap (λ (m : KeptMain). main_count m) c.advance.ensures in
     ap (λ (l : List KeptChannel). counts_of (record { main = c.take_main_round.new.main; channels = l })) items_is
     ∙ ap (λ (n : Count). record { main = n; channels = map channel_count (map at_next_round i.channels.items) }) main
     ∙ ap (λ (l : List Count). record { main = main_count i.main; channels = l }) (next_counts i.channels.items)
@@ -102,7 +128,8 @@ pub returns-clause-open : goal.returns-clause-open
 returns-clause-open g c =
     let i = c.self.inside in
     let X : List KeptChannel = c.advance_channels.new.channels in
-    let is : X ≡ map at_next_round i.channels.items = c.advance_channels.ensures ∙ ap (λ (l : List KeptChannel). map at_next_round l) c.deref_mut.ensures.value in
+    let is : X ≡ map at_next_round i.channels.items = c.advance_channels.ensures
+    ∙ ap (λ (l : List KeptChannel). map at_next_round l) c.deref_mut.ensures.value in
     let count : length X ≡ length i.channels.items = ap (λ (l : List KeptChannel). length l) is ∙ length-map i.channels.items at_next_round in
     let len : length i.channels.items ≡ i.channels.len = search rules in
     let items_is : (with_items i.channels X).items ≡ map at_next_round i.channels.items = with_items_is i.channels X (count ∙ len) ∙ is in

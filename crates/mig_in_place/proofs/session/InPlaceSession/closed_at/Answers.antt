@@ -13,8 +13,17 @@ pub returns-clause-stands : goal.returns-clause-stands
 returns-clause-stands g c = λ memory given uuid first texts stands.
     let i = c.self.inside in
     let s : InPlaceLoad =
-    record { table = i.table; sources = record { main = i.main; channels = i.channels.items }; round = i.round; rounds = i.rounds; base = i.base; named = i.named; verdict = i.verdict } in
-    let mine : HaveTaken (for_table first.table given) uuid texts s.sources = subst (λ (x : InPlaceLoad). HaveTaken (for_table first.table given) uuid texts x.sources) (sym c.self.view_is) stands.have_taken in
+    record {
+      table = i.table;
+      sources = record { main = i.main; channels = i.channels.items };
+      round = i.round;
+      rounds = i.rounds;
+      base = i.base;
+      named = i.named;
+      verdict = i.verdict;
+    } in
+    let mine : HaveTaken (for_table first.table given) uuid texts s.sources =
+    subst (λ (x : InPlaceLoad). HaveTaken (for_table first.table given) uuid texts x.sources) (sym c.self.view_is) stands.have_taken in
     c.closed_at.ensures (main_of (for_table first.table given)) mine.rounds texts.main mine.main
 
 pub returns-clause-lacking : goal.returns-clause-lacking

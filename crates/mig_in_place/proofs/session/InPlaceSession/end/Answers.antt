@@ -14,12 +14,14 @@ returns-then-eq-clause-steps g c = λ memory given uuid first texts stands.
     let runs : c.end_source.new.self.verdict ≡ Running = search rules in
     let running : c.args.self.now.verdict ≡ Running = sym (ap (λ (x : InPlaceLoad). x.verdict) c.end_source.ensures.others) ∙ runs in
     let f : Loading = record { given = given; uuid = uuid; first = first; texts = texts } in
-    let on : Loads (with_over c.args.source f) memory c.end_source.new.self = c.end_source.ensures.loads f memory (loads_of f memory c.args.self.now running stands) in
+    let on : Loads (with_over c.args.source f) memory c.end_source.new.self =
+    c.end_source.ensures.loads f memory (loads_of f memory c.args.self.now running stands) in
     let rounds : c.end_source.new.self.rounds ≡ c.args.self.now.rounds = ap (λ (x : InPlaceLoad). x.rounds) c.end_source.ensures.others in
     let bytes = end_bytes c.args.source texts in
     elim (cases_Bool c.tell.result) [
       | inl t ↦ c.tell.ensures.told t (with_over c.args.source f) memory on
-      | inr none ↦ absurd (never_due f memory memory c.args.self.now c.end_source.new.self (end_step c.args.source texts) stands running bytes.0 bytes.1 bytes.2 rounds on
+      | inr none ↦ absurd (never_due f memory memory c.args.self.now c.end_source.new.self
+          (end_step c.args.source texts) stands running bytes.0 bytes.1 bytes.2 rounds on
           (c.tell.ensures.due none (with_over c.args.source f) memory on))
     ]
 
@@ -33,8 +35,10 @@ returns-then-eq-clause-lacking g c = λ memory given uuid first texts lacks.
 pub returns-else-eq-clause-steps : goal.returns-else-eq-clause-steps
 returns-else-eq-clause-steps g c = λ memory given uuid first texts stands.
     let judged : c.end_source.new.self.verdict ≢ Running = search rules in
-    end_stands given uuid first texts memory c.args.self.now c.end_source.new.self c.args.source (λ running. judged (ap (λ (x : InPlaceLoad). x.verdict) c.end_source.ensures.others ∙ running)) c.end_source.ensures.others
+    end_stands given uuid first texts memory c.args.self.now c.end_source.new.self c.args.source
+    (λ running. judged (ap (λ (x : InPlaceLoad). x.verdict) c.end_source.ensures.others ∙ running)) c.end_source.ensures.others
     (c.end_source.ensures.taken (for_table first.table given) uuid texts) stands
 
 pub returns-else-eq-clause-lacking : goal.returns-else-eq-clause-lacking
-returns-else-eq-clause-lacking g c = λ memory given uuid first texts lacks. end_lacks given uuid first texts memory c.args.self.now c.end_source.new.self c.args.source c.end_source.ensures.others lacks
+returns-else-eq-clause-lacking g c = λ memory given uuid first texts lacks. end_lacks given uuid first texts memory
+    c.args.self.now c.end_source.new.self c.args.source c.end_source.ensures.others lacks

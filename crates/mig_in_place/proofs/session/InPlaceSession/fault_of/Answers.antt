@@ -26,7 +26,15 @@ returns-in-Main-clause-stands g c = λ memory given uuid first texts stands.
     let load : LoadSettings = for_table first.table given in
     let size : IsPageSize load.page_size = stands.is_table.has_page_size in
     let s : InPlaceLoad =
-    record { table = i.table; sources = record { main = i.main; channels = i.channels.items }; round = i.round; rounds = i.rounds; base = i.base; named = i.named; verdict = i.verdict } in
+    record {
+      table = i.table;
+      sources = record { main = i.main; channels = i.channels.items };
+      round = i.round;
+      rounds = i.rounds;
+      base = i.base;
+      named = i.named;
+      verdict = i.verdict;
+    } in
     let mine : HaveTaken load uuid texts s.sources = subst (λ (x : InPlaceLoad). HaveTaken load uuid texts x.sources) (sym c.self.view_is) stands.have_taken in
     let some = some_readings load uuid texts size in
     subst (λ (x : Source). HasFault load uuid texts x c.fault.result) (sym c.in-Main.is)
@@ -40,17 +48,27 @@ returns-in-Channel-clause-stands g c = λ memory given uuid first texts stands.
     let j : ℕ = c.in-Channel.j in
     let q : KeptChannel = c.index.result.now in
     let s : InPlaceLoad =
-    record { table = i.table; sources = record { main = i.main; channels = i.channels.items }; round = i.round; rounds = i.rounds; base = i.base; named = i.named; verdict = i.verdict } in
+    record {
+      table = i.table;
+      sources = record { main = i.main; channels = i.channels.items };
+      round = i.round;
+      rounds = i.rounds;
+      base = i.base;
+      named = i.named;
+      verdict = i.verdict;
+    } in
     let mine : HaveTaken load uuid texts s.sources = subst (λ (x : InPlaceLoad). HaveTaken load uuid texts x.sources) (sym c.self.view_is) stands.have_taken in
     let has : HasSource (counts_of s.sources) (source.Channel j) =
-    subst (λ (x : InPlaceLoad). HasSource (counts_of x.sources) (source.Channel j)) (sym c.self.view_is) (subst (λ (x : Source). HasSource (counts_of c.args.self.now.sources) x) c.in-Channel.is c.requires) in
+    subst (λ (x : InPlaceLoad). HasSource (counts_of x.sources) (source.Channel j)) (sym c.self.view_is)
+    (subst (λ (x : Source). HasSource (counts_of c.args.self.now.sources) x) c.in-Channel.is c.requires) in
     let below : j < length i.channels.items = (let e = length-map i.channels.items channel_count in omega (arith, e, has)) in
     let is : slice_get i.channels.items j ≡ Some q = slice_get_read i.channels.items (length i.channels.items) j q refl below c.index.ensures in
     let some = some_readings load uuid texts size in
     subst (λ (x : Source). HasFault load uuid texts x c.fault-in-Channel.result) (sym c.in-Channel.is) (
       some.0,
       some.1,
-      fault_at (channel_of load uuid (length texts.channels)) texts.channels i.channels.items some.0.channels j q c.fault-in-Channel.result size is mine.channels some.1.has_channels
+      fault_at (channel_of load uuid (length texts.channels)) texts.channels i.channels.items some.0.channels j q
+          c.fault-in-Channel.result size is mine.channels some.1.has_channels
           c.fault-in-Channel.ensures,
     )
 

@@ -16,7 +16,15 @@ returns-in-Main-clause-takes g c = λ memory running given uuid first texts stan
     let i = c.self.inside in
     let f : Loading = record { given = given; uuid = uuid; first = first; texts = texts } in
     let s : InPlaceLoad =
-    record { table = i.table; sources = record { main = i.main; channels = i.channels.items }; round = i.round; rounds = i.rounds; base = i.base; named = i.named; verdict = i.verdict } in
+    record {
+      table = i.table;
+      sources = record { main = i.main; channels = i.channels.items };
+      round = i.round;
+      rounds = i.rounds;
+      base = i.base;
+      named = i.named;
+      verdict = i.verdict;
+    } in
     let mine : Loads f memory s = subst (λ (x : InPlaceLoad). Loads f memory x) (sym c.self.view_is) (loads_of f memory c.args.self.now running stands) in
     subst (λ (x : Source). IsTrue c.is_pending.result ↔ TakesBytes (for_table first.table given) uuid c.args.self.now.rounds texts x) (sym c.in-Main.is)
     (subst (λ (x : InPlaceLoad). IsTrue c.is_pending.result ↔ TakesBytes (for_table first.table given) uuid x.rounds texts source.Main) c.self.view_is
@@ -29,10 +37,19 @@ returns-in-Channel-clause-takes g c = λ memory running given uuid first texts s
     let q : KeptChannel = c.index.result.now in
     let f : Loading = record { given = given; uuid = uuid; first = first; texts = texts } in
     let s : InPlaceLoad =
-    record { table = i.table; sources = record { main = i.main; channels = i.channels.items }; round = i.round; rounds = i.rounds; base = i.base; named = i.named; verdict = i.verdict } in
+    record {
+      table = i.table;
+      sources = record { main = i.main; channels = i.channels.items };
+      round = i.round;
+      rounds = i.rounds;
+      base = i.base;
+      named = i.named;
+      verdict = i.verdict;
+    } in
     let mine : Loads f memory s = subst (λ (x : InPlaceLoad). Loads f memory x) (sym c.self.view_is) (loads_of f memory c.args.self.now running stands) in
     let has : HasSource (counts_of s.sources) (source.Channel j) =
-    subst (λ (x : InPlaceLoad). HasSource (counts_of x.sources) (source.Channel j)) (sym c.self.view_is) (subst (λ (x : Source). HasSource (counts_of c.args.self.now.sources) x) c.in-Channel.is c.requires) in
+    subst (λ (x : InPlaceLoad). HasSource (counts_of x.sources) (source.Channel j)) (sym c.self.view_is)
+    (subst (λ (x : Source). HasSource (counts_of c.args.self.now.sources) x) c.in-Channel.is c.requires) in
     let below : j < length i.channels.items = (let e = length-map i.channels.items channel_count in omega (arith, e, has)) in
     let is : slice_get i.channels.items j ≡ Some q = slice_get_read i.channels.items (length i.channels.items) j q refl below c.index.ensures in
     subst (λ (x : Source). IsTrue c.takes.result ↔ TakesBytes (for_table first.table given) uuid c.args.self.now.rounds texts x) (sym c.in-Channel.is)

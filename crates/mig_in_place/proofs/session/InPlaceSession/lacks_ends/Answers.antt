@@ -8,7 +8,15 @@ pub returns-clause-all : goal.returns-clause-all
 returns-clause-all g c = λ t f memory loads.
     let i = c.self.inside in
     let s : InPlaceLoad =
-    record { table = i.table; sources = record { main = i.main; channels = i.channels.items }; round = i.round; rounds = i.rounds; base = i.base; named = i.named; verdict = i.verdict } in
+    record {
+      table = i.table;
+      sources = record { main = i.main; channels = i.channels.items };
+      round = i.round;
+      rounds = i.rounds;
+      base = i.base;
+      named = i.named;
+      verdict = i.verdict;
+    } in
     let mine : Loads f memory s = subst (λ (x : InPlaceLoad). Loads f memory x) (sym c.self.view_is) loads in
     subst (λ (x : InPlaceLoad). HasAllRounds (for_table f.first.table f.given) f.uuid f.first f.texts memory x.rounds) c.self.view_is
     (all_in f memory s c.status.result mine c.status.ensures.tells c.status.ensures.whole (sym c.is_clean.ensures ∙ t) (sym c.len.ensures ∙ c.if-len-ne0.false))
@@ -17,7 +25,15 @@ pub returns-clause-more : goal.returns-clause-more
 returns-clause-more g c = λ t f memory loads.
     let i = c.self.inside in
     let s : InPlaceLoad =
-    record { table = i.table; sources = record { main = i.main; channels = i.channels.items }; round = i.round; rounds = i.rounds; base = i.base; named = i.named; verdict = i.verdict } in
+    record {
+      table = i.table;
+      sources = record { main = i.main; channels = i.channels.items };
+      round = i.round;
+      rounds = i.rounds;
+      base = i.base;
+      named = i.named;
+      verdict = i.verdict;
+    } in
     let mine : Loads f memory s = subst (λ (x : InPlaceLoad). Loads f memory x) (sym c.self.view_is) loads in
     subst (λ (x : InPlaceLoad). MoreMayCome (for_table f.first.table f.given) f.uuid f.texts x.rounds) c.self.view_is
     (main_goes_on f memory s c.status.result mine c.status.ensures.tells (sym c.is_clean.ensures ∙ t))
@@ -26,7 +42,15 @@ pub returns-then-len-ne0-clause-more : goal.returns-then-len-ne0-clause-more
 returns-then-len-ne0-clause-more g c = λ t f memory loads.
     let i = c.self.inside in
     let s : InPlaceLoad =
-    record { table = i.table; sources = record { main = i.main; channels = i.channels.items }; round = i.round; rounds = i.rounds; base = i.base; named = i.named; verdict = i.verdict } in
+    record {
+      table = i.table;
+      sources = record { main = i.main; channels = i.channels.items };
+      round = i.round;
+      rounds = i.rounds;
+      base = i.base;
+      named = i.named;
+      verdict = i.verdict;
+    } in
     let mine : Loads f memory s = subst (λ (x : InPlaceLoad). Loads f memory x) (sym c.self.view_is) loads in
     subst (λ (x : InPlaceLoad). MoreMayCome (for_table f.first.table f.given) f.uuid f.texts x.rounds) c.self.view_is
     (packets_come f memory s mine (λ e. c.if-len-ne0.true (c.len.ensures ∙ e)))

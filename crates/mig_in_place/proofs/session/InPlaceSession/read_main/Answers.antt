@@ -20,16 +20,26 @@ returns-then-is_of_other_table-clause-read g c = λ f loads.
     let i = c.self.inside in
     let memory : Image = g.M.GuestTarget.image c.args.memory.now in
     let s : InPlaceLoad =
-    record { table = i.table; sources = record { main = i.main; channels = i.channels.items }; round = i.round; rounds = i.rounds; base = i.base; named = i.named; verdict = i.verdict } in
+    record {
+      table = i.table;
+      sources = record { main = i.main; channels = i.channels.items };
+      round = i.round;
+      rounds = i.rounds;
+      base = i.base;
+      named = i.named;
+      verdict = i.verdict;
+    } in
     let mine : Loads f memory s = subst (λ (x : InPlaceLoad). Loads f memory x) (sym c.self.view_is) loads in
     let given = main_of (for_table f.first.table f.given) in
     let open_ : IsFalse i.main.reader.ended = ap (λ (x : InPlaceLoad). x.sources.main.reader.ended) c.self.view_is ∙ c.requires.open in
     let text : Text = with_piece c.args.piece.now f.texts.main in
     let stands : StandsAt given i.rounds text c.feed.new.self = c.in_ok-feed.ensures.stands given i.rounds f.texts.main mine.is_running.main.stands in
     let other = c.if-is_of_other_table.ensures.other refl given i.rounds text stands in
-    let at : Stands (with_bytes source.Main c.args.piece.now f) memory (record s { sources = record s.sources { main = c.feed.new.self }; verdict = failed 0 origin.Main fault.OtherTable }) =
+    let at : Stands (with_bytes source.Main c.args.piece.now f) memory
+    (record s { sources = record s.sources { main = c.feed.new.self }; verdict = failed 0 origin.Main fault.OtherTable }) =
     of_other f memory s mine text (piece_goes f memory s mine c.args.piece.now open_) c.feed.new.self other.0 stands other.1 other.2 in
-    subst (λ (v : Verdict). IsUnsettled (with_bytes source.Main c.args.piece.now f) memory (record s { sources = record s.sources { main = c.feed.new.self }; verdict = v })) (sym c.failed-self-inside.ensures)
+    subst (λ (v : Verdict). IsUnsettled (with_bytes source.Main c.args.piece.now f) memory
+    (record s { sources = record s.sources { main = c.feed.new.self }; verdict = v })) (sym c.failed-self-inside.ensures)
     (record { runs = λ running. absurd cc; stands = λ _. at })
 
 pub take_main_round-requires-clause-main : goal.take_main_round-requires-clause-main
@@ -53,7 +63,15 @@ returns-clause-read g c = λ f loads.
     let i = c.self.inside in
     let memory : Image = g.M.GuestTarget.image c.args.memory.now in
     let s : InPlaceLoad =
-    record { table = i.table; sources = record { main = i.main; channels = i.channels.items }; round = i.round; rounds = i.rounds; base = i.base; named = i.named; verdict = i.verdict } in
+    record {
+      table = i.table;
+      sources = record { main = i.main; channels = i.channels.items };
+      round = i.round;
+      rounds = i.rounds;
+      base = i.base;
+      named = i.named;
+      verdict = i.verdict;
+    } in
     let mine : Loads f memory s = subst (λ (x : InPlaceLoad). Loads f memory x) (sym c.self.view_is) loads in
     let given = main_of (for_table f.first.table f.given) in
     let open_ : IsFalse i.main.reader.ended = ap (λ (x : InPlaceLoad). x.sources.main.reader.ended) c.self.view_is ∙ c.requires.open in
@@ -61,9 +79,12 @@ returns-clause-read g c = λ f loads.
     let running = ap (λ (x : InPlaceLoad). x.verdict) c.self.view_is ∙ c.requires.runs in
     let text : Text = with_piece c.args.piece.now f.texts.main in
     let stands : StandsAt given i.rounds text c.feed.new.self = c.in_ok-feed.ensures.stands given i.rounds f.texts.main mine.is_running.main.stands in
-    let found = subst (λ (t : RamTable). HasTable given text.bytes None ⊎ HasTable given text.bytes (Some t)) (sym mine.same_table) (c.if-is_of_other_table.ensures.own refl given i.rounds text stands) in
+    let found = subst (λ (t : RamTable). HasTable given text.bytes None ⊎ HasTable given text.bytes (Some t))
+    (sym mine.same_table) (c.if-is_of_other_table.ensures.own refl given i.rounds text stands) in
     record {
-      runs = λ _. main_read f memory s mine text (piece_goes f memory s mine c.args.piece.now open_) c.feed.new.self c.take_main_round.new.main c.take_main_round.new.round
-          (g.M.GuestTarget.image c.take_main_round.new.memory) (c.feed.ensures.whole ∙ here) here stands found (c.take_main_round.ensures.taken given i.rounds text stands);
+      runs = λ _. main_read f memory s mine text
+          (piece_goes f memory s mine c.args.piece.now open_) c.feed.new.self c.take_main_round.new.main c.take_main_round.new.round
+          (g.M.GuestTarget.image c.take_main_round.new.memory) (c.feed.ensures.whole ∙ here) here stands found
+          (c.take_main_round.ensures.taken given i.rounds text stands);
       stands = λ other. absurd (other running);
     }

@@ -22,8 +22,10 @@ pub invariant_of-self : goal.invariant_of-self
 invariant_of-self g c =
     let i = c.self.inside in
     let q : KeptChannel = c.index_mut-channel.result.now in
-    let below : c.args.j < length i.channels.items = (let e = ap (λ (x : InPlaceLoad). length x.sources.channels) c.self.view_is in let lt = c.requires.source in omega (arith, e, lt)) in
-    let is : slice_get i.channels.items c.args.j ≡ Some q = slice_get_read i.channels.items (length i.channels.items) c.args.j q refl below c.index_mut-channel.ensures.value in
+    let below : c.args.j < length i.channels.items =
+    (let e = ap (λ (x : InPlaceLoad). length x.sources.channels) c.self.view_is in let lt = c.requires.source in omega (arith, e, lt)) in
+    let is : slice_get i.channels.items c.args.j ≡ Some q =
+    slice_get_read i.channels.items (length i.channels.items) c.args.j q refl below c.index_mut-channel.ensures.value in
     let keeps : KeepsSome i.table i.round = c.self.invariant.round in
     let seen : i.round.arrivals.seen.table ≡ i.table = same_table i.table keeps.0 i.round.arrivals keeps.1.has_come in
     let len = length-set i.channels.items c.args.j c.take_packet.new.self in
@@ -31,8 +33,10 @@ invariant_of-self g c =
     let r2 = c.self.invariant.has_hello_room in
     record {
       channels = all_set (IsChannelOf i.table) i.channels.items c.args.j c.take_packet.new.self
-          (c.take_packet.ensures.channel i.table (all_there (IsChannelOf i.table) i.channels.items c.args.j q is c.self.invariant.channels)) c.self.invariant.channels;
-      round = subst (λ (t : RamTable). KeepsSome t c.take_packet.new.round) seen (c.take_packet.ensures.round (subst (λ (t : RamTable). KeepsSome t i.round) (sym seen) keeps));
+          (c.take_packet.ensures.channel i.table (all_there
+          (IsChannelOf i.table) i.channels.items c.args.j q is c.self.invariant.channels)) c.self.invariant.channels;
+      round = subst (λ (t : RamTable). KeepsSome t c.take_packet.new.round) seen
+          (c.take_packet.ensures.round (subst (λ (t : RamTable). KeepsSome t i.round) (sym seen) keeps));
       main = c.self.invariant.main;
       is_few = c.self.invariant.is_few;
       has_few_rounds = c.self.invariant.has_few_rounds;
@@ -42,31 +46,49 @@ invariant_of-self g c =
     }
 
 pub returns-clause-took : goal.returns-clause-took
-returns-clause-took g c = if_ok c.take_packet.result (both_ok _ _ c.take_packet.result c.take_packet.ensures.took (both_ok _ _ c.take_packet.result c.take_packet.ensures.open c.take_packet.ensures.right)) (λ did all yes f memory same loads.
+returns-clause-took g c = if_ok c.take_packet.result
+    (both_ok _ _ c.take_packet.result c.take_packet.ensures.took
+    (both_ok _ _ c.take_packet.result c.take_packet.ensures.open c.take_packet.ensures.right)) (λ did all yes f memory same loads.
     let i = c.self.inside in
     let q : KeptChannel = c.index_mut-channel.result.now in
     let s : InPlaceLoad =
-    record { table = i.table; sources = record { main = i.main; channels = i.channels.items }; round = i.round; rounds = i.rounds; base = i.base; named = i.named; verdict = i.verdict } in
+    record {
+      table = i.table;
+      sources = record { main = i.main; channels = i.channels.items };
+      round = i.round;
+      rounds = i.rounds;
+      base = i.base;
+      named = i.named;
+      verdict = i.verdict;
+    } in
     let mine : Loads f memory s = subst (λ (x : InPlaceLoad). Loads f memory x) (sym c.self.view_is) loads in
-    let below : c.args.j < length i.channels.items = (let e = ap (λ (x : InPlaceLoad). length x.sources.channels) c.self.view_is in let lt = c.requires.source in omega (arith, e, lt)) in
-    let is : slice_get i.channels.items c.args.j ≡ Some q = slice_get_read i.channels.items (length i.channels.items) c.args.j q refl below c.index_mut-channel.ensures.value in
+    let below : c.args.j < length i.channels.items =
+    (let e = ap (λ (x : InPlaceLoad). length x.sources.channels) c.self.view_is in let lt = c.requires.source in omega (arith, e, lt)) in
+    let is : slice_get i.channels.items c.args.j ≡ Some q =
+    slice_get_read i.channels.items (length i.channels.items) c.args.j q refl below c.index_mut-channel.ensures.value in
     let took = all.0 yes in
     let right = all.1.1 yes in
-    channel_takes f memory s mine c.args.j q is c.size_list-list.result c.size_list-list.ensures (same ∙ sym (ap (λ (x : InPlaceLoad). x.table) c.self.view_is) ∙ sym mine.same_table) c.args.head.now
+    channel_takes f memory s mine c.args.j q is c.size_list-list.result c.size_list-list.ensures
+    (same ∙ sym (ap (λ (x : InPlaceLoad). x.table) c.self.view_is) ∙ sym mine.same_table) c.args.head.now
     (lent_bytes c.args.contents.now) c.take_packet.new.self c.take_packet.new.round (all.1.0 yes).1 took.0 (λ wrong. absurd (let r = right.0 in cc)) took.1)
 
 pub returns-clause-open : goal.returns-clause-open
 returns-clause-open g c = if_ok c.take_packet.result c.take_packet.ensures.open (λ did open_ yes.
     let i = c.self.inside in
-    let below : c.args.j < length i.channels.items = (let e = ap (λ (x : InPlaceLoad). length x.sources.channels) c.self.view_is in let lt = c.requires.source in omega (arith, e, lt)) in
-    subst (λ (o : Option KeptChannel). IsSomeAnd o (λ x. IsFalse x.is_whole)) (sym (there i.channels.items c.args.j c.take_packet.new.self below)) (open_ yes).0)
+    let below : c.args.j < length i.channels.items =
+    (let e = ap (λ (x : InPlaceLoad). length x.sources.channels) c.self.view_is in let lt = c.requires.source in omega (arith, e, lt)) in
+    subst (λ (o : Option KeptChannel). IsSomeAnd o (λ x. IsFalse x.is_whole))
+    (sym (there i.channels.items c.args.j c.take_packet.new.self below)) (open_ yes).0)
 
 pub returns-clause-counts : goal.returns-clause-counts
 returns-clause-counts g c = if_ok c.take_packet.result c.take_packet.ensures.fed (λ did fed yes.
     let i = c.self.inside in
     let q : KeptChannel = c.index_mut-channel.result.now in
     let n : ℕ = length (packet_bytes c.args.head.now (lent_bytes c.args.contents.now)) in
-    let below : c.args.j < length i.channels.items = (let e = ap (λ (x : InPlaceLoad). length x.sources.channels) c.self.view_is in let lt = c.requires.source in omega (arith, e, lt)) in
-    let is : slice_get i.channels.items c.args.j ≡ Some q = slice_get_read i.channels.items (length i.channels.items) c.args.j q refl below c.index_mut-channel.ensures.value in
-    ap (λ (l : List Count). record { main = main_count i.main; channels = l }) (channel_fed i.channels.items c.args.j n q c.take_packet.new.self is (fed yes) c.take_packet.ensures.ended)
+    let below : c.args.j < length i.channels.items =
+    (let e = ap (λ (x : InPlaceLoad). length x.sources.channels) c.self.view_is in let lt = c.requires.source in omega (arith, e, lt)) in
+    let is : slice_get i.channels.items c.args.j ≡ Some q =
+    slice_get_read i.channels.items (length i.channels.items) c.args.j q refl below c.index_mut-channel.ensures.value in
+    ap (λ (l : List Count). record { main = main_count i.main; channels = l })
+    (channel_fed i.channels.items c.args.j n q c.take_packet.new.self is (fed yes) c.take_packet.ensures.ended)
     ∙ ap (λ (x : InPlaceLoad). with_fed (counts_of x.sources) (source.Channel c.args.j) n) c.self.view_is)

@@ -17,13 +17,19 @@ returns-clause-took g c = λ _ given uuid first texts memory same stands.
     let running : c.args.self.now.verdict ≡ Running = search rules in
     let did : IsTrue c.in_ok-take_apart.field-0 = search rules in
     let f : Loading = record { given = given; uuid = uuid; first = first; texts = texts } in
-    let loads : Loads f memory c.args.self.now = record { is_table = stands.is_table; is_image = stands.is_image; same_table = stands.same_table; is_running = stands.runs running } in
+    let loads : Loads f memory c.args.self.now = record {
+      is_table = stands.is_table;
+      is_image = stands.is_image;
+      same_table = stands.same_table;
+      is_running = stands.runs running;
+    } in
     let then : Loading = with_bytes (source.Channel c.args.channel) (packet_bytes c.args.head.now (lent_bytes c.args.contents.now)) f in
     let changed : Image = with_round memory (pages_taken memory.table c.args.head.now (lent_bytes c.args.contents.now)) in
     let on : Loads then changed c.take_apart.new.self = c.in_ok-take_apart.ensures.took did f memory same loads in
-    elim (cases_Bool c.tell-told.result) [
-      | inl told ↦ c.tell-told.ensures.told told then changed on
+    elim (cases_Bool c.tell-found.result) [
+      | inl told ↦ c.tell-found.ensures.told told then changed on
       | inr due ↦
-          let some = there_some (λ (x : KeptChannel). IsFalse x.is_whole) (slice_get c.take_apart.new.self.sources.channels c.args.channel) (c.in_ok-take_apart.ensures.open did) in
-          absurd (not_due then changed c.take_apart.new.self on c.args.channel some.0 some.1 some.2 (c.tell-told.ensures.due due then changed on))
+          let some = there_some (λ (x : KeptChannel). IsFalse x.is_whole)
+          (slice_get c.take_apart.new.self.sources.channels c.args.channel) (c.in_ok-take_apart.ensures.open did) in
+          absurd (not_due then changed c.take_apart.new.self on c.args.channel some.0 some.1 some.2 (c.tell-found.ensures.due due then changed on))
     ]

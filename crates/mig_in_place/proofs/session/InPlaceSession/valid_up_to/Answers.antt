@@ -24,9 +24,18 @@ returns-in-Main-clause-stands g c = λ memory given uuid first texts stands.
     let i = c.self.inside in
     let load : LoadSettings = for_table first.table given in
     let s : InPlaceLoad =
-    record { table = i.table; sources = record { main = i.main; channels = i.channels.items }; round = i.round; rounds = i.rounds; base = i.base; named = i.named; verdict = i.verdict } in
+    record {
+      table = i.table;
+      sources = record { main = i.main; channels = i.channels.items };
+      round = i.round;
+      rounds = i.rounds;
+      base = i.base;
+      named = i.named;
+      verdict = i.verdict;
+    } in
     let mine : HaveTaken load uuid texts s.sources = subst (λ (x : InPlaceLoad). HaveTaken load uuid texts x.sources) (sym c.self.view_is) stands.have_taken in
-    subst (λ (x : Source). IsSourceValidUpTo load uuid texts x (Some c.valid_up_to.result)) (sym c.in-Main.is) (c.valid_up_to.ensures (main_of load) mine.rounds texts.main mine.main)
+    subst (λ (x : Source). IsSourceValidUpTo load uuid texts x (Some c.valid_up_to.result)) (sym c.in-Main.is)
+    (c.valid_up_to.ensures (main_of load) mine.rounds texts.main mine.main)
 
 pub returns-in-Channel-clause-stands : goal.returns-in-Channel-clause-stands
 returns-in-Channel-clause-stands g c = λ memory given uuid first texts stands.
@@ -35,10 +44,19 @@ returns-in-Channel-clause-stands g c = λ memory given uuid first texts stands.
     let j : ℕ = c.in-Channel.j in
     let q : KeptChannel = c.index.result.now in
     let s : InPlaceLoad =
-    record { table = i.table; sources = record { main = i.main; channels = i.channels.items }; round = i.round; rounds = i.rounds; base = i.base; named = i.named; verdict = i.verdict } in
+    record {
+      table = i.table;
+      sources = record { main = i.main; channels = i.channels.items };
+      round = i.round;
+      rounds = i.rounds;
+      base = i.base;
+      named = i.named;
+      verdict = i.verdict;
+    } in
     let mine : HaveTaken load uuid texts s.sources = subst (λ (x : InPlaceLoad). HaveTaken load uuid texts x.sources) (sym c.self.view_is) stands.have_taken in
     let has : HasSource (counts_of s.sources) (source.Channel j) =
-    subst (λ (x : InPlaceLoad). HasSource (counts_of x.sources) (source.Channel j)) (sym c.self.view_is) (subst (λ (x : Source). HasSource (counts_of c.args.self.now.sources) x) c.in-Channel.is c.requires) in
+    subst (λ (x : InPlaceLoad). HasSource (counts_of x.sources) (source.Channel j)) (sym c.self.view_is)
+    (subst (λ (x : Source). HasSource (counts_of c.args.self.now.sources) x) c.in-Channel.is c.requires) in
     let below : j < length i.channels.items = (let e = length-map i.channels.items channel_count in omega (arith, e, has)) in
     let is : slice_get i.channels.items j ≡ Some q = slice_get_read i.channels.items (length i.channels.items) j q refl below c.index.ensures in
     subst (λ (x : Source). IsSourceValidUpTo load uuid texts x (Some c.valid_up_to-in-Channel.result)) (sym c.in-Channel.is)

@@ -18,5 +18,6 @@ returns-else-has g c =
     let m : Image = g.M.GuestTarget.image c.self.inside.memory in
     let none : has_place c.self.inside.written.marked c.args.place ≡ false = sym c.has.ensures ∙ c.if-has.false in
     let here : IsPlace m.table c.args.place = subst (λ (i : Image). IsPlace i.table c.args.place) (sym c.self.view_is) c.requires in
-    let same : m ≡ with_page m c.args.place (zero_page m.table.page_size) = zeros_already m c.self.inside.written c.args.place c.self.invariant c.table-table.ensures.image here none in
+    let same : m ≡ with_page m c.args.place (zero_page m.table.page_size) =
+    zeros_already m c.self.inside.written c.args.place c.self.invariant c.table-table.ensures.image here none in
     subst (λ (i : Image). i ≡ with_page i c.args.place (zero_page i.table.page_size)) c.self.view_is same

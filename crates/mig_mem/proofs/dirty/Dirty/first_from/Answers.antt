@@ -13,7 +13,8 @@ pub loop-block-preserved : goal.loop-block-preserved
 loop-block-preserved g c = walked_block c.args.self.now c.args.from c.loop-block.block c.loop-block.page c.loop-block.invariant c.in_default.ensures.none
 
 pub returns-in-Some : goal.returns-in-Some
-returns-in-Some g c = sym (walked_found c.args.self.now c.args.from c.loop-block.block c.loop-block.page c.in-Some.page c.table.ensures.set c.loop-block.invariant c.in-Some.ensures.some)
+returns-in-Some g c = sym (walked_found c.args.self.now c.args.from c.loop-block.block c.loop-block.page c.in-Some.page
+    c.table.ensures.set c.loop-block.invariant c.in-Some.ensures.some)
 
 pub returns : goal.returns
 returns g c =

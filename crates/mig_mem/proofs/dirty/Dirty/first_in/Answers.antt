@@ -10,7 +10,8 @@ use Rattle.mig_mem.proofs.dirty.Dirty.first_in.Goals as goal
 pub first_set-requires : goal.first_set-requires
 first_set-requires g c =
     let lt : c.args.block < length c.self.inside.table.blocks = rw (sym (ap (λ (s : PlaceSet). s.table) c.self.view_is)) at c.requires in
-    rw c.deref.ensures.value (row_short c.self.inside.table c.self.inside.words.items c.args.block c.index.result.now c.self.invariant.is_table c.self.invariant.has_room lt c.index.ensures)
+    rw c.deref.ensures.value (row_short c.self.inside.table c.self.inside.words.items c.args.block c.index.result.now
+    c.self.invariant.is_table c.self.invariant.has_room lt c.index.ensures)
 
 pub returns-in_err-page-clause-none : goal.returns-in_err-page-clause-none
 returns-in_err-page-clause-none g c =

@@ -16,9 +16,11 @@ loop-block-preserved g c =
     let v = c.in_ok-row.field-0 in
     let rows = c.loop-block.rows.items in
     let is : IsRowOf (bitmap_of bitmaps c.loop-block.block) (block table.blocks c.loop-block.block).pages v.items =
-    let lt : c.loop-block.block < length c.args.bitmaps.now = omega (arith, c.len-block-end.ensures.value, c.requires.same_count, length-map c.args.bitmaps.now (λ (b : Bor (List ℕ)). b.now)) in
+    let lt : c.loop-block.block < length c.args.bitmaps.now =
+    omega (arith, c.len-block-end.ensures.value, c.requires.same_count, length-map c.args.bitmaps.now (λ (b : Bor (List ℕ)). b.now)) in
     subst (λ (n : ℕ). IsRowOf (bitmap_of bitmaps c.loop-block.block) n v.items) c.pages.ensures.value
-    (subst (λ (l : List ℕ). IsRowOf l c.pages.result v.items) (sym (get_or-map (λ (b : Bor (List ℕ)). b.now) c.args.bitmaps.now c.loop-block.block _ [] lt)) c.in_ok-row.ensures) in
+    (subst (λ (l : List ℕ). IsRowOf l c.pages.result v.items)
+    (sym (get_or-map (λ (b : Bor (List ℕ)). b.now) c.args.bitmaps.now c.loop-block.block _ [] lt)) c.in_ok-row.ensures) in
     rw (c.in_ok-push.ensures.items, map_push (λ (x : Vec ℕ g.row.A.Denot). x.items) rows v)
     (one_row_more table bitmaps c.loop-block.block (buffers_of rows) v.items c.loop-block.invariant is)
 

@@ -18,4 +18,5 @@ pub returns-else-holds : goal.returns-else-holds
 returns-else-holds g c =
     let table = c.self.inside.table in
     let past : IsPlace table c.args.place → ⊥ = λ is. let t : c.holds.result ≡ true = c.holds.ensures.1 is in absurd (cc (c.if-holds.false)) in
-    c.if-holds.false ∙ sym (has_place-where_past table (marks_at c.self.inside.words.items) c.args.place past) ∙ ap (λ (s : PlaceSet). has_place s.marked c.args.place) c.self.view_is
+    c.if-holds.false ∙ sym (has_place-where_past table (marks_at c.self.inside.words.items) c.args.place past)
+    ∙ ap (λ (s : PlaceSet). has_place s.marked c.args.place) c.self.view_is

@@ -10,7 +10,8 @@ returns-then-is_set-clause-set g c =
     let words = c.self.inside.words.items in
     let is : IsPlace table c.args.place = rw (sym (ap (λ (s : PlaceSet). s.table) c.self.view_is)) at c.requires in
     let there : marks_at words c.args.place ≡ true =
-    mark_seen table words c.args.place c.index.result.now c.deref.result.now c.is_set.result c.self.invariant.has_room is c.index.ensures c.deref.ensures.value c.is_set.ensures ∙ c.if-is_set.true in
+    mark_seen table words c.args.place c.index.result.now c.deref.result.now c.is_set.result c.self.invariant.has_room is
+    c.index.ensures c.deref.ensures.value c.is_set.ensures ∙ c.if-is_set.true in
     sym c.self.view_is ∙ marked_already table words c.args.place there ∙ ap (λ (s : PlaceSet). with_place s c.args.place) c.self.view_is
 
 pub returns-then-is_set-clause-new : goal.returns-then-is_set-clause-new
@@ -19,7 +20,8 @@ returns-then-is_set-clause-new g c =
     let words = c.self.inside.words.items in
     let is : IsPlace table c.args.place = rw (sym (ap (λ (s : PlaceSet). s.table) c.self.view_is)) at c.requires in
     let there : marks_at words c.args.place ≡ true =
-    mark_seen table words c.args.place c.index.result.now c.deref.result.now c.is_set.result c.self.invariant.has_room is c.index.ensures c.deref.ensures.value c.is_set.ensures ∙ c.if-is_set.true in
+    mark_seen table words c.args.place c.index.result.now c.deref.result.now c.is_set.result c.self.invariant.has_room is
+    c.index.ensures c.deref.ensures.value c.is_set.ensures ∙ c.if-is_set.true in
     let has : has_place c.args.self.now.marked c.args.place ≡ true =
     sym (ap (λ (s : PlaceSet). has_place s.marked c.args.place) c.self.view_is) ∙ has_place-where table (marks_at words) c.args.place is ∙ there in
     rw has refl
@@ -33,8 +35,10 @@ invariant_of-self g c =
     let words = c.self.inside.words.items in
     let is : IsPlace table c.args.place = rw (sym (ap (λ (s : PlaceSet). s.table) c.self.view_is)) at c.requires in
     let absent : marks_at words c.args.place ≡ false =
-    mark_seen table words c.args.place c.index.result.now c.deref.result.now c.is_set.result c.self.invariant.has_room is c.index.ensures c.deref.ensures.value c.is_set.ensures ∙ c.if-is_set.false in
-    (slice_more table words c.self.inside.count c.args.place c.index_mut.result.now c.deref_mut.result.now c.set.new.words c.self.invariant is c.index_mut.ensures.value
+    mark_seen table words c.args.place c.index.result.now c.deref.result.now c.is_set.result c.self.invariant.has_room is
+    c.index.ensures c.deref.ensures.value c.is_set.ensures ∙ c.if-is_set.false in
+    (slice_more table words c.self.inside.count c.args.place c.index_mut.result.now c.deref_mut.result.now c.set.new.words
+    c.self.invariant is c.index_mut.ensures.value
     c.deref_mut.ensures.value c.deref_mut.ensures.len c.set.auto.words c.set.ensures absent).0
 
 pub returns-clause-set : goal.returns-clause-set
@@ -43,8 +47,10 @@ returns-clause-set g c =
     let words = c.self.inside.words.items in
     let is : IsPlace table c.args.place = rw (sym (ap (λ (s : PlaceSet). s.table) c.self.view_is)) at c.requires in
     let absent : marks_at words c.args.place ≡ false =
-    mark_seen table words c.args.place c.index.result.now c.deref.result.now c.is_set.result c.self.invariant.has_room is c.index.ensures c.deref.ensures.value c.is_set.ensures ∙ c.if-is_set.false in
-    (slice_more table words c.self.inside.count c.args.place c.index_mut.result.now c.deref_mut.result.now c.set.new.words c.self.invariant is c.index_mut.ensures.value
+    mark_seen table words c.args.place c.index.result.now c.deref.result.now c.is_set.result c.self.invariant.has_room is
+    c.index.ensures c.deref.ensures.value c.is_set.ensures ∙ c.if-is_set.false in
+    (slice_more table words c.self.inside.count c.args.place c.index_mut.result.now c.deref_mut.result.now c.set.new.words
+    c.self.invariant is c.index_mut.ensures.value
     c.deref_mut.ensures.value c.deref_mut.ensures.len c.set.auto.words c.set.ensures absent).1
     ∙ ap (λ (s : PlaceSet). with_place s c.args.place) c.self.view_is
 
@@ -54,7 +60,8 @@ returns-clause-new g c =
     let words = c.self.inside.words.items in
     let is : IsPlace table c.args.place = rw (sym (ap (λ (s : PlaceSet). s.table) c.self.view_is)) at c.requires in
     let absent : marks_at words c.args.place ≡ false =
-    mark_seen table words c.args.place c.index.result.now c.deref.result.now c.is_set.result c.self.invariant.has_room is c.index.ensures c.deref.ensures.value c.is_set.ensures ∙ c.if-is_set.false in
+    mark_seen table words c.args.place c.index.result.now c.deref.result.now c.is_set.result c.self.invariant.has_room is
+    c.index.ensures c.deref.ensures.value c.is_set.ensures ∙ c.if-is_set.false in
     let has : has_place c.args.self.now.marked c.args.place ≡ false =
     sym (ap (λ (s : PlaceSet). has_place s.marked c.args.place) c.self.view_is) ∙ has_place-where table (marks_at words) c.args.place is ∙ absent in
     rw has refl

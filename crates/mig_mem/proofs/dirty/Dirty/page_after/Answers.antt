@@ -9,7 +9,8 @@ pub page_after-requires : goal.page_after-requires
 page_after-requires g c =
     let table = c.self.inside.table in
     let lt : c.args.block < length table.blocks = subst (λ (s : PlaceSet). c.args.block < length s.table.blocks) (sym c.self.view_is) c.requires in
-    rw c.deref.ensures.value (row_short table c.self.inside.words.items c.args.block c.index.result.now c.self.invariant.is_table c.self.invariant.has_room lt c.index.ensures)
+    rw c.deref.ensures.value (row_short table c.self.inside.words.items c.args.block c.index.result.now c.self.invariant.is_table
+    c.self.invariant.has_room lt c.index.ensures)
 
 pub returns : goal.returns
 returns g c =

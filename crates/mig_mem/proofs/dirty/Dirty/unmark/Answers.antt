@@ -10,7 +10,8 @@ returns-then-not-is_set g c =
     let words = c.self.inside.words.items in
     let is : IsPlace table c.args.place = rw (sym (ap (λ (s : PlaceSet). s.table) c.self.view_is)) at c.requires in
     let absent : marks_at words c.args.place ≡ false =
-    mark_seen table words c.args.place c.index.result.now c.deref.result.now c.is_set.result c.self.invariant.has_room is c.index.ensures c.deref.ensures.value c.is_set.ensures ∙ c.if-not-is_set.true in
+    mark_seen table words c.args.place c.index.result.now c.deref.result.now c.is_set.result c.self.invariant.has_room is
+    c.index.ensures c.deref.ensures.value c.is_set.ensures ∙ c.if-not-is_set.true in
     sym c.self.view_is ∙ marked_absent table words c.args.place absent ∙ ap (λ (s : PlaceSet). without_place s c.args.place) c.self.view_is
 
 pub overflow_sub-self : goal.overflow_sub-self
@@ -19,8 +20,10 @@ overflow_sub-self g c =
     let words = c.self.inside.words.items in
     let is : IsPlace table c.args.place = rw (sym (ap (λ (s : PlaceSet). s.table) c.self.view_is)) at c.requires in
     let there : marks_at words c.args.place ≡ true =
-    mark_seen table words c.args.place c.index.result.now c.deref.result.now c.is_set.result c.self.invariant.has_room is c.index.ensures c.deref.ensures.value c.is_set.ensures ∙ c.if-not-is_set.false in
-    let all = slice_fewer table words c.self.inside.count c.args.place c.index_mut.result.now c.deref_mut.result.now c.unset.new.words c.self.invariant is c.index_mut.ensures.value
+    mark_seen table words c.args.place c.index.result.now c.deref.result.now c.is_set.result c.self.invariant.has_room is
+    c.index.ensures c.deref.ensures.value c.is_set.ensures ∙ c.if-not-is_set.false in
+    let all = slice_fewer table words c.self.inside.count c.args.place c.index_mut.result.now c.deref_mut.result.now
+    c.unset.new.words c.self.invariant is c.index_mut.ensures.value
     c.deref_mut.ensures.value c.deref_mut.ensures.len c.unset.auto.words c.unset.ensures there in
     all.0
 
@@ -30,8 +33,10 @@ invariant_of-self g c =
     let words = c.self.inside.words.items in
     let is : IsPlace table c.args.place = rw (sym (ap (λ (s : PlaceSet). s.table) c.self.view_is)) at c.requires in
     let there : marks_at words c.args.place ≡ true =
-    mark_seen table words c.args.place c.index.result.now c.deref.result.now c.is_set.result c.self.invariant.has_room is c.index.ensures c.deref.ensures.value c.is_set.ensures ∙ c.if-not-is_set.false in
-    let all = slice_fewer table words c.self.inside.count c.args.place c.index_mut.result.now c.deref_mut.result.now c.unset.new.words c.self.invariant is c.index_mut.ensures.value
+    mark_seen table words c.args.place c.index.result.now c.deref.result.now c.is_set.result c.self.invariant.has_room is
+    c.index.ensures c.deref.ensures.value c.is_set.ensures ∙ c.if-not-is_set.false in
+    let all = slice_fewer table words c.self.inside.count c.args.place c.index_mut.result.now c.deref_mut.result.now
+    c.unset.new.words c.self.invariant is c.index_mut.ensures.value
     c.deref_mut.ensures.value c.deref_mut.ensures.len c.unset.auto.words c.unset.ensures there in
     all.1.0
 
@@ -41,7 +46,9 @@ returns g c =
     let words = c.self.inside.words.items in
     let is : IsPlace table c.args.place = rw (sym (ap (λ (s : PlaceSet). s.table) c.self.view_is)) at c.requires in
     let there : marks_at words c.args.place ≡ true =
-    mark_seen table words c.args.place c.index.result.now c.deref.result.now c.is_set.result c.self.invariant.has_room is c.index.ensures c.deref.ensures.value c.is_set.ensures ∙ c.if-not-is_set.false in
-    let all = slice_fewer table words c.self.inside.count c.args.place c.index_mut.result.now c.deref_mut.result.now c.unset.new.words c.self.invariant is c.index_mut.ensures.value
+    mark_seen table words c.args.place c.index.result.now c.deref.result.now c.is_set.result c.self.invariant.has_room is
+    c.index.ensures c.deref.ensures.value c.is_set.ensures ∙ c.if-not-is_set.false in
+    let all = slice_fewer table words c.self.inside.count c.args.place c.index_mut.result.now c.deref_mut.result.now
+    c.unset.new.words c.self.invariant is c.index_mut.ensures.value
     c.deref_mut.ensures.value c.deref_mut.ensures.len c.unset.auto.words c.unset.ensures there in
     all.1.1 ∙ ap (λ (s : PlaceSet). without_place s c.args.place) c.self.view_is

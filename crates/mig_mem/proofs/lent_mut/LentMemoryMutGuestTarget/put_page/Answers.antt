@@ -16,8 +16,10 @@ invariant_of-self g c =
     let loans = c.self.inside.blocks.now in
     let p = c.args.place in
     let is : IsPlace table p = rw (sym (ap (λ (m : Image). m.table) c.self.view_is)) at c.requires.place in
-    let changes : ChangesPart table.page_size (get_or loans p.block no_loan).now c.write_part.new.items p.page c.args.bytes.now = rw (← c.page_size-size.ensures) c.write_part.ensures in
-    (loan_written (λ (b : MutBor (List ℕ)). b.now) table loans p no_loan (set_vals c.write_part.new.items (get_or loans p.block no_loan)) c.args.bytes.now c.self.invariant is changes).0
+    let changes : ChangesPart table.page_size (get_or loans p.block no_loan).now c.write_part.new.items p.page c.args.bytes.now =
+    rw (← c.page_size-size.ensures) c.write_part.ensures in
+    (loan_written (λ (b : MutBor (List ℕ)). b.now) table loans p no_loan
+    (set_vals c.write_part.new.items (get_or loans p.block no_loan)) c.args.bytes.now c.self.invariant is changes).0
 
 pub returns : goal.returns
 returns g c =
@@ -25,6 +27,8 @@ returns g c =
     let loans = c.self.inside.blocks.now in
     let p = c.args.place in
     let is : IsPlace table p = rw (sym (ap (λ (m : Image). m.table) c.self.view_is)) at c.requires.place in
-    let changes : ChangesPart table.page_size (get_or loans p.block no_loan).now c.write_part.new.items p.page c.args.bytes.now = rw (← c.page_size-size.ensures) c.write_part.ensures in
-    sym (loan_written (λ (b : MutBor (List ℕ)). b.now) table loans p no_loan (set_vals c.write_part.new.items (get_or loans p.block no_loan)) c.args.bytes.now c.self.invariant is changes).1
+    let changes : ChangesPart table.page_size (get_or loans p.block no_loan).now c.write_part.new.items p.page c.args.bytes.now =
+    rw (← c.page_size-size.ensures) c.write_part.ensures in
+    sym (loan_written (λ (b : MutBor (List ℕ)). b.now) table loans p no_loan
+    (set_vals c.write_part.new.items (get_or loans p.block no_loan)) c.args.bytes.now c.self.invariant is changes).1
     ∙ ap (λ (m : Image). with_page m p c.args.bytes.now) c.self.view_is

@@ -19,8 +19,10 @@ invariant_of-self g c =
     let loans = c.self.inside.blocks.now in
     let p = c.args.place in
     let is : IsPlace table p = rw (sym (ap (λ (m : Image). m.table) c.self.view_is)) at c.requires in
-    let changes : ChangesPart table.page_size (get_or loans p.block no_loan).now c.clear_part.new.bytes p.page (zero_page table.page_size) = rw (← c.page_size-size.ensures) c.clear_part.ensures in
-    (loan_written (λ (b : MutBor (List ℕ)). b.now) table loans p no_loan (set_vals c.clear_part.new.bytes (get_or loans p.block no_loan)) (zero_page table.page_size) c.self.invariant is changes).0
+    let changes : ChangesPart table.page_size (get_or loans p.block no_loan).now c.clear_part.new.bytes p.page
+    (zero_page table.page_size) = rw (← c.page_size-size.ensures) c.clear_part.ensures in
+    (loan_written (λ (b : MutBor (List ℕ)). b.now) table loans p no_loan
+    (set_vals c.clear_part.new.bytes (get_or loans p.block no_loan)) (zero_page table.page_size) c.self.invariant is changes).0
 
 pub returns : goal.returns
 returns g c =
@@ -28,6 +30,8 @@ returns g c =
     let loans = c.self.inside.blocks.now in
     let p = c.args.place in
     let is : IsPlace table p = rw (sym (ap (λ (m : Image). m.table) c.self.view_is)) at c.requires in
-    let changes : ChangesPart table.page_size (get_or loans p.block no_loan).now c.clear_part.new.bytes p.page (zero_page table.page_size) = rw (← c.page_size-size.ensures) c.clear_part.ensures in
-    sym (loan_written (λ (b : MutBor (List ℕ)). b.now) table loans p no_loan (set_vals c.clear_part.new.bytes (get_or loans p.block no_loan)) (zero_page table.page_size) c.self.invariant is changes).1
+    let changes : ChangesPart table.page_size (get_or loans p.block no_loan).now c.clear_part.new.bytes p.page
+    (zero_page table.page_size) = rw (← c.page_size-size.ensures) c.clear_part.ensures in
+    sym (loan_written (λ (b : MutBor (List ℕ)). b.now) table loans p no_loan
+    (set_vals c.clear_part.new.bytes (get_or loans p.block no_loan)) (zero_page table.page_size) c.self.invariant is changes).1
     ∙ ap (λ (m : Image). with_page m p (zero_page m.table.page_size)) c.self.view_is

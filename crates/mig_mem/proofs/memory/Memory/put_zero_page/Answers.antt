@@ -14,6 +14,7 @@ returns g c =
     let same : c.args.self.now.table ≡ table = sym (ap (λ (m : Image). m.table) c.self.view_is) in
     let is : IsPlace table c.args.place = rw same at c.requires in
     ap (λ (b : BlockPages). image_in table (set blocks c.args.place.block b)) c.put_zeros.ensures
-    ∙ ap (λ (n : ℕ). image_in table (set blocks c.args.place.block (with_content x c.args.place.page (zero_page n)))) (block_held table blocks c.args.place.block x c.self.invariant is.has_block c.index_mut.ensures.value).same_size
+    ∙ ap (λ (n : ℕ). image_in table (set blocks c.args.place.block (with_content x c.args.place.page (zero_page n))))
+    (block_held table blocks c.args.place.block x c.self.invariant is.has_block c.index_mut.ensures.value).same_size
     ∙ sym (put_image table blocks c.args.place x (zero_page table.page_size) c.self.invariant is c.index_mut.ensures.value)
     ∙ ap (λ (m : Image). with_page m c.args.place (zero_page m.table.page_size)) c.self.view_is

@@ -21,7 +21,11 @@ part_of-requires g c =
     let s = c.get-slot.result in
     let lt : c.args.i < length p.slots = has_slot p.size p.slots p.bytes.items c.args.self.now c.args.i c.self.view_is c.requires in
     let some : get_or p.slots c.args.i 0 ≡ suc (s - 1) = sym c.get-slot.ensures ∙ some_slot s c.if-slot-eq0.false in
-    omega (arith, room_slot p.size p.slots p.bytes.items _ c.args.i (s - 1) c.self.invariant.are_parts lt some, ap (λ (l : List ℕ). length l) c.deref.ensures.value)
+    omega (
+      arith,
+      room_slot p.size p.slots p.bytes.items _ c.args.i (s - 1) c.self.invariant.are_parts lt some,
+      ap (λ (l : List ℕ). length l) c.deref.ensures.value,
+    )
 
 pub returns : goal.returns
 returns g c =

@@ -13,7 +13,13 @@ append-requires g c =
     let p = c.self.inside in
     let lt : c.args.i < length p.slots = has_slot p.size p.slots p.bytes.items c.args.self.now c.args.i c.self.view_is c.requires.page in
     let none : get_or p.slots c.args.i 0 ≡ 0 = sym c.get-slot.ensures ∙ c.if-slot-eq0.true in
-    omega (arith, room_more p.size p.slots p.bytes.items _ c.args.i c.self.invariant.are_parts lt none, p.bytes.ok.0, c.requires.size, ap (λ (b : BlockPages). b.size) c.self.view_is)
+    omega (
+      arith,
+      room_more p.size p.slots p.bytes.items _ c.args.i c.self.invariant.are_parts lt none,
+      p.bytes.ok.0,
+      c.requires.size,
+      ap (λ (b : BlockPages). b.size) c.self.view_is,
+    )
 
 pub set-requires : goal.set-requires
 set-requires g c = has_slot c.self.inside.size c.self.inside.slots c.self.inside.bytes.items c.args.self.now c.args.i c.self.view_is c.requires.page
@@ -26,10 +32,13 @@ invariant_of-self g c =
     let none : get_or p.slots c.args.i 0 ≡ 0 = sym c.get-slot.ensures ∙ c.if-slot-eq0.true in
     let size : length content ≡ p.size = c.requires.size ∙ sym (ap (λ (b : BlockPages). b.size) c.self.view_is) in
     let number : c.len.result / p.size ≡ suc (written p.slots) =
-    ap (λ (n : ℕ). n / p.size) (c.len.ensures ∙ c.append.ensures.len ∙ ap (λ (n : ℕ). n + length content) p.bytes.ok.0) ∙ slot_made p.size p.slots p.bytes.items content _ c.self.invariant.are_parts size in
+    ap (λ (n : ℕ). n / p.size) (c.len.ensures ∙ c.append.ensures.len ∙ ap (λ (n : ℕ). n + length content) p.bytes.ok.0)
+    ∙ slot_made p.size p.slots p.bytes.items content _ c.self.invariant.are_parts size in
     record {
       is_size = c.self.invariant.is_size;
-      are_parts = rw (c.set.ensures, number, c.append.ensures.items) (more_room p.size _ _ _ _ (kept_more p.size p.slots p.bytes.items content _ c.args.i c.self.invariant.are_parts lt none size) c.append.ensures.capacity);
+      are_parts = rw (c.set.ensures, number, c.append.ensures.items)
+          (more_room p.size _ _ _ _ (kept_more p.size p.slots p.bytes.items content _ c.args.i c.self.invariant.are_parts lt none
+          size) c.append.ensures.capacity);
     }
 
 pub write_part-requires-clause-room : goal.write_part-requires-clause-room
@@ -38,7 +47,11 @@ write_part-requires-clause-room g c =
     let s = c.get-slot.result in
     let lt : c.args.i < length p.slots = has_slot p.size p.slots p.bytes.items c.args.self.now c.args.i c.self.view_is c.requires.page in
     let some : get_or p.slots c.args.i 0 ≡ suc (s - 1) = sym c.get-slot.ensures ∙ some_slot s c.if-slot-eq0.false in
-    omega (arith, room_slot p.size p.slots p.bytes.items _ c.args.i (s - 1) c.self.invariant.are_parts lt some, ap (λ (l : List ℕ). length l) c.deref_mut.ensures.value)
+    omega (
+      arith,
+      room_slot p.size p.slots p.bytes.items _ c.args.i (s - 1) c.self.invariant.are_parts lt some,
+      ap (λ (l : List ℕ). length l) c.deref_mut.ensures.value,
+    )
 
 pub returns-then-slot-eq0 : goal.returns-then-slot-eq0
 returns-then-slot-eq0 g c =
@@ -47,7 +60,8 @@ returns-then-slot-eq0 g c =
     let lt : c.args.i < length p.slots = has_slot p.size p.slots p.bytes.items c.args.self.now c.args.i c.self.view_is c.requires.page in
     let size : length content ≡ p.size = c.requires.size ∙ sym (ap (λ (b : BlockPages). b.size) c.self.view_is) in
     let number : c.len.result / p.size ≡ suc (written p.slots) =
-    ap (λ (n : ℕ). n / p.size) (c.len.ensures ∙ c.append.ensures.len ∙ ap (λ (n : ℕ). n + length content) p.bytes.ok.0) ∙ slot_made p.size p.slots p.bytes.items content _ c.self.invariant.are_parts size in
+    ap (λ (n : ℕ). n / p.size) (c.len.ensures ∙ c.append.ensures.len ∙ ap (λ (n : ℕ). n + length content) p.bytes.ok.0)
+    ∙ slot_made p.size p.slots p.bytes.items content _ c.self.invariant.are_parts size in
     let pages : parts_in p.size c.set.new.self c.append.new.kept.items ≡ set (parts_in p.size p.slots p.bytes.items) c.args.i content =
     rw (c.set.ensures, number, c.append.ensures.items) (put_more p.size p.slots p.bytes.items content _ c.args.i c.self.invariant.are_parts lt size) in
     ap (λ (l : List (List ℕ)). record { size = p.size; pages = l }) pages

@@ -15,7 +15,11 @@ write_part-requires-clause-room g c =
     let s = c.get-slot.result in
     let lt : c.args.i < length p.slots = has_slot p.size p.slots p.bytes.items c.args.self.now c.args.i c.self.view_is c.requires in
     let some : get_or p.slots c.args.i 0 ≡ suc (s - 1) = sym c.get-slot.ensures ∙ some_slot s c.if-slot-ne0.true in
-    omega (arith, room_slot p.size p.slots p.bytes.items _ c.args.i (s - 1) c.self.invariant.are_parts lt some, ap (λ (l : List ℕ). length l) c.deref_mut.ensures.value)
+    omega (
+      arith,
+      room_slot p.size p.slots p.bytes.items _ c.args.i (s - 1) c.self.invariant.are_parts lt some,
+      ap (λ (l : List ℕ). length l) c.deref_mut.ensures.value,
+    )
 
 pub returns-then-slot-ne0 : goal.returns-then-slot-ne0
 returns-then-slot-ne0 g c =
@@ -37,5 +41,6 @@ returns-else-slot-ne0 g c =
     let lt : c.args.i < length p.slots = has_slot p.size p.slots p.bytes.items c.args.self.now c.args.i c.self.view_is c.requires in
     let none : get_or p.slots c.args.i 0 ≡ 0 = sym c.get-slot.ensures ∙ c.if-slot-ne0.false in
     let there : get_or (parts_in p.size p.slots p.bytes.items) c.args.i [] ≡ zero_page p.size = page_zeros p.size p.slots p.bytes.items c.args.i lt none in
-    sym c.self.view_is ∙ ap (λ (l : List (List ℕ)). record { size = p.size; pages = l }) (sym (set-get_or (parts_in p.size p.slots p.bytes.items) c.args.i []) ∙ ap (λ (x : List ℕ). set (parts_in p.size p.slots p.bytes.items) c.args.i x) there)
+    sym c.self.view_is ∙ ap (λ (l : List (List ℕ)). record { size = p.size; pages = l })
+    (sym (set-get_or (parts_in p.size p.slots p.bytes.items) c.args.i []) ∙ ap (λ (x : List ℕ). set (parts_in p.size p.slots p.bytes.items) c.args.i x) there)
     ∙ ap (λ (b : BlockPages). with_content b c.args.i (zero_page b.size)) c.self.view_is

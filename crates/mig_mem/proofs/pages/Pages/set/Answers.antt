@@ -14,7 +14,13 @@ append_with-requires-clause-room g c =
     let p = c.self.inside in
     let lt : c.args.i < length p.slots = has_slot p.size p.slots p.bytes.items c.args.self.now c.args.i c.self.view_is c.requires.page in
     let none : get_or p.slots c.args.i 0 ≡ 0 = sym c.get-slot.ensures ∙ c.if-slot-eq0.true in
-    omega (arith, room_more p.size p.slots p.bytes.items _ c.args.i c.self.invariant.are_parts lt none, p.bytes.ok.0, ap (λ (l : List ℕ). length l) c.zeros.ensures, length-zero_page p.size)
+    omega (
+      arith,
+      room_more p.size p.slots p.bytes.items _ c.args.i c.self.invariant.are_parts lt none,
+      p.bytes.ok.0,
+      ap (λ (l : List ℕ). length l) c.zeros.ensures,
+      length-zero_page p.size,
+    )
 
 pub append_with-requires-clause-offset : goal.append_with-requires-clause-offset
 append_with-requires-clause-offset g c =
@@ -33,10 +39,20 @@ invariant_of-self g c =
     let size : length content ≡ p.size = length-set (zero_page p.size) c.args.offset c.args.byte ∙ length-zero_page p.size in
     let items = c.append_with.ensures.items in
     let number : c.len.result / p.size ≡ suc (written p.slots) =
-    ap (λ (n : ℕ). n / p.size) (omega (arith, c.len.ensures, c.append_with.ensures.len, p.bytes.ok.0, size, ap (λ (l : List ℕ). length l) c.zeros.ensures, length-zero_page p.size)) ∙ slot_made p.size p.slots p.bytes.items content _ c.self.invariant.are_parts size in
+    ap (λ (n : ℕ). n / p.size) (omega (
+      arith,
+      c.len.ensures,
+      c.append_with.ensures.len,
+      p.bytes.ok.0,
+      size,
+      ap (λ (l : List ℕ). length l) c.zeros.ensures,
+      length-zero_page p.size,
+    )) ∙ slot_made p.size p.slots p.bytes.items content _ c.self.invariant.are_parts size in
     record {
       is_size = c.self.invariant.is_size;
-      are_parts = rw (c.set.ensures, number, c.append_with.ensures.items, c.zeros.ensures) (more_room p.size _ _ _ _ (kept_more p.size p.slots p.bytes.items content _ c.args.i c.self.invariant.are_parts lt none size) c.append_with.ensures.capacity);
+      are_parts = rw (c.set.ensures, number, c.append_with.ensures.items, c.zeros.ensures)
+          (more_room p.size _ _ _ _ (kept_more p.size p.slots p.bytes.items content _ c.args.i c.self.invariant.are_parts lt none
+          size) c.append_with.ensures.capacity);
     }
 
 pub write_in_part-requires-clause-room : goal.write_in_part-requires-clause-room
@@ -45,7 +61,11 @@ write_in_part-requires-clause-room g c =
     let s = c.get-slot.result in
     let lt : c.args.i < length p.slots = has_slot p.size p.slots p.bytes.items c.args.self.now c.args.i c.self.view_is c.requires.page in
     let some : get_or p.slots c.args.i 0 ≡ suc (s - 1) = sym c.get-slot.ensures ∙ some_slot s c.if-slot-eq0.false in
-    omega (arith, room_slot p.size p.slots p.bytes.items _ c.args.i (s - 1) c.self.invariant.are_parts lt some, ap (λ (l : List ℕ). length l) c.deref_mut.ensures.value)
+    omega (
+      arith,
+      room_slot p.size p.slots p.bytes.items _ c.args.i (s - 1) c.self.invariant.are_parts lt some,
+      ap (λ (l : List ℕ). length l) c.deref_mut.ensures.value,
+    )
 
 pub returns-then-slot-eq0 : goal.returns-then-slot-eq0
 returns-then-slot-eq0 g c =
@@ -57,9 +77,18 @@ returns-then-slot-eq0 g c =
     let none : get_or p.slots c.args.i 0 ≡ 0 = sym c.get-slot.ensures ∙ c.if-slot-eq0.true in
     let size : length content ≡ p.size = length-set (zero_page p.size) c.args.offset c.args.byte ∙ length-zero_page p.size in
     let number : c.len.result / p.size ≡ suc (written p.slots) =
-    ap (λ (n : ℕ). n / p.size) (omega (arith, c.len.ensures, c.append_with.ensures.len, p.bytes.ok.0, size, ap (λ (l : List ℕ). length l) c.zeros.ensures, length-zero_page p.size)) ∙ slot_made p.size p.slots p.bytes.items content _ c.self.invariant.are_parts size in
+    ap (λ (n : ℕ). n / p.size) (omega (
+      arith,
+      c.len.ensures,
+      c.append_with.ensures.len,
+      p.bytes.ok.0,
+      size,
+      ap (λ (l : List ℕ). length l) c.zeros.ensures,
+      length-zero_page p.size,
+    )) ∙ slot_made p.size p.slots p.bytes.items content _ c.self.invariant.are_parts size in
     let pages : parts_in p.size c.set.new.self c.append_with.new.kept.items ≡ set before c.args.i content =
-    rw (c.set.ensures, number, c.append_with.ensures.items, c.zeros.ensures) (put_more p.size p.slots p.bytes.items content _ c.args.i c.self.invariant.are_parts inside size) in
+    rw (c.set.ensures, number, c.append_with.ensures.items, c.zeros.ensures)
+    (put_more p.size p.slots p.bytes.items content _ c.args.i c.self.invariant.are_parts inside size) in
     let was : zero_page p.size ≡ get_or before c.args.i [] = sym (page_zeros p.size p.slots p.bytes.items c.args.i inside none) in
     ap (λ (l : List (List ℕ)). record { size = p.size; pages = l }) (pages ∙ ap (λ (x : List ℕ). set before c.args.i (set x c.args.offset c.args.byte)) was)
     ∙ ap (λ (b : BlockPages). with_content b c.args.i (set (page_at b c.args.i) c.args.offset c.args.byte)) c.self.view_is
@@ -75,7 +104,8 @@ returns-else-slot-eq0 g c =
     let some : get_or p.slots c.args.i 0 ≡ suc (s - 1) = sym c.get-slot.ensures ∙ some_slot s c.if-slot-eq0.false in
     let content : List ℕ = set (part_at p.size p.bytes.items (s - 1)) c.args.offset c.args.byte in
     let changes : ChangesPart p.size p.bytes.items new (s - 1) content = rw (← c.deref_mut.ensures.value) c.write_in_part.ensures in
-    let pages : parts_in p.size p.slots new ≡ set before c.args.i content = put_slot p.size p.slots p.bytes.items new _ c.args.i (s - 1) content c.self.invariant.are_parts inside some changes in
+    let pages : parts_in p.size p.slots new ≡ set before c.args.i content =
+    put_slot p.size p.slots p.bytes.items new _ c.args.i (s - 1) content c.self.invariant.are_parts inside some changes in
     let was : part_at p.size p.bytes.items (s - 1) ≡ get_or before c.args.i [] = sym (page_bytes p.size p.slots p.bytes.items c.args.i (s - 1) inside some) in
     ap (λ (l : List ℕ). record { size = p.size; pages = parts_in p.size p.slots l }) (with_items_is p.bytes new (changes.len ∙ sym p.bytes.ok.0))
     ∙ ap (λ (l : List (List ℕ)). record { size = p.size; pages = l }) (pages ∙ ap (λ (x : List ℕ). set before c.args.i (set x c.args.offset c.args.byte)) was)

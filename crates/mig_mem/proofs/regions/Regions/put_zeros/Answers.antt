@@ -25,7 +25,8 @@ invariant_of-self g c =
     let n : ℕ = c.args.i / p.per in
     let content : List ℕ = zero_page p.size in
     let wrote : c.put_zeros.new.self ≡ with_content x (c.args.i % p.per) content = c.put_zeros.ensures
-    ∙ ap (λ (s : ℕ). with_content x (c.args.i % p.per) (zero_page s)) (region_size p.per p.size p.count p.regions.items c.args.i c.index_mut.result.now c.self.invariant lt c.index_mut.ensures.value) in
+    ∙ ap (λ (s : ℕ). with_content x (c.args.i % p.per) (zero_page s))
+    (region_size p.per p.size p.count p.regions.items c.args.i c.index_mut.result.now c.self.invariant lt c.index_mut.ensures.value) in
     subst (λ (b : BlockPages). AreRegions p.per p.size p.count (set p.regions.items n b)) (sym wrote)
     (write_are p.per p.size p.count p.regions.items c.args.i c.index_mut.result.now content c.self.invariant lt c.index_mut.ensures.value)
 
@@ -37,8 +38,10 @@ returns g c =
     let n : ℕ = c.args.i / p.per in
     let content : List ℕ = zero_page p.size in
     let wrote : c.put_zeros.new.self ≡ with_content x (c.args.i % p.per) content = c.put_zeros.ensures
-    ∙ ap (λ (s : ℕ). with_content x (c.args.i % p.per) (zero_page s)) (region_size p.per p.size p.count p.regions.items c.args.i c.index_mut.result.now c.self.invariant lt c.index_mut.ensures.value) in
+    ∙ ap (λ (s : ℕ). with_content x (c.args.i % p.per) (zero_page s))
+    (region_size p.per p.size p.count p.regions.items c.args.i c.index_mut.result.now c.self.invariant lt c.index_mut.ensures.value) in
     ap (λ (b : BlockPages). in_regions p.per p.size p.count (set p.regions.items n b)) wrote
     ∙ write_is p.per p.size p.count p.regions.items c.args.i c.index_mut.result.now content c.self.invariant lt c.index_mut.ensures.value
-    ∙ ap (λ (s : ℕ). with_content (in_regions p.per p.size p.count p.regions.items) c.args.i (zero_page s)) (sym (regions_size p.per p.size p.count p.regions.items))
+    ∙ ap (λ (s : ℕ). with_content (in_regions p.per p.size p.count p.regions.items) c.args.i (zero_page s))
+    (sym (regions_size p.per p.size p.count p.regions.items))
     ∙ ap (λ (b : BlockPages). with_content b c.args.i (zero_page b.size)) c.self.view_is

@@ -20,7 +20,13 @@ pub set-requires-clause-offset : goal.set-requires-clause-offset
 set-requires-clause-offset g c =
     let p = c.self.inside in
     let lt : c.args.i < p.count = has_count p.per p.size p.count p.regions.items c.args.self.now c.args.i c.self.view_is c.requires.page in
-    omega (arith, c.requires.offset, ap (λ (b : BlockPages). b.size) c.self.view_is, regions_size p.per p.size p.count p.regions.items, region_size p.per p.size p.count p.regions.items c.args.i c.index_mut.result.now c.self.invariant lt c.index_mut.ensures.value)
+    omega (
+      arith,
+      c.requires.offset,
+      ap (λ (b : BlockPages). b.size) c.self.view_is,
+      regions_size p.per p.size p.count p.regions.items,
+      region_size p.per p.size p.count p.regions.items c.args.i c.index_mut.result.now c.self.invariant lt c.index_mut.ensures.value,
+    )
 
 pub invariant_of-self : goal.invariant_of-self
 invariant_of-self g c =
@@ -43,5 +49,7 @@ returns g c =
     let wrote : c.set.new.self ≡ with_content x (c.args.i % p.per) content = c.set.ensures in
     ap (λ (b : BlockPages). in_regions p.per p.size p.count (set p.regions.items n b)) wrote
     ∙ write_is p.per p.size p.count p.regions.items c.args.i c.index_mut.result.now content c.self.invariant lt c.index_mut.ensures.value
-    ∙ ap (λ (l : List ℕ). with_content (in_regions p.per p.size p.count p.regions.items) c.args.i (set l c.args.offset c.args.byte)) (region_page p.per p.size p.count p.regions.items c.args.i c.index_mut.result.now c.self.invariant lt c.index_mut.ensures.value)
+    ∙ ap (λ (l : List ℕ). with_content (in_regions p.per p.size p.count p.regions.items) c.args.i
+    (set l c.args.offset c.args.byte)) (region_page p.per p.size p.count p.regions.items c.args.i c.index_mut.result.now
+    c.self.invariant lt c.index_mut.ensures.value)
     ∙ ap (λ (b : BlockPages). with_content b c.args.i (set (page_at b c.args.i) c.args.offset c.args.byte)) c.self.view_is

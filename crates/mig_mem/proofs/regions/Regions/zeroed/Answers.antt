@@ -18,4 +18,5 @@ returns g c =
     let count : ℕ = c.args.count in
     let per : ℕ = c.region_len-per.result in
     let n : ℕ = count / per + min 1 (count % per) in
-    zeros_in_regions per c.args.size count n c.in_ok-regions.regions.items c.in_ok-regions.ensures c.region_len-per.ensures.some (div_ceil_times count per c.region_len-per.ensures.some).0
+    zeros_in_regions per c.args.size count n c.in_ok-regions.regions.items c.in_ok-regions.ensures c.region_len-per.ensures.some
+    (div_ceil_times count per c.region_len-per.ensures.some).0

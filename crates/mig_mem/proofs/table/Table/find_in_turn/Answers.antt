@@ -8,8 +8,10 @@ pub returns-then-eq : goal.returns-then-eq
 returns-then-eq g c =
     let test : bytes_eq (block c.args.self.now.blocks c.loop-i.i).id c.args.id.now ≡ true =
     ap (λ (l : List ℕ). bytes_eq l c.args.id.now) (sym c.id.ensures.value) ∙ sym c.eq.ensures ∙ c.if-eq.true in
-    sym (position_at (λ (b : Block). bytes_eq b.id c.args.id.now) c.args.self.now.blocks c.loop-i.i (record { id = []; pages = 0 }) (omega (arith, c.len-i-end.ensures.value)) c.loop-i.invariant test)
+    sym (position_at (λ (b : Block). bytes_eq b.id c.args.id.now) c.args.self.now.blocks c.loop-i.i
+    (record { id = []; pages = 0 }) (omega (arith, c.len-i-end.ensures.value)) c.loop-i.invariant test)
 
 pub returns : goal.returns
 returns g c =
-    sym (position_past (λ (b : Block). bytes_eq b.id c.args.id.now) c.args.self.now.blocks c.loop-i.i (record { id = []; pages = 0 }) (omega (arith, c.len-i-end.ensures.value)) c.loop-i.invariant)
+    sym (position_past (λ (b : Block). bytes_eq b.id c.args.id.now) c.args.self.now.blocks c.loop-i.i
+    (record { id = []; pages = 0 }) (omega (arith, c.len-i-end.ensures.value)) c.loop-i.invariant)

@@ -12,5 +12,6 @@ returns-clause-len g c =
     let n : s.start + s.len - s.start ≡ s.len = omega arith in
     let id : take (s.start + s.len - s.start) (drop s.start c.deref.result.now) ≡ (block table.blocks c.args.i).id =
     ap (λ (k : ℕ). take k (drop s.start c.deref.result.now)) n ∙ ap (λ (l : List ℕ). take s.len (drop s.start l)) c.deref.ensures.value
-    ∙ ap (λ (b : Block). b.id) (packed_block table c.self.inside.page_size c.self.inside.ids.items c.self.inside.spans.items c.args.i s c.self.view_is c.requires c.index-span.ensures) in
+    ∙ ap (λ (b : Block). b.id) (packed_block table c.self.inside.page_size c.self.inside.ids.items c.self.inside.spans.items
+    c.args.i s c.self.view_is c.requires c.index-span.ensures) in
     rw id (block_id_length table c.args.i is c.requires)

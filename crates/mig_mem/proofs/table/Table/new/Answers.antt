@@ -5,4 +5,5 @@ use Rattle.mig_mem.proofs.Lawful.{lawful}
 use Rattle.mig_mem.proofs.table.Table.new.Goals as goal
 
 pub packed_from-requires : goal.packed_from-requires
-packed_from-requires g c = let none : refusal (table_from c.args.page_size c.args.list.items) ≡ None = cc in rw c.deref-2.ensures.value (lawful (table_from c.args.page_size c.args.list.items) c.requires none)
+packed_from-requires g c = let none : refusal (table_from c.args.page_size c.args.list.items) ≡ None = cc in
+    rw c.deref-2.ensures.value (lawful (table_from c.args.page_size c.args.list.items) c.requires none)

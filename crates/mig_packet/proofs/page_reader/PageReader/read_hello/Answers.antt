@@ -1,5 +1,5 @@
 use Rattle.std.proofs.Common.{◌≡◌, ◌∙◌, ℕ, ◌+◌, List, length, Some, None, sym, ap, subst, arith}
-use Rattle.mig_packet.specs.declared.page_reader.Came.TheVariants as came
+use Rattle.mig_packet.specs.declared.page_reader.ChannelEvent.TheVariants as event
 use Rattle.mig_packet.specs.declared.state.ChannelState.TheVariants.{Bad}
 use Rattle.mig_packet.specs.Faults.{first_of}
 use Rattle.mig_packet.specs.Hello.{hello_len, hello_faults}
@@ -18,7 +18,8 @@ returns-in-Some g c =
     let long : length head ≡ hello_len = omega (arith, c.fill-taken.ensures.len, c.len.ensures) in
     let faulty : first_of (hello_faults given.uuid given.channels head) ≡ Some c.in-Some.fault =
     ap (λ (x : List ℕ). first_of (hello_faults given.uuid given.channels x)) (sym c.deref.ensures.value) ∙ sym c.hello_fault.ensures ∙ c.in-Some.is in
-    subst (λ (x : PageHolder). Steps came.Over n c.args.piece.now x (holder given r.hello r.has_packets r.room r.pages r.has_page head r.page.items (Bad c.in-Some.fault) (r.fed + n) r.ended)) c.self.view_is
+    subst (λ (x : PageHolder). Steps event.Over n c.args.piece.now x
+    (holder given r.hello r.has_packets r.room r.pages r.has_page head r.page.items (Bad c.in-Some.fault) (r.fed + n) r.ended)) c.self.view_is
     (hello_over given r.hello r.has_packets r.room r.pages r.has_page r.head.items r.page.items head c.args.piece.now r.found r.fed n r.ended c.in-Some.fault
     (ap (λ (x : PageHolder). x.packet) c.self.view_is ∙ c.requires.none_begun) (ap (λ (x : PageHolder). x.hello) c.self.view_is ∙ c.requires.none_yet)
     (ap (λ (x : PageHolder). x.found) c.self.view_is ∙ c.requires.reading.0) c.fill-taken.ensures.taken c.fill-taken.ensures.items long faulty)
@@ -32,9 +33,11 @@ returns g c =
     let long : length head ≡ hello_len = omega (arith, c.fill-taken.ensures.len, c.len.ensures) in
     let free : first_of (hello_faults given.uuid given.channels head) ≡ None =
     ap (λ (x : List ℕ). first_of (hello_faults given.uuid given.channels x)) (sym c.deref.ensures.value) ∙ sym c.hello_fault.ensures ∙ c.in_default.is in
-    subst (λ (x : PageHolder). Steps (came.Hello c.index-id.result.now) n c.args.piece.now x
-    (holder given (Some c.index-id.result.now) r.has_packets r.room r.pages r.has_page c.clear.new.self.items r.page.items r.found (r.fed + n) r.ended)) c.self.view_is
-    (hello_read given r.hello r.has_packets r.room r.pages r.has_page r.head.items r.page.items head c.clear.new.self.items c.args.piece.now r.found r.fed n r.ended
+    subst (λ (x : PageHolder). Steps (event.Hello c.index-id.result.now) n c.args.piece.now x
+    (holder given (Some c.index-id.result.now) r.has_packets r.room r.pages r.has_page c.clear.new.self.items r.page.items r.found
+    (r.fed + n) r.ended)) c.self.view_is
+    (hello_read given r.hello r.has_packets r.room r.pages r.has_page r.head.items r.page.items head c.clear.new.self.items
+    c.args.piece.now r.found r.fed n r.ended
     c.index-id.result.now (ap (λ (x : PageHolder). x.packet) c.self.view_is ∙ c.requires.none_begun)
     (ap (λ (x : PageHolder). x.hello) c.self.view_is ∙ c.requires.none_yet) (ap (λ (x : PageHolder). x.found) c.self.view_is ∙ c.requires.reading.0)
     c.self.invariant.is_part c.fill-taken.ensures.taken c.fill-taken.ensures.items long free c.index-id.ensures c.clear.ensures.items)

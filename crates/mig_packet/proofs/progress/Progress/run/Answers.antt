@@ -1,7 +1,8 @@
 use Rattle.std.proofs.Common.{sym, ◌∙◌, length, leb}
 use Rattle.mig_packet.specs.Progress.{judged_len, first_fault}
-use Rattle.mig_packet.proofs.Fronts.{split_item, goes_on, no_item, cond_none}
+use Rattle.mig_packet.proofs.Fronts.{split_item, goes_on, no_item}
 use Rattle.mig_packet.proofs.progress.Progress.run.Goals as goal
+use Rattle.mig_packet.proofs.Judging.{cond_none}
 
 pub returns-then-rest-len-clause-ok : goal.returns-then-rest-len-clause-ok
 returns-then-rest-len-clause-ok g c =

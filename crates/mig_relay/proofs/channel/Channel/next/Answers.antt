@@ -10,7 +10,8 @@ returns-then-self-clause-ok g c = (refl, is_through _ _ _ _ _ _ _ _ c.self.view_
 
 pub item_of-requires-clause-lies : goal.item_of-requires-clause-lies
 item_of-requires-clause-lies g c =
-    lies c.self.inside.page_size c.self.inside.waiting c.self.inside.text.now c.self.inside.items.items c.self.inside.over (view c.self.inside.pass) c.pop-message.result c.self.invariant.1 c.pop-message.ensures.next
+    lies c.self.inside.page_size c.self.inside.waiting c.self.inside.text.now c.self.inside.items.items c.self.inside.over
+    (view c.self.inside.pass) c.pop-message.result c.self.invariant.1 c.pop-message.ensures.next
 
 pub invariant_of-self-2 : goal.invariant_of-self-2
 invariant_of-self-2 g c =
@@ -19,9 +20,11 @@ invariant_of-self-2 g c =
       c.pop-message.ensures.seat.0,
       subst (λ (q : List Item × Bool). IsCollecting c.self.inside.page_size c.self.inside.waiting c.self.inside.text.now q.0 q.1 (view c.pop-message.new.pass))
           (λ i. (sym e i, sym c.is_stop-self-inside.ensures i))
-          (collects _ _ _ _ _ (view c.self.inside.pass) _ _ _ c.self.invariant.1 c.pop-message.ensures.next c.pop-message.ensures.popped c.item_of.ensures.piece c.item_of.ensures.page_size),
+          (collects _ _ _ _ _ (view c.self.inside.pass) _ _ _ c.self.invariant.1 c.pop-message.ensures.next
+          c.pop-message.ensures.popped c.item_of.ensures.piece c.item_of.ensures.page_size),
     )
 
 pub returns-clause-ok : goal.returns-clause-ok
 returns-clause-ok g c =
-    takes (view c.self.inside.pass) (view c.pop-message.new.pass) _ _ _ _ c.self.view_is c.pop-message.ensures.seat.1 c.pop-message.ensures.next c.pop-message.ensures.popped
+    takes (view c.self.inside.pass) (view c.pop-message.new.pass) _ _ _ _ c.self.view_is c.pop-message.ensures.seat.1
+    c.pop-message.ensures.next c.pop-message.ensures.popped

@@ -10,7 +10,9 @@ returns-clause-head g c =
     let old = c.self.inside in
     let new = c.head_parts.new in
     let work : ChannelWork = record { terms = old.shared.value; channel = old.channel; hand = old.hand; text = old.text.items } in
-    let told = subst (λ (terms : RoundTerms). OnOk c.head_parts.result ((new.hand ≡ after_packet old.hand) × WritesHead terms old.hand c.args.zeros.now old.text.items new.text.items))
+    let told = subst (λ (terms : RoundTerms). OnOk c.head_parts.result
+    ((new.hand ≡ after_packet old.hand) × WritesHead terms old.hand c.args.zeros.now old.text.items new.text.items))
     c.deref.ensures c.head_parts.ensures.ok in
-    subst (λ (x : ChannelWork). OnOk c.head_parts.result (PutsHead c.args.zeros.now x (record { terms = old.shared.value; channel = old.channel; hand = new.hand; text = new.text.items }))) c.self.view_is
+    subst (λ (x : ChannelWork). OnOk c.head_parts.result
+    (PutsHead c.args.zeros.now x (record { terms = old.shared.value; channel = old.channel; hand = new.hand; text = new.text.items }))) c.self.view_is
     (on_ok c.head_parts.result told (λ both. puts_head work c.args.zeros.now new.hand new.text.items c.self.invariant.0 both.0 both.1))

@@ -1,9 +1,8 @@
 use Rattle.std.proofs.Common.{ℕ, ◌≡◌, ◌≤◌, ◌^◌, ◌∙◌, length, sym, ap, subst, arith}
-use Rattle.std.specs.Prelude.{Vec, IfOk, OnOk}
+use Rattle.std.specs.Prelude.{Vec, IfOk}
 use Rattle.std.specs.Arc.{arc_value}
 use Rattle.std.proofs.lemmas.List.{length-map}
 use Rattle.mig_mem.specs.PlaceSet.{PlaceSet}
-use Rattle.mig_send.specs.Batches.{IsCut}
 use Rattle.mig_send.specs.Finding.{cut_of}
 use Rattle.mig_send.specs.MultiSending.{MultiSending, texts_of}
 use Rattle.mig_send.specs.MultiRound.{IsDealtTo, IsDealtOut}
@@ -14,8 +13,16 @@ pub returns : goal.returns
 returns g c =
     let x = c.self.inside in
     let dirty : PlaceSet = c.args.dirty in
-    let sender : MultiSending = record { main = x.main; uuid = x.uuid; limit = x.limit; channels = texts_of x.channels.items; base = x.base; rounds = x.rounds } in
-    let many : c.len.result ≡ length sender.channels = omega (arith, c.len.ensures, x.channels.ok.0, length-map x.channels.items (λ (text : Vec ℕ _). text.items)) in
+    let sender : MultiSending = record {
+      main = x.main;
+      uuid = x.uuid;
+      limit = x.limit;
+      channels = texts_of x.channels.items;
+      base = x.base;
+      rounds = x.rounds;
+    } in
+    let many : c.len.result ≡ length sender.channels =
+    omega (arith, c.len.ensures, x.channels.ok.0, length-map x.channels.items (λ (text : Vec ℕ _). text.items)) in
     let table : dirty.table ≡ sender.main.table = c.requires.table ∙ ap (λ (m : MultiSending). m.main.table) (sym c.self.view_is) in
     let fits : sender.base ≤ 2 ^ 63 = omega (arith, c.if-self-gt-LAST_BASE.false) in
     let dealt = subst (λ (n : ℕ). IfOk c.deal_out.result (λ r. IsDealtTo x.base dirty.table (cut_of x.limit dirty.marked) n (arc_value r.0) r.1.items)) many

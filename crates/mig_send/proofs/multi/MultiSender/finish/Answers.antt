@@ -10,4 +10,5 @@ returns-in-Ok-clause-ok g c =
     let texts = texts_of c.self.inside.channels.items in
     subst (λ (s : MultiSending). (drained : Drained) (rounds : List DealtRound) → HasSentRounds drained s rounds
     → IsSending s.main.table s.uuid s.limit (length s.channels) rounds (drained.main ++ c.in-Ok.main.items) (whole_texts drained texts)) c.self.view_is
-    (λ drained rounds sent. sending_of _ drained rounds _ c.self.invariant sent (c.in-Ok.ensures.ok drained.main (replicate (length rounds) FlushPart) sent.has_main))
+    (λ drained rounds sent. sending_of _ drained rounds _ c.self.invariant sent
+    (c.in-Ok.ensures.ok drained.main (replicate (length rounds) FlushPart) sent.has_main))

@@ -11,7 +11,8 @@ pub returns-in-Ok-clause-ok : goal.returns-in-Ok-clause-ok
 returns-in-Ok-clause-ok g c =
     let texts = texts_of c.self.inside.channels.items in
     subst (λ (s : MultiSending). (drained : Drained) (rounds : List DealtRound) → HasSentRounds drained s rounds
-    → IsMachineSending None s.main.table s.uuid s.limit (length s.channels) rounds (drained.main ++ c.in-Ok.open.items) (whole_texts drained texts)) c.self.view_is
+    → IsMachineSending None s.main.table s.uuid s.limit (length s.channels) rounds (drained.main ++ c.in-Ok.open.items)
+    (whole_texts drained texts)) c.self.view_is
     (λ drained rounds sent. record {
       is_sending = sending_of _ drained rounds _ c.self.invariant sent refl;
       has_main = c.in-Ok.ensures.ok drained.main (replicate (length rounds) FlushPart) sent.has_main;
@@ -23,7 +24,8 @@ returns-in-Ok-clause-configured g c =
     let end : List ℕ = c.in-Ok.open.items in
     subst (λ (s : MultiSending). (name : Option (List ℕ)) (main : List ℕ) (drained : Drained) (rounds : List DealtRound)
     → HasSentRounds (record drained { main = file_header ++ main }) s rounds
-    → IsMachineSending name s.main.table s.uuid s.limit (length s.channels) rounds (file_header ++ configuration name ++ main ++ end) (whole_texts drained texts)) c.self.view_is
+    → IsMachineSending name s.main.table s.uuid s.limit (length s.channels) rounds
+    (file_header ++ configuration name ++ main ++ end) (whole_texts drained texts)) c.self.view_is
     (λ name main drained rounds sent. let flushes = replicate (length rounds) FlushPart in record {
       is_sending = sending_of _ (record drained { main = file_header ++ main }) rounds _ c.self.invariant sent refl;
       has_main = append_assoc (file_header ++ configuration name) main end

@@ -30,7 +30,8 @@ cut_back-requires g c =
     let news = c.deal_round.new.channels in
     omega (
       arith,
-      ap length (c.deref-in_default.ensures.value ∙ c.in_ok-lens.ensures ∙ ap (λ (l : List (Vec ℕ _)). map (λ (text : Vec ℕ _). vec_len text) l) c.deref.ensures.value),
+      ap length (c.deref-in_default.ensures.value ∙ c.in_ok-lens.ensures
+          ∙ ap (λ (l : List (Vec ℕ _)). map (λ (text : Vec ℕ _). vec_len text) l) c.deref.ensures.value),
       length-map olds.items (λ (text : Vec ℕ _). vec_len text),
       prefix_long olds.items news.items c.in_default.ensures.prefix,
       news.ok.0,
@@ -40,28 +41,56 @@ pub invariant_of-self : goal.invariant_of-self
 invariant_of-self g c =
     let olds = c.self.inside.channels in
     let news = c.deal_round.new.channels in
-    let lens = c.deref-in_default.ensures.value ∙ c.in_ok-lens.ensures ∙ ap (λ (l : List (Vec ℕ _)). map (λ (text : Vec ℕ _). vec_len text) l) c.deref.ensures.value in
+    let lens = c.deref-in_default.ensures.value ∙ c.in_ok-lens.ensures
+    ∙ ap (λ (l : List (Vec ℕ _)). map (λ (text : Vec ℕ _). vec_len text) l) c.deref.ensures.value in
     let same : texts_of c.cut_back.new.channels.items ≡ texts_of olds.items =
-    cut_same olds.items (texts_of news.items) c.deref-in_default.result.now (texts_of c.cut_back.new.channels.items) c.in_default.ensures.prefix lens c.cut_back.ensures in
-    subst (λ (l : List (List ℕ)). IsMultiSending (record { main = c.self.inside.main; uuid = c.self.inside.uuid; limit = c.self.inside.limit; channels = l; base = c.self.inside.base; rounds = c.self.inside.rounds })) (sym same) c.self.invariant
+    cut_same olds.items (texts_of news.items) c.deref-in_default.result.now
+    (texts_of c.cut_back.new.channels.items) c.in_default.ensures.prefix lens c.cut_back.ensures in
+    subst (λ (l : List (List ℕ)). IsMultiSending
+    (record {
+      main = c.self.inside.main;
+      uuid = c.self.inside.uuid;
+      limit = c.self.inside.limit;
+      channels = l;
+      base = c.self.inside.base;
+      rounds = c.self.inside.rounds;
+    })) (sym same) c.self.invariant
 
 pub returns-in_default-clause-err : goal.returns-in_default-clause-err
 returns-in_default-clause-err g c =
     let olds = c.self.inside.channels in
     let news = c.deal_round.new.channels in
-    let lens = c.deref-in_default.ensures.value ∙ c.in_ok-lens.ensures ∙ ap (λ (l : List (Vec ℕ _)). map (λ (text : Vec ℕ _). vec_len text) l) c.deref.ensures.value in
+    let lens = c.deref-in_default.ensures.value ∙ c.in_ok-lens.ensures
+    ∙ ap (λ (l : List (Vec ℕ _)). map (λ (text : Vec ℕ _). vec_len text) l) c.deref.ensures.value in
     let same : texts_of c.cut_back.new.channels.items ≡ texts_of olds.items =
-    cut_same olds.items (texts_of news.items) c.deref-in_default.result.now (texts_of c.cut_back.new.channels.items) c.in_default.ensures.prefix lens c.cut_back.ensures in
-    ap (λ (l : List (List ℕ)). record { main = c.self.inside.main; uuid = c.self.inside.uuid; limit = c.self.inside.limit; channels = l; base = c.self.inside.base; rounds = c.self.inside.rounds }) same ∙ c.self.view_is
+    cut_same olds.items (texts_of news.items) c.deref-in_default.result.now
+    (texts_of c.cut_back.new.channels.items) c.in_default.ensures.prefix lens c.cut_back.ensures in
+    ap (λ (l : List (List ℕ)). record {
+      main = c.self.inside.main;
+      uuid = c.self.inside.uuid;
+      limit = c.self.inside.limit;
+      channels = l;
+      base = c.self.inside.base;
+      rounds = c.self.inside.rounds;
+    }) same ∙ c.self.view_is
 
 pub returns-in_default-clause-setting : goal.returns-in_default-clause-setting
 returns-in_default-clause-setting g c =
     let olds = c.self.inside.channels in
     let news = c.deal_round.new.channels in
-    let lens = c.deref-in_default.ensures.value ∙ c.in_ok-lens.ensures ∙ ap (λ (l : List (Vec ℕ _)). map (λ (text : Vec ℕ _). vec_len text) l) c.deref.ensures.value in
+    let lens = c.deref-in_default.ensures.value ∙ c.in_ok-lens.ensures
+    ∙ ap (λ (l : List (Vec ℕ _)). map (λ (text : Vec ℕ _). vec_len text) l) c.deref.ensures.value in
     let same : texts_of c.cut_back.new.channels.items ≡ texts_of olds.items =
-    cut_same olds.items (texts_of news.items) c.deref-in_default.result.now (texts_of c.cut_back.new.channels.items) c.in_default.ensures.prefix lens c.cut_back.ensures in
-    unchanged c.args.self.now _ (ap (λ (l : List (List ℕ)). record { main = c.self.inside.main; uuid = c.self.inside.uuid; limit = c.self.inside.limit; channels = l; base = c.self.inside.base; rounds = c.self.inside.rounds }) same ∙ c.self.view_is)
+    cut_same olds.items (texts_of news.items) c.deref-in_default.result.now
+    (texts_of c.cut_back.new.channels.items) c.in_default.ensures.prefix lens c.cut_back.ensures in
+    unchanged c.args.self.now _ (ap (λ (l : List (List ℕ)). record {
+      main = c.self.inside.main;
+      uuid = c.self.inside.uuid;
+      limit = c.self.inside.limit;
+      channels = l;
+      base = c.self.inside.base;
+      rounds = c.self.inside.rounds;
+    }) same ∙ c.self.view_is)
 
 pub cut_back-requires-in_default-flush_part : goal.cut_back-requires-in_default-flush_part
 cut_back-requires-in_default-flush_part g c =
@@ -69,7 +98,8 @@ cut_back-requires-in_default-flush_part g c =
     let news = c.deal_round.new.channels in
     omega (
       arith,
-      ap length (c.deref-in_default-flush_part.ensures.value ∙ c.in_ok-lens.ensures ∙ ap (λ (l : List (Vec ℕ _)). map (λ (text : Vec ℕ _). vec_len text) l) c.deref.ensures.value),
+      ap length (c.deref-in_default-flush_part.ensures.value ∙ c.in_ok-lens.ensures
+          ∙ ap (λ (l : List (Vec ℕ _)). map (λ (text : Vec ℕ _). vec_len text) l) c.deref.ensures.value),
       length-map olds.items (λ (text : Vec ℕ _). vec_len text),
       prefix_long olds.items news.items c.in-Ok.ensures.prefix,
       news.ok.0,
@@ -79,31 +109,80 @@ pub invariant_of-self-in_default-flush_part : goal.invariant_of-self-in_default-
 invariant_of-self-in_default-flush_part g c =
     let olds = c.self.inside.channels in
     let news = c.deal_round.new.channels in
-    let lens = c.deref-in_default-flush_part.ensures.value ∙ c.in_ok-lens.ensures ∙ ap (λ (l : List (Vec ℕ _)). map (λ (text : Vec ℕ _). vec_len text) l) c.deref.ensures.value in
+    let lens = c.deref-in_default-flush_part.ensures.value ∙ c.in_ok-lens.ensures
+    ∙ ap (λ (l : List (Vec ℕ _)). map (λ (text : Vec ℕ _). vec_len text) l) c.deref.ensures.value in
     let same : texts_of c.cut_back-in_default-flush_part.new.channels.items ≡ texts_of olds.items =
-    cut_same olds.items (texts_of news.items) c.deref-in_default-flush_part.result.now (texts_of c.cut_back-in_default-flush_part.new.channels.items) c.in-Ok.ensures.prefix lens c.cut_back-in_default-flush_part.ensures in
-    subst (λ (w : Writer). IsMultiSending (record { main = w; uuid = c.self.inside.uuid; limit = c.self.inside.limit; channels = texts_of c.cut_back-in_default-flush_part.new.channels.items; base = c.self.inside.base; rounds = c.self.inside.rounds })) (sym c.in_default-flush_part.ensures.err)
-    (subst (λ (l : List (List ℕ)). IsMultiSending (record { main = c.self.inside.main; uuid = c.self.inside.uuid; limit = c.self.inside.limit; channels = l; base = c.self.inside.base; rounds = c.self.inside.rounds })) (sym same) c.self.invariant)
+    cut_same olds.items (texts_of news.items) c.deref-in_default-flush_part.result.now
+    (texts_of c.cut_back-in_default-flush_part.new.channels.items) c.in-Ok.ensures.prefix lens c.cut_back-in_default-flush_part.ensures in
+    subst (λ (w : Writer). IsMultiSending (record {
+      main = w;
+      uuid = c.self.inside.uuid;
+      limit = c.self.inside.limit;
+      channels = texts_of c.cut_back-in_default-flush_part.new.channels.items;
+      base = c.self.inside.base;
+      rounds = c.self.inside.rounds;
+    })) (sym c.in_default-flush_part.ensures.err)
+    (subst (λ (l : List (List ℕ)). IsMultiSending
+    (record {
+      main = c.self.inside.main;
+      uuid = c.self.inside.uuid;
+      limit = c.self.inside.limit;
+      channels = l;
+      base = c.self.inside.base;
+      rounds = c.self.inside.rounds;
+    })) (sym same) c.self.invariant)
 
 pub returns-in_default-flush_part-clause-err : goal.returns-in_default-flush_part-clause-err
 returns-in_default-flush_part-clause-err g c =
     let olds = c.self.inside.channels in
     let news = c.deal_round.new.channels in
-    let lens = c.deref-in_default-flush_part.ensures.value ∙ c.in_ok-lens.ensures ∙ ap (λ (l : List (Vec ℕ _)). map (λ (text : Vec ℕ _). vec_len text) l) c.deref.ensures.value in
+    let lens = c.deref-in_default-flush_part.ensures.value ∙ c.in_ok-lens.ensures
+    ∙ ap (λ (l : List (Vec ℕ _)). map (λ (text : Vec ℕ _). vec_len text) l) c.deref.ensures.value in
     let same : texts_of c.cut_back-in_default-flush_part.new.channels.items ≡ texts_of olds.items =
-    cut_same olds.items (texts_of news.items) c.deref-in_default-flush_part.result.now (texts_of c.cut_back-in_default-flush_part.new.channels.items) c.in-Ok.ensures.prefix lens c.cut_back-in_default-flush_part.ensures in
-    ap (λ (w : Writer). record { main = w; uuid = c.self.inside.uuid; limit = c.self.inside.limit; channels = texts_of c.cut_back-in_default-flush_part.new.channels.items; base = c.self.inside.base; rounds = c.self.inside.rounds }) c.in_default-flush_part.ensures.err
-    ∙ (ap (λ (l : List (List ℕ)). record { main = c.self.inside.main; uuid = c.self.inside.uuid; limit = c.self.inside.limit; channels = l; base = c.self.inside.base; rounds = c.self.inside.rounds }) same ∙ c.self.view_is)
+    cut_same olds.items (texts_of news.items) c.deref-in_default-flush_part.result.now
+    (texts_of c.cut_back-in_default-flush_part.new.channels.items) c.in-Ok.ensures.prefix lens c.cut_back-in_default-flush_part.ensures in
+    ap (λ (w : Writer). record {
+      main = w;
+      uuid = c.self.inside.uuid;
+      limit = c.self.inside.limit;
+      channels = texts_of c.cut_back-in_default-flush_part.new.channels.items;
+      base = c.self.inside.base;
+      rounds = c.self.inside.rounds;
+    }) c.in_default-flush_part.ensures.err
+    ∙ (ap (λ (l : List (List ℕ)). record {
+      main = c.self.inside.main;
+      uuid = c.self.inside.uuid;
+      limit = c.self.inside.limit;
+      channels = l;
+      base = c.self.inside.base;
+      rounds = c.self.inside.rounds;
+    }) same ∙ c.self.view_is)
 
 pub returns-in_default-flush_part-clause-setting : goal.returns-in_default-flush_part-clause-setting
 returns-in_default-flush_part-clause-setting g c =
     let olds = c.self.inside.channels in
     let news = c.deal_round.new.channels in
-    let lens = c.deref-in_default-flush_part.ensures.value ∙ c.in_ok-lens.ensures ∙ ap (λ (l : List (Vec ℕ _)). map (λ (text : Vec ℕ _). vec_len text) l) c.deref.ensures.value in
+    let lens = c.deref-in_default-flush_part.ensures.value ∙ c.in_ok-lens.ensures
+    ∙ ap (λ (l : List (Vec ℕ _)). map (λ (text : Vec ℕ _). vec_len text) l) c.deref.ensures.value in
     let same : texts_of c.cut_back-in_default-flush_part.new.channels.items ≡ texts_of olds.items =
-    cut_same olds.items (texts_of news.items) c.deref-in_default-flush_part.result.now (texts_of c.cut_back-in_default-flush_part.new.channels.items) c.in-Ok.ensures.prefix lens c.cut_back-in_default-flush_part.ensures in
-    unchanged c.args.self.now _ (ap (λ (w : Writer). record { main = w; uuid = c.self.inside.uuid; limit = c.self.inside.limit; channels = texts_of c.cut_back-in_default-flush_part.new.channels.items; base = c.self.inside.base; rounds = c.self.inside.rounds }) c.in_default-flush_part.ensures.err
-    ∙ (ap (λ (l : List (List ℕ)). record { main = c.self.inside.main; uuid = c.self.inside.uuid; limit = c.self.inside.limit; channels = l; base = c.self.inside.base; rounds = c.self.inside.rounds }) same ∙ c.self.view_is))
+    cut_same olds.items (texts_of news.items) c.deref-in_default-flush_part.result.now
+    (texts_of c.cut_back-in_default-flush_part.new.channels.items) c.in-Ok.ensures.prefix lens c.cut_back-in_default-flush_part.ensures in
+    unchanged c.args.self.now _ (ap (λ (w : Writer). record {
+      main = w;
+      uuid = c.self.inside.uuid;
+      limit = c.self.inside.limit;
+      channels = texts_of c.cut_back-in_default-flush_part.new.channels.items;
+      base = c.self.inside.base;
+      rounds = c.self.inside.rounds;
+    }) c.in_default-flush_part.ensures.err
+    ∙ (ap (λ (l : List (List ℕ)). record {
+      main = c.self.inside.main;
+      uuid = c.self.inside.uuid;
+      limit = c.self.inside.limit;
+      channels = l;
+      base = c.self.inside.base;
+      rounds = c.self.inside.rounds;
+    }) same ∙ c.self.view_is))
 
 pub overflow_add-self-2 : goal.overflow_add-self-2
 overflow_add-self-2 g c =
@@ -128,7 +207,14 @@ pub returns-clause-setting : goal.returns-clause-setting
 returns-clause-setting g c =
     let olds = c.self.inside.channels in
     let news = c.deal_round.new.channels in
-    let after : MultiSending = record { main = c.flush_part.new.self; uuid = c.self.inside.uuid; limit = c.self.inside.limit; channels = texts_of news.items; base = c.self.inside.base + (c.len.result + c.len-2.result); rounds = c.self.inside.rounds + 1 } in
+    let after : MultiSending = record {
+      main = c.flush_part.new.self;
+      uuid = c.self.inside.uuid;
+      limit = c.self.inside.limit;
+      channels = texts_of news.items;
+      base = c.self.inside.base + (c.len.result + c.len-2.result);
+      rounds = c.self.inside.rounds + 1;
+    } in
     subst (λ (old : MultiSending). KeepsSetting old after) c.self.view_is record {
       same_table = c.in-Ok-flush_part.ensures.table;
       same_uuid = refl;
@@ -165,9 +251,28 @@ returns-clause-ok g c =
     let batches = c.deref-2.result.now in
     let of_image : image.table ≡ c.self.inside.main.table = (search rules) in
     let of_dirty : c.args.dirty.now.table ≡ c.self.inside.main.table = (search rules) in
-    let round : DealtRound = record { snapshot = record { image = image; dirty = c.args.dirty.now.marked }; batches = batches; base = c.self.inside.base; shares = dealt.shares } in
-    let before : MultiSending = record { main = c.self.inside.main; uuid = c.self.inside.uuid; limit = c.self.inside.limit; channels = texts_of olds.items; base = c.self.inside.base; rounds = c.self.inside.rounds } in
-    let after : MultiSending = record { main = c.flush_part.new.self; uuid = c.self.inside.uuid; limit = c.self.inside.limit; channels = texts_of news.items; base = c.self.inside.base + (c.len.result + c.len-2.result); rounds = c.self.inside.rounds + 1 } in
+    let round : DealtRound = record {
+      snapshot = record { image = image; dirty = c.args.dirty.now.marked };
+      batches = batches;
+      base = c.self.inside.base;
+      shares = dealt.shares;
+    } in
+    let before : MultiSending = record {
+      main = c.self.inside.main;
+      uuid = c.self.inside.uuid;
+      limit = c.self.inside.limit;
+      channels = texts_of olds.items;
+      base = c.self.inside.base;
+      rounds = c.self.inside.rounds;
+    } in
+    let after : MultiSending = record {
+      main = c.flush_part.new.self;
+      uuid = c.self.inside.uuid;
+      limit = c.self.inside.limit;
+      channels = texts_of news.items;
+      base = c.self.inside.base + (c.len.result + c.len-2.result);
+      rounds = c.self.inside.rounds + 1;
+    } in
     let long = prefix_long olds.items news.items c.in-Ok.ensures.prefix in
     let keeps : KeepsSetting before after = record {
       same_table = c.in-Ok-flush_part.ensures.table;
@@ -179,12 +284,22 @@ returns-clause-ok g c =
       has_image = c.table.ensures.image;
       has_table = of_image;
       has_places = subst (λ (t : RamTable). IsPlaceSet (record { table = t; marked = c.args.dirty.now.marked })) of_dirty c.table-else-not-same.ensures.set;
-      has_batches = subst (λ (l : List BatchOfPages). IsCut c.self.inside.limit c.args.dirty.now.marked l) (sym c.deref-2.ensures.value) c.in_ok-batches.ensures.cut;
+      has_batches = subst (λ (l : List BatchOfPages). IsCut c.self.inside.limit c.args.dirty.now.marked l)
+          (sym c.deref-2.ensures.value) c.in_ok-batches.ensures.cut;
       has_shares = dealt.is_dealing;
       as_many = dealt.as_many;
     } in
     let base : after.base ≡ before.base + packet_count round =
-    omega (arith, c.len.ensures, c.len-2.ensures, dealt.as_many, length-map olds.items (λ (text : Vec ℕ _). text.items), long, news.ok.0, ap length c.deref-2.ensures.value) in
+    omega (
+      arith,
+      c.len.ensures,
+      c.len-2.ensures,
+      dealt.as_many,
+      length-map olds.items (λ (text : Vec ℕ _). text.items),
+      long,
+      news.ok.0,
+      ap length c.deref-2.ensures.value,
+    ) in
     subst (λ (old : MultiSending). HasSentOne round.snapshot old after) c.self.view_is record {
       round = round;
       is_of = refl;

@@ -49,7 +49,14 @@ returns-clause-ok g c =
     let s = c.self.inside in
     let x = c.sender.inside in
     let terms = arc_value s.shared in
-    let sender : MultiSending = record { main = x.main; uuid = x.uuid; limit = x.limit; channels = texts_of x.channels.items; base = x.base; rounds = x.rounds } in
+    let sender : MultiSending = record {
+      main = x.main;
+      uuid = x.uuid;
+      limit = x.limit;
+      channels = texts_of x.channels.items;
+      base = x.base;
+      rounds = x.rounds;
+    } in
     let round : OpenMulti = record { sender = sender; terms = terms; seats = s.seats.items; spents = s.spents.items } in
     let opened : round ≡ record round { sender = s.sender } = ap (λ (m : MultiSending). record round { sender = m }) c.sender.view_is in
     let is : IsOpenMulti round = subst IsOpenMulti (sym opened) c.self.invariant in
@@ -69,7 +76,11 @@ returns-clause-ok g c =
       x.channels.ok.0,
       length-map x.channels.items (λ (text : Vec ℕ _). text.items),
     ) in
-    subst (λ (r : OpenMulti). EndsRound r (record sender { main = c.flush_part.new.self; base = x.base + (c.len.result + c.len-2.result); rounds = x.rounds + 1 }))
+    subst (λ (r : OpenMulti). EndsRound r (record sender {
+      main = c.flush_part.new.self;
+      base = x.base + (c.len.result + c.len-2.result);
+      rounds = x.rounds + 1;
+    }))
     (opened ∙ c.self.view_is)
     (ends_round round c.flush_part.new.self (x.base + (c.len.result + c.len-2.result)) (x.rounds + 1) next.result is all end once
     c.in-Ok.ensures.table c.in-Ok.ensures.ok base refl)

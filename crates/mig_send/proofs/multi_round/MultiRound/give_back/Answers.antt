@@ -20,7 +20,8 @@ invariant_of-self g c =
     let IsOwn : SeatView → Type 0 = λ seat. seat.deal ≡ (arc_value w.shared).deal in
     let own = subst (λ (hand : Hand). All IsOwn (seats_of hand)) c.in-Ended.is c.worker.invariant.0.own in
     let of_deal : spent.deal ≡ old.terms.deal = own 0 spent (omega arith) ∙ ap (λ (t : RoundTerms). t.deal) terms in
-    back_open old c.put_channel.new.self c.push.new.self.items spent w.channel w.text.items c.self.invariant few of_deal c.put_channel.ensures c.in-Ok.ensures.items
+    back_open old c.put_channel.new.self c.push.new.self.items spent w.channel w.text.items c.self.invariant few of_deal
+    c.put_channel.ensures c.in-Ok.ensures.items
 
 pub returns-in-Ok-clause-ok : goal.returns-in-Ok-clause-ok
 returns-in-Ok-clause-ok g c =
@@ -36,4 +37,5 @@ returns-in-Ok-clause-ok g c =
     ap (λ (x : ChannelWork). x.channel) c.worker.view_is ∙ (c.requires.turn.0 ∙ sym (ap (λ (x : OpenMulti). length x.spents) c.self.view_is)) in
     subst (λ (x : ChannelWork). TakesBack x c.args.self.now new) c.worker.view_is
     (subst (λ (x : OpenMulti). TakesBack work x new) c.self.view_is
-    (takes_back work old c.put_channel.new.self c.push.new.self.items c.in-Ended.spent c.self.invariant terms turn few c.in-Ended.is c.put_channel.ensures c.in-Ok.ensures.items))
+    (takes_back work old c.put_channel.new.self c.push.new.self.items c.in-Ended.spent c.self.invariant terms turn few
+    c.in-Ended.is c.put_channel.ensures c.in-Ok.ensures.items))

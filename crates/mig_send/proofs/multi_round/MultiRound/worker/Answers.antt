@@ -16,5 +16,6 @@ returns-clause-ok g c =
     let next : at ≡ handed_out old = omega (arith, c.channels.ensures, c.len.ensures, s.seats.ok.0) in
     let is = hands_out old c.take_channel-text.new.self c.pop.new.self.items c.in-Some.seat at text c.self.invariant next c.in-Some.ensures.items
     c.take_channel-text.ensures.rest c.take_channel-text.ensures.text in
-    subst (λ (r : OpenMulti). HandsOut r new (record { terms = arc_value c.in-Ok.shared; channel = at; hand = Drawing c.in-Some.seat; text = text })) c.self.view_is
+    subst (λ (r : OpenMulti). HandsOut r new
+    (record { terms = arc_value c.in-Ok.shared; channel = at; hand = Drawing c.in-Some.seat; text = text })) c.self.view_is
     (subst (λ (t : RoundTerms). HandsOut old new (record { terms = t; channel = at; hand = Drawing c.in-Some.seat; text = text })) (sym c.in-Ok.ensures) is)

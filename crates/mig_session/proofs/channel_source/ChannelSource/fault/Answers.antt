@@ -8,5 +8,11 @@ use Rattle.mig_session.proofs.channel_source.ChannelSource.fault.Goals as goal
 
 pub returns : goal.returns
 returns g c =
-    subst (λ (m : FedChannel). (given : Settings) (k : ℕ) (text : Text) → HoldsChannel given k text m → HasChannelFault given text c.fault_of.result) c.self.view_is
-    (λ given k text holds. (c.state.result, c.state.ensures given (channel_so_far text (with_one k c.self.inside.round)) holds.stands, c.fault_of.ensures ∙ ap fault_of c.channel_end.ensures))
+    subst (λ (m : FedChannel). (given : Settings) (k : ℕ) (text : Text) → HoldsChannel given k text m
+    → HasChannelFault given text c.fault_of.result) c.self.view_is
+    (λ given k text holds. (
+      c.state.result,
+      c.state.ensures given
+          (channel_so_far text (with_one k c.self.inside.round)) holds.stands,
+      c.fault_of.ensures ∙ ap fault_of c.channel_end.ensures,
+    ))

@@ -8,9 +8,11 @@ pub returns-clause-ok : goal.returns-clause-ok
 returns-clause-ok g c = λ given k text size holds.
     let before = subst (λ (m : FedChannel). HoldsChannel given k text m) (sym c.self.view_is) holds in
     c.advance.ensures.takes given k (with_piece c.args.piece.now text)
-    (fed_where_none given k text c.args.piece.now c.self.inside.reader c.feed.new.self c.self.inside.round c.in-Ok.ensures.stands before (sym c.is_some.ensures ∙ c.if-is_some.false))
+    (fed_where_none given k text c.args.piece.now c.self.inside.reader c.feed.new.self c.self.inside.round c.in-Ok.ensures.stands
+    before (sym c.is_some.ensures ∙ c.if-is_some.false))
 
 pub returns-then-is_some-clause-ok : goal.returns-then-is_some-clause-ok
 returns-then-is_some-clause-ok g c = λ given k text size holds.
     let before = subst (λ (m : FedChannel). HoldsChannel given k text m) (sym c.self.view_is) holds in
-    fed_where_some given k text c.args.piece.now c.self.inside.reader c.feed.new.self c.self.inside.round size c.in-Ok.ensures.stands before (sym c.is_some.ensures ∙ c.if-is_some.true)
+    fed_where_some given k text c.args.piece.now c.self.inside.reader c.feed.new.self c.self.inside.round size
+    c.in-Ok.ensures.stands before (sym c.is_some.ensures ∙ c.if-is_some.true)

@@ -3,4 +3,4 @@ use Rattle.mig_session.proofs.channel_source.ChannelSource.new.Goals as goal
 use Rattle.mig_single_load.specs.Settings.{channel_of}
 
 pub returns-clause-holds : goal.returns-clause-holds
-returns-clause-holds g c = c.advance.ensures.takes (channel_of c.args.settings c.args.uuid c.args.channels) 0 no_text c.new_within.ensures.stands
+returns-clause-holds g c = c.advance.ensures.takes (channel_of c.args.settings c.args.uuid c.args.channels) 0 no_text c.new_with.ensures.stands

@@ -6,7 +6,8 @@ use Rattle.mig_session.proofs.main_source.MainSource.advance.Goals.{in-Some-1, i
 
 pub returns-in-Ok-clause-takes : goal.returns-in-Ok-clause-takes
 returns-in-Ok-clause-takes g c =
-    let takes = takes_next c.in-Ok.round c.self.inside.reader c.take_round.new.self c.in-Ok.ensures.none c.in-Ok.ensures.last c.in-Ok.ensures.round c.in-Ok.ensures.places c.in-Ok.ensures.stands
+    let takes = takes_next c.in-Ok.round c.self.inside.reader c.take_round.new.self c.in-Ok.ensures.none c.in-Ok.ensures.last
+    c.in-Ok.ensures.round c.in-Ok.ensures.places c.in-Ok.ensures.stands
     c.self.inside.round in
     let old = subst (λ (m : FedMain). TakesMain m (kept c.take_round.new.self c.in-Ok.round)) c.self.view_is takes in
     elim c.match-self-round.branch [

@@ -9,4 +9,9 @@ use Rattle.mig_session.proofs.main_source.MainSource.fault.Goals as goal
 pub returns : goal.returns
 returns g c =
     subst (λ (m : FedMain). (given : Settings) (k : ℕ) (text : Text) → HoldsMain given k text m → HasMainFault given text c.fault_of.result) c.self.view_is
-    (λ given k text holds. (c.state.result, c.state.ensures given (main_so_far text (with_one k c.self.inside.round)) holds.stands, c.fault_of.ensures ∙ ap fault_of c.stream_end.ensures))
+    (λ given k text holds. (
+      c.state.result,
+      c.state.ensures given
+          (main_so_far text (with_one k c.self.inside.round)) holds.stands,
+      c.fault_of.ensures ∙ ap fault_of c.stream_end.ensures,
+    ))

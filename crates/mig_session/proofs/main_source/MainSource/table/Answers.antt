@@ -9,5 +9,6 @@ use Rattle.mig_session.proofs.main_source.MainSource.table.Goals as goal
 
 pub returns : goal.returns
 returns g c =
-    subst (λ (m : FedMain). (given : Settings) (k : ℕ) (text : Text) → HoldsMain given k text m → HasTable given text.bytes (option_copied c.table.result)) c.self.view_is
+    subst (λ (m : FedMain). (given : Settings) (k : ℕ) (text : Text) → HoldsMain given k text m
+    → HasTable given text.bytes (option_copied c.table.result)) c.self.view_is
     (tells_table (kept c.self.inside.reader c.self.inside.round) (option_copied c.table.result) c.table.ensures)

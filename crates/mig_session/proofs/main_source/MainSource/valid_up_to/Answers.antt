@@ -7,5 +7,6 @@ use Rattle.mig_session.proofs.main_source.MainSource.valid_up_to.Goals as goal
 
 pub returns : goal.returns
 returns g c =
-    subst (λ (m : FedMain). (given : Settings) (k : ℕ) (text : Text) → HoldsMain given k text m → IsValidUpTo given text.bytes c.valid_up_to.result) c.self.view_is
+    subst (λ (m : FedMain). (given : Settings) (k : ℕ) (text : Text) → HoldsMain given k text m
+    → IsValidUpTo given text.bytes c.valid_up_to.result) c.self.view_is
     (λ given k text holds. c.valid_up_to.ensures given (main_so_far text (with_one k c.self.inside.round)) holds.stands)

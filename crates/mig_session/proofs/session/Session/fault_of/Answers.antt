@@ -6,10 +6,17 @@ use Rattle.mig_session.proofs.session.Session.fault_of.Goals as goal
 
 pub returns-in-Some-clause-stands : goal.returns-in-Some-clause-stands
 returns-in-Some-clause-stands g c = λ given uuid texts stands.
-    let s : LoadSession = record { counts = c.self.inside.counts; places = c.self.inside.places; sources = c.self.inside.sources; target = c.self.inside.target; verdict = c.self.inside.verdict } in
+    let s : LoadSession = record {
+      counts = c.self.inside.counts;
+      places = c.self.inside.places;
+      sources = c.self.inside.sources;
+      target = c.self.inside.target;
+      verdict = c.self.inside.verdict;
+    } in
     let some : c.args.self.now.places ≡ Some c.in-Some.places = ap (λ (x : LoadSession). x.places) (sym c.self.view_is) ∙ c.in-Some.is in
     as_read given uuid texts c.args.self.now s (λ read. HasFault given uuid read c.args.source c.fault_of.result) c.self.view_is c.self.invariant stands
-    (subst (λ (o : Option Fault). HasFault given uuid stands.read c.args.source o) (sym c.fault_of.ensures) (fault_read given uuid texts c.args.self.now c.in-Some.places c.args.source stands some c.requires))
+    (subst (λ (o : Option Fault). HasFault given uuid stands.read c.args.source o) (sym c.fault_of.ensures)
+    (fault_read given uuid texts c.args.self.now c.in-Some.places c.args.source stands some c.requires))
 
 pub returns-in-Some-clause-lacking : goal.returns-in-Some-clause-lacking
 returns-in-Some-clause-lacking g c = λ given uuid texts lacks.
@@ -17,4 +24,5 @@ returns-in-Some-clause-lacking g c = λ given uuid texts lacks.
     absurd (let bad : Some c.in-Some.places ≡ None = sym some ∙ lacks.has_no_places in cc)
 
 pub returns-in-None-clause-stands : goal.returns-in-None-clause-stands
-returns-in-None-clause-stands g c = λ given uuid texts stands. absurd (no_places_read given uuid texts c.args.self.now stands (ap (λ (x : LoadSession). x.places) (sym c.self.view_is) ∙ c.in-None.is))
+returns-in-None-clause-stands g c = λ given uuid texts stands. absurd
+    (no_places_read given uuid texts c.args.self.now stands (ap (λ (x : LoadSession). x.places) (sym c.self.view_is) ∙ c.in-None.is))

@@ -16,13 +16,25 @@ returns-in-Some-clause-exact g c = λ running given uuid texts stands all.
 
 pub returns-in-Some-clause-done : goal.returns-in-Some-clause-done
 returns-in-Some-clause-done g c = λ done.
-    let s : LoadSession = record { counts = c.self.inside.counts; places = c.self.inside.places; sources = c.self.inside.sources; target = c.self.inside.target; verdict = c.self.inside.verdict } in
+    let s : LoadSession = record {
+      counts = c.self.inside.counts;
+      places = c.self.inside.places;
+      sources = c.self.inside.sources;
+      target = c.self.inside.target;
+      verdict = c.self.inside.verdict;
+    } in
     let runs : s.verdict ≡ Running = keeps_runs s c.in-Some.sources c.self.invariant c.in-Some.is in
     absurd (let bad : Done ≡ Running = sym done ∙ ap (λ (x : LoadSession). x.verdict) (sym c.self.view_is) ∙ runs in cc)
 
 pub returns-in-Some-clause-failed : goal.returns-in-Some-clause-failed
 returns-in-Some-clause-failed g c = λ t.
-    let s : LoadSession = record { counts = c.self.inside.counts; places = c.self.inside.places; sources = c.self.inside.sources; target = c.self.inside.target; verdict = c.self.inside.verdict } in
+    let s : LoadSession = record {
+      counts = c.self.inside.counts;
+      places = c.self.inside.places;
+      sources = c.self.inside.sources;
+      target = c.self.inside.target;
+      verdict = c.self.inside.verdict;
+    } in
     inl (ap (λ (x : LoadSession). x.verdict) (sym c.self.view_is) ∙ keeps_runs s c.in-Some.sources c.self.invariant c.in-Some.is)
 
 pub returns-in-None-clause-all : goal.returns-in-None-clause-all

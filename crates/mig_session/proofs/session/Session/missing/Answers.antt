@@ -1,14 +1,20 @@
-use Rattle.std.proofs.Common.{◌≡◌, ◌∙◌, Option, Some, None, ap, sym}
-use Rattle.mig_assemble.specs.Target.{LoadTarget}
+use Rattle.std.proofs.Common.{◌≡◌, ◌∙◌, Some, None, ap, sym}
 use Rattle.mig_session.specs.Session.{LoadSession, rounds_loaded, missing_in, HasMissing}
 use Rattle.mig_session.proofs.Sessions.{as_read, no_places_read, missing_read}
 use Rattle.mig_session.proofs.session.Session.missing.Goals as goal
 
 pub returns-in-Some-clause-stands : goal.returns-in-Some-clause-stands
 returns-in-Some-clause-stands g c = λ given uuid texts stands.
-    let s : LoadSession = record { counts = c.self.inside.counts; places = c.self.inside.places; sources = c.self.inside.sources; target = c.self.inside.target; verdict = c.self.inside.verdict } in
+    let s : LoadSession = record {
+      counts = c.self.inside.counts;
+      places = c.self.inside.places;
+      sources = c.self.inside.sources;
+      target = c.self.inside.target;
+      verdict = c.self.inside.verdict;
+    } in
     let told : c.lacking_in.result ≡ missing_in c.args.self.now.target = c.lacking_in.ensures ∙ ap (λ (x : LoadSession). missing_in x.target) c.self.view_is in
-    as_read given uuid texts c.args.self.now s (λ read. HasMissing given uuid read (rounds_loaded c.args.self.now.target) c.lacking_in.result) c.self.view_is c.self.invariant stands
+    as_read given uuid texts c.args.self.now s
+    (λ read. HasMissing given uuid read (rounds_loaded c.args.self.now.target) c.lacking_in.result) c.self.view_is c.self.invariant stands
     (missing_read given uuid texts c.args.self.now c.lacking_in.result stands told)
 
 pub returns-in-Some-clause-lacking : goal.returns-in-Some-clause-lacking
@@ -17,4 +23,5 @@ returns-in-Some-clause-lacking g c = λ given uuid texts lacks.
     absurd (let bad : Some c.in-Some.field-0 ≡ None = sym some ∙ lacks.has_no_places in cc)
 
 pub returns-in-None-clause-stands : goal.returns-in-None-clause-stands
-returns-in-None-clause-stands g c = λ given uuid texts stands. absurd (no_places_read given uuid texts c.args.self.now stands (ap (λ (x : LoadSession). x.places) (sym c.self.view_is) ∙ c.in-None.is))
+returns-in-None-clause-stands g c = λ given uuid texts stands. absurd
+    (no_places_read given uuid texts c.args.self.now stands (ap (λ (x : LoadSession). x.places) (sym c.self.view_is) ∙ c.in-None.is))

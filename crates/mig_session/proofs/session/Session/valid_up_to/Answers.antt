@@ -5,10 +5,18 @@ use Rattle.mig_session.proofs.session.Session.valid_up_to.Goals as goal
 
 pub returns-in-Some-clause-stands : goal.returns-in-Some-clause-stands
 returns-in-Some-clause-stands g c = λ given uuid texts stands.
-    let s : LoadSession = record { counts = c.self.inside.counts; places = c.self.inside.places; sources = c.self.inside.sources; target = c.self.inside.target; verdict = c.self.inside.verdict } in
+    let s : LoadSession = record {
+      counts = c.self.inside.counts;
+      places = c.self.inside.places;
+      sources = c.self.inside.sources;
+      target = c.self.inside.target;
+      verdict = c.self.inside.verdict;
+    } in
     let some : c.args.self.now.places ≡ Some c.in-Some.places = ap (λ (x : LoadSession). x.places) (sym c.self.view_is) ∙ c.in-Some.is in
-    as_read given uuid texts c.args.self.now s (λ read. IsSourceValidUpTo given uuid read c.args.source c.valid_up_to.result) c.self.view_is c.self.invariant stands
-    (subst (λ (o : Option ℕ). IsSourceValidUpTo given uuid stands.read c.args.source o) (sym c.valid_up_to.ensures) (source_read given uuid texts c.args.self.now c.in-Some.places c.args.source stands some c.requires))
+    as_read given uuid texts c.args.self.now s
+    (λ read. IsSourceValidUpTo given uuid read c.args.source c.valid_up_to.result) c.self.view_is c.self.invariant stands
+    (subst (λ (o : Option ℕ). IsSourceValidUpTo given uuid stands.read c.args.source o) (sym c.valid_up_to.ensures)
+    (source_read given uuid texts c.args.self.now c.in-Some.places c.args.source stands some c.requires))
 
 pub returns-in-Some-clause-lacking : goal.returns-in-Some-clause-lacking
 returns-in-Some-clause-lacking g c = λ given uuid texts lacks.
@@ -16,4 +24,5 @@ returns-in-Some-clause-lacking g c = λ given uuid texts lacks.
     absurd (let bad : Some c.in-Some.places ≡ None = sym some ∙ lacks.has_no_places in cc)
 
 pub returns-in-None-clause-stands : goal.returns-in-None-clause-stands
-returns-in-None-clause-stands g c = λ given uuid texts stands. absurd (no_places_read given uuid texts c.args.self.now stands (ap (λ (x : LoadSession). x.places) (sym c.self.view_is) ∙ c.in-None.is))
+returns-in-None-clause-stands g c = λ given uuid texts stands. absurd
+    (no_places_read given uuid texts c.args.self.now stands (ap (λ (x : LoadSession). x.places) (sym c.self.view_is) ∙ c.in-None.is))

@@ -25,4 +25,5 @@ returns-clause-counts g c =
 pub returns-clause-fewer : goal.returns-clause-fewer
 returns-clause-fewer g c = λ have.
     let here = subst HaveRound (sym c.self.view_is) have in
-    ap (λ (s : FedSources). main_waiting s.main) (sym c.self.view_is) ∙ waits_one c.self.inside.main here.main ∙ ap (λ (n : ℕ). n + 1) (sym c.advance.ensures.fewer)
+    ap (λ (s : FedSources). main_waiting s.main) (sym c.self.view_is) ∙ waits_one c.self.inside.main here.main
+    ∙ ap (λ (n : ℕ). n + 1) (sym c.advance.ensures.fewer)

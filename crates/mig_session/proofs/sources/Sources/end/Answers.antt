@@ -25,11 +25,14 @@ returns-in-Channel-clause-holds g c = λ given uuid k texts holds.
     let before : Holds given uuid k texts old = subst (λ (s : FedSources). Holds given uuid k texts s) (sym c.self.view_is) holds in
     let channel_given = channel_of given uuid (length texts.channels) in
     let there : slice_get channels j ≡ Some q =
-    there_of channels j q (subst (λ (s : FedSources). HasSource (counts_of s) (source.Channel j)) (sym c.self.view_is) (subst (λ (x : Source). HasSource (counts_of c.args.self.now) x) c.in-Channel.is c.requires))
+    there_of channels j q (subst (λ (s : FedSources). HasSource (counts_of s) (source.Channel j)) (sym c.self.view_is)
+    (subst (λ (x : Source). HasSource (counts_of c.args.self.now) x) c.in-Channel.is c.requires))
     c.index_mut-channel.ensures.value in
-    subst (λ (x : Source). Holds given uuid k (end_step x texts) (record { main = c.self.inside.main; channels = slice_set channels j c.end-in-Channel.new.self })) (sym c.in-Channel.is)
+    subst (λ (x : Source). Holds given uuid k (end_step x texts)
+    (record { main = c.self.inside.main; channels = slice_set channels j c.end-in-Channel.new.self })) (sym c.in-Channel.is)
     (channel_steps given uuid k j over texts old c.end-in-Channel.new.self before
-    (c.end-in-Channel.ensures.holds channel_given k (get_or texts.channels j no_text) (zip_at (HoldsChannel channel_given k) texts.channels channels j no_text q before.channels there)))
+    (c.end-in-Channel.ensures.holds channel_given k (get_or texts.channels j no_text)
+    (zip_at (HoldsChannel channel_given k) texts.channels channels j no_text q before.channels there)))
 
 pub returns-in-Channel-clause-counts : goal.returns-in-Channel-clause-counts
 returns-in-Channel-clause-counts g c =
@@ -38,8 +41,10 @@ returns-in-Channel-clause-counts g c =
     let q : FedChannel = c.index_mut-channel.result.now in
     let old : FedSources = record { main = c.self.inside.main; channels = channels } in
     let there : slice_get channels j ≡ Some q =
-    there_of channels j q (subst (λ (s : FedSources). HasSource (counts_of s) (source.Channel j)) (sym c.self.view_is) (subst (λ (x : Source). HasSource (counts_of c.args.self.now) x) c.in-Channel.is c.requires))
+    there_of channels j q (subst (λ (s : FedSources). HasSource (counts_of s) (source.Channel j)) (sym c.self.view_is)
+    (subst (λ (x : Source). HasSource (counts_of c.args.self.now) x) c.in-Channel.is c.requires))
     c.index_mut-channel.ensures.value in
     let stepped = ap (λ (l : List Count). record { main = main_count c.self.inside.main; channels = l })
     (channel_counts_step channels j q c.end-in-Channel.new.self (λ (n : Count). record n { ended = true }) there c.end-in-Channel.ensures.count) in
-    stepped ∙ ap (λ (s : FedSources). with_end (counts_of s) (source.Channel j)) c.self.view_is ∙ ap (with_end (counts_of c.args.self.now)) (sym c.in-Channel.is)
+    stepped ∙ ap (λ (s : FedSources). with_end (counts_of s) (source.Channel j)) c.self.view_is
+    ∙ ap (with_end (counts_of c.args.self.now)) (sym c.in-Channel.is)

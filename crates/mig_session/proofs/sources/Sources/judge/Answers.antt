@@ -7,14 +7,14 @@ use Rattle.mig_session.specs.Advancing.{RoundIsDue}
 use Rattle.mig_session.proofs.Advances.{fits_here, sizes_fit, round_comes, judged}
 use Rattle.mig_session.proofs.sources.Sources.judge.Goals as goal
 
-pub put-requires-clause-fits : goal.put-requires-clause-fits
-put-requires-clause-fits g c =
+pub apply-requires-clause-fits : goal.apply-requires-clause-fits
+apply-requires-clause-fits g c =
     let s : FedSources = record { main = c.self.inside.main; channels = c.self.inside.channels.items } in
     let comes = subst (λ (x : FedSources). RoundIsDue c.requires.0 x c.args.target.now) (sym c.self.view_is) c.requires.1 in
     (fits_here c.requires.0 s c.args.target.now c.in-Some.round.now comes (ap option_copied (sym c.in-Some.is) ∙ c.round.ensures)).0
 
-pub put-requires-clause-page_sizes : goal.put-requires-clause-page_sizes
-put-requires-clause-page_sizes g c =
+pub apply-requires-clause-page_sizes : goal.apply-requires-clause-page_sizes
+apply-requires-clause-page_sizes g c =
     let s : FedSources = record { main = c.self.inside.main; channels = c.self.inside.channels.items } in
     let comes = subst (λ (x : FedSources). RoundIsDue c.requires.0 x c.args.target.now) (sym c.self.view_is) c.requires.1 in
     sizes_fit c.requires.0 s c.args.target.now c.gather_all.new.gathered comes
@@ -30,5 +30,7 @@ pub returns : goal.returns
 returns g c = λ f before.
     let s : FedSources = record { main = c.self.inside.main; channels = c.self.inside.channels.items } in
     let comes = subst (λ (x : FedSources). RoundIsDue f x c.args.target.now) (sym c.self.view_is) before in
-    judged f s c.args.target.now c.put.new.target c.in-Some.round.now (map fields c.gather_all.new.gathered) c.put.result comes (ap option_copied (sym c.in-Some.is) ∙ c.round.ensures)
-    (c.in-Ok.ensures.packets ∙ ap packets_of_all c.deref.ensures.value) c.put.ensures.lawful c.put.ensures.ok c.put.ensures.few c.put.ensures.refused c.put.ensures.err
+    judged f s c.args.target.now c.apply.new.target c.in-Some.round.now (map fields c.gather_all.new.gathered) c.apply.result comes
+    (ap option_copied (sym c.in-Some.is) ∙ c.round.ensures)
+    (c.in-Ok.ensures.packets ∙ ap packets_of_all c.deref.ensures.value) c.apply.ensures.lawful c.apply.ensures.ok c.apply.ensures.few
+    c.apply.ensures.refused c.apply.ensures.err

@@ -4,4 +4,5 @@ use Rattle.mig_single_load.proofs.in_place.InPlaceLoader.missing.Goals as goal
 
 pub returns : goal.returns
 returns g c = λ given first text ended loads.
-    c.missing.ensures (g.M.GuestTarget.image c.self.inside.memory) given first text ended (subst (λ (l : InPlace). LoadsOnto given first l text ended) (sym c.self.view_is) loads)
+    c.missing.ensures (g.M.GuestTarget.image c.self.inside.memory) given first text ended
+    (subst (λ (l : InPlace). LoadsOnto given first l text ended) (sym c.self.view_is) loads)

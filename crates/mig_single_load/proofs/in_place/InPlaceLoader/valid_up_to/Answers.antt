@@ -4,8 +4,10 @@ use Rattle.mig_single_load.proofs.in_place.InPlaceLoader.valid_up_to.Goals as go
 
 pub returns-clause-loads : goal.returns-clause-loads
 returns-clause-loads g c = λ given first text ended before.
-    c.valid_up_to.ensures.loads (g.M.GuestTarget.image c.self.inside.memory) given first text ended (subst (λ (l : InPlace). LoadsOnto given first l text ended) (sym c.self.view_is) before)
+    c.valid_up_to.ensures.loads (g.M.GuestTarget.image c.self.inside.memory) given first text ended
+    (subst (λ (l : InPlace). LoadsOnto given first l text ended) (sym c.self.view_is) before)
 
 pub returns-clause-lacking : goal.returns-clause-lacking
 returns-clause-lacking g c = λ given first text ended before.
-    c.valid_up_to.ensures.lacking (g.M.GuestTarget.image c.self.inside.memory) given first text ended (subst (λ (l : InPlace). LacksOnto given first l text ended) (sym c.self.view_is) before)
+    c.valid_up_to.ensures.lacking (g.M.GuestTarget.image c.self.inside.memory) given first text ended
+    (subst (λ (l : InPlace). LacksOnto given first l text ended) (sym c.self.view_is) before)

@@ -11,4 +11,6 @@ returns-in-Stream-clause-loads g c = λ memory given first text ended loads.
     let is = c.in-Stream.is in
     let same : s.state ≡ _ = ap (λ (x : LoadInPlace). x.state) (sym c.self.view_is) ∙ is in
     let count = ap (λ (x : LoadInPlace). x.rounds) c.self.view_is in
-    verdict_onto given first text memory s.rounds s.pause c.in-Stream.found _ _ (subst (λ (x : LoadState). StandsOnto given first text memory s.rounds s.pause x) same loads.stands) (c.verdict_at.ensures ∙ ap (λ (k : ℕ). verdict_of k c.in-Stream.found) count)
+    verdict_onto given first text memory s.rounds s.pause c.in-Stream.found _ _
+    (subst (λ (x : LoadState). StandsOnto given first text memory s.rounds s.pause x) same loads.stands)
+    (c.verdict_at.ensures ∙ ap (λ (k : ℕ). verdict_of k c.in-Stream.found) count)

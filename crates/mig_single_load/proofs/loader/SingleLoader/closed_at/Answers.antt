@@ -6,4 +6,5 @@ use Rattle.mig_single_load.proofs.loader.SingleLoader.closed_at.Goals as goal
 pub returns : goal.returns
 returns g c = λ given text ended loads.
     let l : Loader = loader c.self.inside.reader c.self.inside.target in
-    c.closed_at.ensures (single_of given) (put_so_far text ended (sections_loaded l)) (subst (λ (x : Loader). Loads given x text ended) (sym c.self.view_is) loads).stands
+    c.closed_at.ensures (single_of given) (put_so_far text ended (sections_loaded l))
+    (subst (λ (x : Loader). Loads given x text ended) (sym c.self.view_is) loads).stands

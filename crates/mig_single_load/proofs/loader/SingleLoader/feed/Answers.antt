@@ -47,5 +47,6 @@ returns-clause-ok g c = λ given text loads.
 pub returns-in_default-clause-settled : goal.returns-in_default-clause-settled
 returns-in_default-clause-settled g c = λ _ given text before settled.
     let loads = subst (λ (l : Loader). Loads given l text false) (sym c.self.view_is) before in
-    let ok = c.feed.ensures.settled (single_of given) (put_so_far text false (sections_loaded (loader c.self.inside.reader c.self.inside.target))) loads.stands settled in
+    let ok = c.feed.ensures.settled (single_of given)
+    (put_so_far text false (sections_loaded (loader c.self.inside.reader c.self.inside.target))) loads.stands settled in
     not_err c.feed.result c.in_default.field-0 c.in_default.is ok

@@ -14,13 +14,15 @@ pub records-preserved : goal.records-preserved
 records-preserved g c =
     let bytes : List ℕ = c.args.bytes.now in
     let at : ℕ = c.records.at in
-    records_more c.args.self.now c.records.self c.named_zero.new.self bytes (take (length bytes - at) (drop at bytes)) at c.in_ok-len.len c.records.invariant (tail_from bytes at) c.in_ok-len.ensures.ok
+    records_more c.args.self.now c.records.self c.named_zero.new.self bytes
+    (take (length bytes - at) (drop at bytes)) at c.in_ok-len.len c.records.invariant (tail_from bytes at) c.in_ok-len.ensures.ok
 
 pub returns-then-len-eq0-clause-ok : goal.returns-then-len-eq0-clause-ok
 returns-then-len-eq0-clause-ok g c =
     let bytes : List ℕ = c.args.bytes.now in
     let at : ℕ = c.records.at in
-    records_same c.args.self.now c.records.self c.named_zero.new.self bytes (take (length bytes - at) (drop at bytes)) at c.in_ok-len.len c.records.invariant (tail_from bytes at) c.in_ok-len.ensures.ok c.if-len-eq0.true
+    records_same c.args.self.now c.records.self c.named_zero.new.self bytes
+    (take (length bytes - at) (drop at bytes)) at c.in_ok-len.len c.records.invariant (tail_from bytes at) c.in_ok-len.ensures.ok c.if-len-eq0.true
 
 pub records-init : goal.records-init
 records-init g c = records_none c.args.self.now c.args.bytes.now c.requires.due

@@ -24,7 +24,8 @@ items-preserved g c =
     let taken : HasTakenTo c.args.self.now (bytes_of c.args.text) (bytes_of c.split_at.result.1) c.take.new.self =
     goes_on c.args.self.now d c.take.new.self (bytes_of c.args.text) (bytes_of c.items.rest) (bytes_of c.split_at.result.0) (bytes_of c.split_at.result.1)
     parts.0 parts.1 c.in-Ok.ensures.0 c.in-Ok.ensures.1 c.items.invariant in
-    goes_on_to c.args.self.now c.take.new.self c.pass_zeros.new.self (bytes_of c.args.text) (bytes_of c.split_at.result.1) (bytes_of c.in_ok-rest-in-Ok.rest) taken
+    goes_on_to c.args.self.now c.take.new.self c.pass_zeros.new.self (bytes_of c.args.text) (bytes_of c.split_at.result.1)
+    (bytes_of c.in_ok-rest-in-Ok.rest) taken
     (pages_taken c.take.new.self c.pass_zeros.new.self (bytes_of c.split_at.result.1) (bytes_of c.in_ok-rest-in-Ok.rest) c.in_ok-rest-in-Ok.ensures.ok)
 
 pub items-smaller : goal.items-smaller
@@ -36,8 +37,10 @@ items-smaller g c =
     (c.items-test.ensures.open refl) (subst (λ (x : List ℕ). c.size-size.result ≡ size d.page_size d.due x) c.bytes-bytes.ensures c.size-size.ensures.size)
     (subst (λ (x : List ℕ). c.size-size.result ≤ length x) c.bytes-bytes.ensures c.if-bytes-size.false) c.split_at.ensures.front c.split_at.ensures.back in
     let some : 0 < d.page_size = page_size_some d.page_size c.size-size.ensures.page_size in
-    let taken : work (after_item d d.due item).due < 2 * length item + work d.due = work_falls d d.due item some (c.items-test.ensures.open refl) parts.0.is_whole in
-    let due : work c.pass_zeros.new.self.due ≡ work (after_item d d.due item).due = ap work c.in_ok-rest-in-Ok.ensures.due ∙ ap (λ (x : StreamProgress). work x.due) c.in-Ok.ensures.1 in
+    let taken : work (after_item d d.due item).due < 2 * length item + work d.due =
+    work_falls d d.due item some (c.items-test.ensures.open refl) parts.0.is_whole in
+    let due : work c.pass_zeros.new.self.due ≡ work (after_item d d.due item).due = ap work c.in_ok-rest-in-Ok.ensures.due
+    ∙ ap (λ (x : StreamProgress). work x.due) c.in-Ok.ensures.1 in
     let len : length (bytes_of c.items.rest) ≡ length item + length behind = ap (λ (x : List ℕ). length x) parts.1 ∙ length-append item behind in
     omega (arith, taken, due, len, c.in_ok-rest-in-Ok.ensures.len)
 
@@ -50,7 +53,8 @@ returns-in_err-rest-in-Ok-clause-err g c =
     let taken : HasTakenTo c.args.self.now (bytes_of c.args.text) (bytes_of c.split_at.result.1) c.take.new.self =
     goes_on c.args.self.now d c.take.new.self (bytes_of c.args.text) (bytes_of c.items.rest) (bytes_of c.split_at.result.0) (bytes_of c.split_at.result.1)
     parts.0 parts.1 c.in-Ok.ensures.0 c.in-Ok.ensures.1 c.items.invariant in
-    on_err c.from_residual.result _ (stops_within c.args.self.now c.take.new.self c.pass_zeros.new.self (bytes_of c.args.text) (bytes_of c.split_at.result.1) taken c.in_err-rest-in-Ok.ensures.err)
+    on_err c.from_residual.result _ (stops_within c.args.self.now c.take.new.self c.pass_zeros.new.self (bytes_of c.args.text)
+    (bytes_of c.split_at.result.1) taken c.in_err-rest-in-Ok.ensures.err)
 
 pub returns-then-pause-clause-taken : goal.returns-then-pause-clause-taken
 returns-then-pause-clause-taken g c =
@@ -72,5 +76,6 @@ returns-in-Err-Fault-clause-stands g c =
     let taken : TakesAs d d.due item c.take.new.self (Err (Fault c.in-Err-Fault.fault)) =
     subst (λ (x : Stop). TakesAs d d.due item c.take.new.self (Err x)) c.in-Err-Fault.field-0-is c.in-Err-Fault.ensures in
     let here : Ends d rest (Bad c.in-Err-Fault.fault) = (item, bytes_of c.split_at.result.1, parts.1, parts.0, taken.0) in
-    let there : Ends c.take.new.self rest (Bad c.in-Err-Fault.fault) = subst (λ (x : StreamProgress). Ends x rest (Bad c.in-Err-Fault.fault)) (sym taken.1) here in
+    let there : Ends c.take.new.self rest (Bad c.in-Err-Fault.fault) =
+    subst (λ (x : StreamProgress). Ends x rest (Bad c.in-Err-Fault.fault)) (sym taken.1) here in
     subst (λ (x : StreamFault). Ends c.take.new.self rest (Bad x)) (sym c.in-Err-Fault.fault-is) there

@@ -38,12 +38,15 @@ items-preserved g c =
     let all : length c.bytes-len.result.now ≡ length behind = ap (λ (l : List ℕ). length l) c.bytes-len.ensures in
     let left : length c.bytes.result.now ≡ length rest = ap (λ (l : List ℕ). length l) c.bytes.ensures in
     let fits : between.at + (length c.bytes-len.result.now - length c.bytes.result.now) < 2 ^ 64 = omega (arith, small, few, all, left) in
-    let same : between.at + (length c.bytes-len.result.now - length c.bytes.result.now) ≡ between.at + length behind - length rest = omega (arith, few, all, left) in
+    let same : between.at + (length c.bytes-len.result.now - length c.bytes.result.now) ≡ between.at
+    + length behind - length rest = omega (arith, few, all, left) in
     c.skip.ensures.at fits ∙ ap (λ (n : ℕ). record between { at = n }) same in
     let skipped : ReportsTo c.take_reporting.new.self behind rest c.pass_zeros.new.self between c.skip.new.self =
     reports_pages c.take_reporting.new.self c.pass_zeros.new.self behind rest between c.skip.new.self c.in_ok-rest-in-Ok.ensures.ok moved in (
-      reports_append c.args.self.now c.take_reporting.new.self c.pass_zeros.new.self (bytes_of c.args.text) behind rest c.args.report.now between c.skip.new.self taken skipped,
-      keeps_on c.args.report.now c.items.report c.skip.new.self c.items.invariant.1 (ap (λ (l : List ItemAt). take (length c.items.report.items) l) c.skip.ensures.items ∙ c.in-Ok.ensures.kept),
+      reports_append c.args.self.now c.take_reporting.new.self c.pass_zeros.new.self
+          (bytes_of c.args.text) behind rest c.args.report.now between c.skip.new.self taken skipped,
+      keeps_on c.args.report.now c.items.report c.skip.new.self c.items.invariant.1
+          (ap (λ (l : List ItemAt). take (length c.items.report.items) l) c.skip.ensures.items ∙ c.in-Ok.ensures.kept),
     )
 
 pub items-smaller : goal.items-smaller
@@ -55,8 +58,10 @@ items-smaller g c =
     (c.items-test.ensures.open refl) (subst (λ (x : List ℕ). c.size-size.result ≡ size d.page_size d.due x) c.bytes-bytes.ensures c.size-size.ensures.size)
     (subst (λ (x : List ℕ). c.size-size.result ≤ length x) c.bytes-bytes.ensures c.if-bytes-size.false) c.split_at.ensures.front c.split_at.ensures.back in
     let some : 0 < d.page_size = page_size_some d.page_size c.size-size.ensures.page_size in
-    let taken : work (after_item d d.due item).due < 2 * length item + work d.due = work_falls d d.due item some (c.items-test.ensures.open refl) parts.0.is_whole in
-    let due : work c.pass_zeros.new.self.due ≡ work (after_item d d.due item).due = ap work c.in_ok-rest-in-Ok.ensures.due ∙ ap (λ (x : StreamProgress). work x.due) c.in-Ok.ensures.takes.1 in
+    let taken : work (after_item d d.due item).due < 2 * length item + work d.due =
+    work_falls d d.due item some (c.items-test.ensures.open refl) parts.0.is_whole in
+    let due : work c.pass_zeros.new.self.due ≡ work (after_item d d.due item).due = ap work c.in_ok-rest-in-Ok.ensures.due
+    ∙ ap (λ (x : StreamProgress). work x.due) c.in-Ok.ensures.takes.1 in
     let len : length (bytes_of c.items.rest) ≡ length item + length behind = ap (λ (x : List ℕ). length x) parts.1 ∙ length-append item behind in
     omega (arith, taken, due, len, c.in_ok-rest-in-Ok.ensures.len)
 
@@ -68,7 +73,8 @@ returns-then-pause-clause-reports g c =
     let parts = split_item d.page_size d.due (bytes_of c.items.rest) item behind c.size-size.result
     (c.items-test.ensures.open refl) (subst (λ (x : List ℕ). c.size-size.result ≡ size d.page_size d.due x) c.bytes-bytes.ensures c.size-size.ensures.size)
     (subst (λ (x : List ℕ). c.size-size.result ≤ length x) c.bytes-bytes.ensures c.if-bytes-size.false) c.split_at.ensures.front c.split_at.ensures.back in
-    reports_push c.args.self.now d c.take_reporting.new.self (bytes_of c.args.text) (bytes_of c.items.rest) item behind c.args.report.now c.items.report c.take_reporting.new.report
+    reports_push c.args.self.now d c.take_reporting.new.self (bytes_of c.args.text)
+    (bytes_of c.items.rest) item behind c.args.report.now c.items.report c.take_reporting.new.report
     parts.0 parts.1 c.in-Ok.ensures.takes.0 c.in-Ok.ensures.takes.1 c.in-Ok.ensures.ok c.items.invariant.0
 
 pub returns-in-Err-Fault-clause-stands : goal.returns-in-Err-Fault-clause-stands
@@ -82,7 +88,8 @@ returns-in-Err-Fault-clause-stands g c =
     let taken : TakesAs d d.due item c.take_reporting.new.self (Err (Fault c.in-Err-Fault.fault)) =
     subst (λ (x : Stop). TakesAs d d.due item c.take_reporting.new.self (Err x)) c.in-Err-Fault.field-0-is c.in-Err-Fault.ensures.takes in
     let here : Ends d (bytes_of c.items.rest) (Bad c.in-Err-Fault.fault) = (item, behind, parts.1, parts.0, taken.0) in
-    let there : Ends c.take_reporting.new.self (bytes_of c.items.rest) (Bad c.in-Err-Fault.fault) = subst (λ (x : StreamProgress). Ends x (bytes_of c.items.rest) (Bad c.in-Err-Fault.fault)) (sym taken.1) here in
+    let there : Ends c.take_reporting.new.self (bytes_of c.items.rest) (Bad c.in-Err-Fault.fault) =
+    subst (λ (x : StreamProgress). Ends x (bytes_of c.items.rest) (Bad c.in-Err-Fault.fault)) (sym taken.1) here in
     subst (λ (x : StreamFault). Ends c.take_reporting.new.self (bytes_of c.items.rest) (Bad x)) (sym c.in-Err-Fault.fault-is) there
 
 pub returns-then-pause-clause-kept : goal.returns-then-pause-clause-kept

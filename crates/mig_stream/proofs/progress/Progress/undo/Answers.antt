@@ -34,17 +34,23 @@ returns g c = λ p is later.
     elim c.match-remove.branch [
       | in-Some w ↦
           let lt : c.args.checkpoint.rounds < length c.self.inside.rounds.items = omega (arith, w.in-Some.ensures.variant.0 refl, len) in
-          let both = open_round p now c.args.checkpoint.rounds c.args.checkpoint.records w.in-Some.records w.truncate.new.self.items n_is m_is here.has_grown lt w.in-Some.ensures.value
+          let both = open_round p now c.args.checkpoint.rounds c.args.checkpoint.records w.in-Some.records
+          w.truncate.new.self.items n_is m_is here.has_grown lt w.in-Some.ensures.value
           (w.truncate.ensures.items ∙ ap (take c.args.checkpoint.rounds) w.in-Some.ensures.items) in
-          rw w.self-inside-is (is_back p now _ c.args.checkpoint is here refl refl (ap (λ (e : Listed). e.page_size) c.go_back.ensures) (ap (λ (e : Listed). e.limit) c.go_back.ensures) refl refl refl refl refl
-          (ap (λ (e : Listed). e.left) c.go_back.ensures) refl refl (ap (λ (e : Listed). e.blocks) c.go_back.ensures) (c.truncate-2.ensures ∙ ap (λ x. take c.args.checkpoint.records x.records) w.self-inside-is ∙ ap (take c.args.checkpoint.records) w.replace-others.ensures.after ∙ both.0) both.1)
+          rw w.self-inside-is (is_back p now _ c.args.checkpoint is here refl refl
+          (ap (λ (e : Listed). e.page_size) c.go_back.ensures) (ap (λ (e : Listed). e.limit) c.go_back.ensures) refl refl refl refl refl
+          (ap (λ (e : Listed). e.left) c.go_back.ensures) refl refl (ap (λ (e : Listed). e.blocks) c.go_back.ensures)
+          (c.truncate-2.ensures ∙ ap (λ x. take c.args.checkpoint.records x.records) w.self-inside-is
+          ∙ ap (take c.args.checkpoint.records) w.replace-others.ensures.after ∙ both.0) both.1)
       | in_default w ↦
           let le : length c.self.inside.rounds.items ≤ c.args.checkpoint.rounds = elim (cases_lt c.args.checkpoint.rounds (length c.self.inside.rounds.items)) [
             | inl lt ↦ absurd (let clash : false ≡ true = w.in_default.ensures.variant.1 (omega (arith, lt, len)) in cc)
             | inr le ↦ le
           ] in
           let both = same_round p now c.args.checkpoint.rounds c.args.checkpoint.records n_is m_is here.has_grown le in
-          rw w.self-inside-is (is_back p now _ c.args.checkpoint is here refl refl (ap (λ (e : Listed). e.page_size) c.go_back.ensures) (ap (λ (e : Listed). e.limit) c.go_back.ensures) refl refl refl refl refl
-          (ap (λ (e : Listed). e.left) c.go_back.ensures) refl refl (ap (λ (e : Listed). e.blocks) c.go_back.ensures) (c.truncate-2.ensures ∙ ap (λ x. take c.args.checkpoint.records x.records) w.self-inside-is ∙ both.0)
+          rw w.self-inside-is (is_back p now _ c.args.checkpoint is here refl refl
+          (ap (λ (e : Listed). e.page_size) c.go_back.ensures) (ap (λ (e : Listed). e.limit) c.go_back.ensures) refl refl refl refl refl
+          (ap (λ (e : Listed). e.left) c.go_back.ensures) refl refl (ap (λ (e : Listed). e.blocks) c.go_back.ensures)
+          (c.truncate-2.ensures ∙ ap (λ x. take c.args.checkpoint.records x.records) w.self-inside-is ∙ both.0)
           (ap (λ q. q.items) w.in_default.ensures.unchanged ∙ both.1))
     ]

@@ -5,9 +5,11 @@ use Rattle.mig_stream.proofs.reader.StreamReader.feed.Goals as goal
 
 pub returns-clause-stands : goal.returns-clause-stands
 returns-clause-stands g c =
-    subst (λ (x : Reader). StepsOn (with_piece c.args.piece.now) c.args.self.now (record x { valid_up_to = c.saturating_sub-self-inside.result; fed = x.fed + length c.args.piece.now })) (sym c.self-2.view_is)
+    subst (λ (x : Reader). StepsOn (with_piece c.args.piece.now) c.args.self.now
+    (record x { valid_up_to = c.saturating_sub-self-inside.result; fed = x.fed + length c.args.piece.now })) (sym c.self-2.view_is)
     (fed_on c.args.self.now c.read_on.new.self c.args.piece.now c.in_ok-left.left c.saturating_sub-self-inside.result
-    (c.saturating_sub-self-inside.ensures ∙ ap (λ (x : Reader). x.fed + length c.args.piece.now - c.in_ok-left.left) c.self-2.view_is) (c.if-not-is_reading.ensures.reading refl)
+    (c.saturating_sub-self-inside.ensures ∙ ap
+    (λ (x : Reader). x.fed + length c.args.piece.now - c.in_ok-left.left) c.self-2.view_is) (c.if-not-is_reading.ensures.reading refl)
     c.in_ok-left.ensures.ok c.in_ok-left.ensures.same.0 c.in_ok-left.ensures.same.1)
 
 pub returns-then-not-is_reading-clause-stands : goal.returns-then-not-is_reading-clause-stands

@@ -18,7 +18,8 @@ undo-requires g c = record {
 pub invariant_of-self-in-Err : goal.invariant_of-self-in-Err
 invariant_of-self-in-Err g c =
     let back : c.undo.new.self ≡ c.self.inside.progress =
-    c.undo.ensures c.self.inside.progress c.checkpoint-checkpoint.ensures.value (IsLater-front c.self.inside.progress c.read.new.progress c.in-Err.ensures.err.front c.in-Err.ensures.err.leads) in
+    c.undo.ensures c.self.inside.progress c.checkpoint-checkpoint.ensures.value
+    (IsLater-front c.self.inside.progress c.read.new.progress c.in-Err.ensures.err.front c.in-Err.ensures.err.leads) in
     let kept : c.truncate.new.self.items ≡ c.self.inside.pending.items =
     let len : c.len-len.result ≡ length c.self.inside.pending.items = search rules in
     c.truncate.ensures.items ∙ ap (λ (n : ℕ). take n c.read.new.pending.items) len ∙ c.in-Err.ensures.kept in
@@ -27,7 +28,8 @@ invariant_of-self-in-Err g c =
 pub returns-in-Err-clause-err : goal.returns-in-Err-clause-err
 returns-in-Err-clause-err g c =
     let back : c.undo.new.self ≡ c.self.inside.progress =
-    c.undo.ensures c.self.inside.progress c.checkpoint-checkpoint.ensures.value (IsLater-front c.self.inside.progress c.read.new.progress c.in-Err.ensures.err.front c.in-Err.ensures.err.leads) in
+    c.undo.ensures c.self.inside.progress c.checkpoint-checkpoint.ensures.value
+    (IsLater-front c.self.inside.progress c.read.new.progress c.in-Err.ensures.err.front c.in-Err.ensures.err.leads) in
     let kept : c.truncate.new.self.items ≡ c.self.inside.pending.items =
     let len : c.len-len.result ≡ length c.self.inside.pending.items = search rules in
     c.truncate.ensures.items ∙ ap (λ (n : ℕ). take n c.read.new.pending.items) len ∙ c.in-Err.ensures.kept in

@@ -14,7 +14,8 @@ returns-clause-round g c =
 
 pub returns-clause-places : goal.returns-clause-places
 returns-clause-places g c =
-    places_each c.take_round.result c.args.self.now c.self.inside.progress c.take_round.new.self (ap (λ (x : Reader). x.progress) (sym c.self.view_is)) c.take_round.ensures.some
+    places_each c.take_round.result c.args.self.now c.self.inside.progress c.take_round.new.self
+    (ap (λ (x : Reader). x.progress) (sym c.self.view_is)) c.take_round.ensures.some
 
 pub returns-clause-stands : goal.returns-clause-stands
 returns-clause-stands g c =

@@ -10,4 +10,5 @@ content_at-requires-clause-there g c =
 
 pub returns : goal.returns
 returns g c =
-    c.content_at.ensures ∙ ap (λ l. (record_at (records_after [] l) c.args.i).content) c.deref.ensures.value ∙ ap (λ l. (record_at l c.args.i).content) c.self.view_is
+    c.content_at.ensures ∙ ap (λ l. (record_at (records_after [] l) c.args.i).content) c.deref.ensures.value
+    ∙ ap (λ l. (record_at l c.args.i).content) c.self.view_is

@@ -11,5 +11,7 @@ index-requires g c =
 
 pub returns : goal.returns
 returns g c =
-    let lt : c.args.i < length c.self.inside.items.items = omega (arith, c.requires, ap (λ l. length l) c.self.view_is, records_length [] c.self.inside.items.items) in
-    c.place.ensures ∙ sym (place_there c.self.inside.items.items c.args.i _ c.index.result.now lt c.index.ensures) ∙ ap (λ l. (record_at l c.args.i).place) c.self.view_is
+    let lt : c.args.i < length c.self.inside.items.items =
+    omega (arith, c.requires, ap (λ l. length l) c.self.view_is, records_length [] c.self.inside.items.items) in
+    c.place.ensures ∙ sym (place_there c.self.inside.items.items c.args.i _ c.index.result.now lt c.index.ensures)
+    ∙ ap (λ l. (record_at l c.args.i).place) c.self.view_is

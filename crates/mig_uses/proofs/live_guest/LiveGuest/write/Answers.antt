@@ -10,7 +10,8 @@ returns-clause-tracked g c =
     let old = c.args.self.now in
     let size : c.page_size-2.result ≡ old.memory.table.page_size = c.page_size-2.ensures ∙ ap (λ (t : RamTable). t.page_size) c.table-table.ensures.value in
     let here : IsPlace old.dirty.table (place_at c.args.block (c.args.offset / c.page_size-2.result)) =
-    subst (λ (t : RamTable). IsPlace t (place_at c.args.block (c.args.offset / c.page_size-2.result))) c.table.ensures.value (c.holds.ensures.0 c.if-not-holds.false) in
+    subst (λ (t : RamTable). IsPlace t (place_at c.args.block (c.args.offset / c.page_size-2.result))) c.table.ensures.value
+    (c.holds.ensures.0 c.if-not-holds.false) in
     write_tracked old record { memory = c.set.new.self; dirty = c.mark.new.self; sender = old.sender } c.args.block c.args.offset c.args.byte
     (record {
       memory = c.set.ensures;

@@ -1,5 +1,0 @@
-use Rattle.mig_answer.proofs.Hellos.{HaveSeen}
-use Rattle.mig_answer.proofs.told.repeated_id.Given as goal
-
-abbrev pub invariant-loop-j : goal.invariant-loop-j
-invariant-loop-j l = HaveSeen l.j l.hellos l.seen
