@@ -22,7 +22,8 @@ use std::alloc::Allocator;
 /// of that memory, as `Target::fits` tests.
 pub fn put_records<M: GuestTarget, B: Allocator>(memory: &mut M, round: &StreamRound<B>)
     requires { FitsTable (M.image memory.old).table round.now }
-    ensures { M.image memory.new ≡ with_round (M.image memory.old) (pages_of_round round.now) }
+    ensures image { M.image memory.new ≡ with_round (M.image memory.old) (pages_of_round round.now) }
+    ensures kept { M.kept memory.new ≡ M.kept memory.old }
 {
     // shows that each content of the memory has the page size (`IsImage`)
     let _table = memory.table();
@@ -37,7 +38,8 @@ pub fn put_records<M: GuestTarget, B: Allocator>(memory: &mut M, round: &StreamR
 fn put_record<M: GuestTarget>(memory: &mut M, place: Place, content: Option<&[u8]>)
     requires place { IsPlace (M.image memory.old).table place }
     requires size { IfSome content (λ bytes. length bytes.now ≡ (M.image memory.old).table.page_size) }
-    ensures { M.image memory.new ≡ with_page (M.image memory.old) place (unwrap_or (option_copied content.entry) (zero_page (M.image memory.old).table.page_size)) }
+    ensures kept { M.kept memory.new ≡ M.kept memory.old }
+    ensures image { M.image memory.new ≡ with_page (M.image memory.old) place (unwrap_or (option_copied content.entry) (zero_page (M.image memory.old).table.page_size)) }
 {
     match content {
         Some(bytes) => memory.put_page(place, bytes),

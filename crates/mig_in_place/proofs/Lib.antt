@@ -35,6 +35,7 @@ pub mod Turning
 pub mod ChannelEnds
 pub mod Ended
 pub mod Over
+pub mod WholeRounds
 pub mod AllIn
 pub mod DoneStays
 pub mod Sendings

@@ -4,6 +4,7 @@ pub mod Named
 pub mod Answer
 pub mod Missing
 pub mod Session
+pub mod WholeRounds
 pub mod Law
 -- A packet that is taken at once, whose pages others read to their places
 pub mod TakenPackets

@@ -1,6 +1,6 @@
 -- The state of an `InPlaceSession`, the streams and the memory that it represents, and the bytes
 -- that it takes. The memory is passed to each call.
-use Rattle.std.specs.Prelude.{ℕ, ◌≡◌, ◌≢◌, ◌<◌, ◌≤◌, ◌^◌, false, List, [], length, map, zip, get_or, All, IsTrue, IsFalse, IfSome, slice_get, take, ⊤, ◌⊎◌, Option, Some, None, if◌then◌else◌}
+use Rattle.std.specs.Prelude.{ℕ, ◌≡◌, ◌≢◌, ◌+◌, ◌<◌, ◌≤◌, ◌^◌, false, List, [], length, map, zip, get_or, All, IsTrue, IsFalse, IfSome, slice_get, take, ⊤, ◌⊎◌, Option, Some, None, if◌then◌else◌}
 use Rattle.std.specs.List.{AllZip}
 use Rattle.mig_mem.specs.PageSize.{IsPageSize}
 use Rattle.mig_mem.specs.RamTable.{RamTable, IsTable}
@@ -207,6 +207,24 @@ TellsVerdict told f k = (readings : Readings) → AreReadings (for_table f.first
 -- the round passes
 abbrev pub PassesAt : Loading → ℕ → Type 0
 PassesAt f k = (readings : Readings) → AreReadings (for_table f.first.table f.given) f.uuid f.texts readings → IsTrue (passes k readings)
+
+-- A load whose current round all sources have, and which is lawful. The load hasn't gone on to the
+-- next round yet.
+pub record IsJudged (f : Loading) (memory : Image) (s : InPlaceLoad) : Type 0 where
+  pub loads : Loads f memory s
+  pub is_due : IsDue f s.rounds
+  pub passes : PassesAt f s.rounds
+
+-- it runs, and has room for the round's packets and for one round more
+pub record HasNextRound (s : InPlaceLoad) : Type 0 where
+  pub runs : s.verdict ≡ Running
+  pub room : s.base + length s.round.arrivals.numbers ≤ 2 ^ 63
+  pub few : s.rounds < 2 ^ 63
+
+-- A call takes this step, and the current round was judged lawful with it.
+abbrev pub JudgesOn : (Texts → Texts) → Image → InPlaceLoad → Image → InPlaceLoad → Type 0
+JudgesOn step before old after new = (given : LoadSettings) (uuid : List ℕ) (first : Image) (texts : Texts)
+    → StandsFor given uuid first texts before old → IsJudged (record { given = given; uuid = uuid; first = first; texts = step texts }) after new
 
 -- with more bytes of a source
 abbrev pub with_bytes : Source → List ℕ → Loading → Loading

@@ -115,6 +115,7 @@ impl<A: Allocator> Channel<A> {
         ensures channel { IsChannelOf (M.image memory.old).table self.new }
         ensures round { KeepsSome (M.image memory.old).table round.new }
         ensures misplaced { IsTrue round.old.has_misplaced → IsTrue round.new.has_misplaced }
+        ensures kept { M.kept memory.new ≡ M.kept memory.old }
         ensures table { (M.image memory.new).table ≡ (M.image memory.old).table }
     {
         if !self.takes(list) {
@@ -166,6 +167,7 @@ impl<A: Allocator> Channel<A> {
         ensures reader { (self.new.reader ≡ self.old.reader) × (self.new.is_whole ≡ self.old.is_whole) }
         ensures round { KeepsSome (M.image memory.old).table round.old → KeepsSome (M.image memory.old).table round.new }
         ensures misplaced { IsTrue round.old.has_misplaced → IsTrue round.new.has_misplaced }
+        ensures kept { M.kept memory.new ≡ M.kept memory.old }
         ensures table { (M.image memory.new).table ≡ (M.image memory.old).table }
     {
         let Some(head) = self.reader.head() else {
@@ -203,6 +205,7 @@ impl<A: Allocator> Channel<A> {
         ensures same { IsTrue round.now.has_misplaced → M.image memory.new ≡ M.image memory.old }
         ensures none { IfNone self.now.block (M.image memory.new ≡ M.image memory.old) }
         ensures adds { AddsPage offset (content_of content.entry self.now.reader) self.now.block round.now (M.image memory.old) (M.image memory.new) }
+        ensures kept { M.kept memory.new ≡ M.kept memory.old }
         ensures table { (M.image memory.new).table ≡ (M.image memory.old).table }
     {
         if round.has_misplaced() {

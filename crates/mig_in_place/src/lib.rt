@@ -25,6 +25,7 @@ mod put;
 mod round;
 mod session;
 mod source_reader;
+mod whole_rounds;
 
 pub use laws::{
     in_place_done_is_exact, in_place_done_stays, in_place_tells_alike,

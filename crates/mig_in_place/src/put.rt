@@ -12,7 +12,8 @@ use mig_packet::PacketHead;
 pub(crate) fn put_zeros<M: GuestTarget>(memory: &mut M, block: usize, head: &PacketHead<'_>)
     requires page_size { head.now.page_size ≡ (M.image memory.old).table.page_size }
     requires lies { LiesIn (M.image memory.old).table block head.now.bytes.now }
-    ensures { M.image memory.new ≡ with_round (M.image memory.old) (zero_pages (M.image memory.old).table block (fields_of head.now.page_size head.now.bytes.now)) }
+    ensures kept { M.kept memory.new ≡ M.kept memory.old }
+    ensures image { M.image memory.new ≡ with_round (M.image memory.old) (zero_pages (M.image memory.old).table block (fields_of head.now.page_size head.now.bytes.now)) }
 {
     let page_size = memory.table().page_size();
     let normal_count = head.normal_len();

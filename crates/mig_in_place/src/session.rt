@@ -31,7 +31,7 @@ ghost use Rattle.mig_in_place.specs.Apart.{TakesApart};
 ghost use Rattle.mig_assemble.specs.HeadPlaces.{LieIn};
 ghost use Rattle.mig_in_place.specs.Round.{KeepsSome};
 ghost use Rattle.mig_in_place.specs.Sources.{counts_of, main_count, channel_count, at_next_round, StandsAt, HoldsChannel, TellsChannelStatus, TellsHello, HasTakenRecords};
-ghost use Rattle.mig_in_place.specs.Session.{TakesBytes, StandsFor, LacksMemory, StepsOn, StillLacks, RunsOut, Tells, HasAllRounds, MoreMayCome, HaveTaken, Loading, Loads, Stands, IsDue, TellsVerdict, PassesAt, IsUnsettled, Lacks, LacksBehind, with_bytes, with_over, TakesNoMore, IsOpenAt, IsMainOf};
+ghost use Rattle.mig_in_place.specs.Session.{TakesBytes, StandsFor, LacksMemory, StepsOn, StillLacks, RunsOut, Tells, HasAllRounds, MoreMayCome, HaveTaken, Loading, Loads, Stands, IsDue, TellsVerdict, PassesAt, IsUnsettled, Lacks, LacksBehind, with_bytes, with_over, TakesNoMore, IsOpenAt, IsMainOf, IsJudged, HasNextRound, JudgesOn};
 
 use crate::channel::Channel;
 use crate::main_stream::{MainStream, is_clean, is_pending};
@@ -187,6 +187,7 @@ fn take_main_round<A: Allocator, M: GuestTarget>(
         → HasTakenRecords given k text main.old round.old (M.image memory.old) main.new round.new (M.image memory.new) }
     ensures main { IsMainOf (M.image memory.old).table main.new }
     ensures round { KeepsSome (M.image memory.old).table round.new }
+    ensures kept { M.kept memory.new ≡ M.kept memory.old }
     ensures table { (M.image memory.new).table ≡ (M.image memory.old).table }
     ensures count { main_count main.new ≡ main_count main.old }
 {
@@ -301,6 +302,7 @@ impl<A: Allocator + Copy> InPlaceSession<A> {
         ensures settled { self.old.verdict ≢ running → result ≢ Err in_place_fault.OtherTable
             → (result ≡ Ok 0) × (self.new ≡ self.old) × (M.image memory.new ≡ M.image memory.old) }
         ensures counts { IfOk result (λ n. counts_of self.new.sources ≡ with_fed (counts_of self.old.sources) source n) }
+        ensures kept { M.kept memory.new ≡ M.kept memory.old }
         ensures table { (self.new.table ≡ self.old.table) × ((M.image memory.new).table ≡ (M.image memory.old).table) }
         ensures rounds { self.old.rounds ≤ self.new.rounds }
     {
@@ -314,6 +316,77 @@ impl<A: Allocator + Copy> InPlaceSession<A> {
                 Err(InPlaceFault::NoMemory)
             }
         }
+    }
+
+    /// Takes the first bytes of `piece`, the next of `source`, as `feed` does, but none of a round
+    /// after the current one. Returns how many it took, and whether all sources have the current
+    /// round now, and it is lawful. Then the memory has the round. Call `next_round` next: between
+    /// the two the caller may keep the round, as one does that passes on whole rounds alone.
+    ///
+    /// # Errors
+    ///
+    /// `NoMemory`, as of `feed`.
+    pub fn feed_round<M: GuestTarget>(
+        &mut self,
+        memory: &mut M,
+        source: Source,
+        piece: &[u8],
+    ) -> Result<(usize, bool), NoMemory>
+        requires source { HasSource (counts_of self.old.sources) source }
+        requires open { IsFalse (count_of (counts_of self.old.sources) source).ended }
+        requires room { (count_of (counts_of self.old.sources) source).fed + length piece.now < 2 ^ 64 }
+        requires table { (M.image memory.old).table ≡ self.old.table }
+        ensures taken { IfOk result (λ found. found.0 ≤ length piece.now) }
+        ensures ok { IfOk result (λ found. IsFalse found.1 → StepsOn (feed_step source (take found.0 piece.now)) (M.image memory.old) self.old (M.image memory.new) self.new) }
+        ensures judged { IfOk result (λ found. IsTrue found.1 → JudgesOn (feed_step source (take found.0 piece.now)) (M.image memory.old) self.old (M.image memory.new) self.new) }
+        ensures next { IfOk result (λ found. IsTrue found.1 → HasNextRound self.new) }
+        ensures failed { OnErr result (RunsOut source piece.now (M.image memory.old) self.old (M.image memory.new) self.new) }
+        ensures settled { self.old.verdict ≢ running → (result ≡ Ok (0, false)) × (self.new ≡ self.old) × (M.image memory.new ≡ M.image memory.old) }
+        ensures counts { IfOk result (λ found. counts_of self.new.sources ≡ with_fed (counts_of self.old.sources) source found.0) }
+        ensures kept { M.kept memory.new ≡ M.kept memory.old }
+        ensures table { (self.new.table ≡ self.old.table) × ((M.image memory.new).table ≡ (M.image memory.old).table) }
+        ensures rounds { self.new.rounds ≡ self.old.rounds }
+    {
+        if !self.is_taking(source) {
+            return Ok((0, false));
+        }
+        match self.read_round(memory, source, piece) {
+            Ok(found) => Ok(found),
+            Err(NoMemory) => {
+                self.verdict = failed(self.rounds, Origin::Round, Fault::NoMemory);
+                Err(NoMemory)
+            }
+        }
+    }
+
+    // Takes bytes of a source for the current round, and judges the bytes so far.
+    fn read_round<M: GuestTarget>(
+        &mut self,
+        memory: &mut M,
+        source: Source,
+        piece: &[u8],
+    ) -> Result<(usize, bool), NoMemory>
+        requires source { HasSource (counts_of self.old.sources) source }
+        requires open { IsFalse (count_of (counts_of self.old.sources) source).ended }
+        requires room { (count_of (counts_of self.old.sources) source).fed + length piece.now < 2 ^ 64 }
+        requires table { (M.image memory.old).table ≡ self.old.table }
+        requires runs { self.old.verdict ≡ running }
+        requires here { IsOpenAt source self.old.sources }
+        ensures taken { IfOk result (λ found. found.0 ≤ length piece.now) }
+        ensures stands { IfOk result (λ found. IsFalse found.1 → (f : Loading) → Loads f (M.image memory.old) self.old
+            → Stands (with_bytes source (take found.0 piece.now) f) (M.image memory.new) self.new) }
+        ensures judged { IfOk result (λ found. IsTrue found.1 → (f : Loading) → Loads f (M.image memory.old) self.old
+            → IsJudged (with_bytes source (take found.0 piece.now) f) (M.image memory.new) self.new) }
+        ensures next { IfOk result (λ found. IsTrue found.1 → HasNextRound self.new) }
+        ensures lacks { OnErr result (LacksBehind source piece.now (λ f. Loads f (M.image memory.old) self.old) self.old (M.image memory.new) self.new) }
+        ensures counts { IfOk result (λ found. counts_of self.new.sources ≡ with_fed (counts_of self.old.sources) source found.0) }
+        ensures kept { M.kept memory.new ≡ M.kept memory.old }
+        ensures table { (self.new.table ≡ self.old.table) × ((M.image memory.new).table ≡ (M.image memory.old).table) }
+        ensures rounds { self.new.rounds ≡ self.old.rounds }
+    {
+        let count = self.read(memory, source, piece)?;
+        let judged = self.judge_round()?;
+        Ok((count, judged))
     }
 
     // Takes bytes of a source, round after round, as long as some are taken.
@@ -335,6 +408,7 @@ impl<A: Allocator + Copy> InPlaceSession<A> {
             ⊎ Tells (M.image memory.new) self.new (λ given uuid first texts. TakesBytes (for_table first.table given) uuid self.new.rounds texts source → ⊥)) }
         ensures settled { self.old.verdict ≢ running → (result ≡ Ok 0) × (self.new ≡ self.old) × (M.image memory.new ≡ M.image memory.old) }
         ensures counts { IfOk result (λ n. counts_of self.new.sources ≡ with_fed (counts_of self.old.sources) source n) }
+        ensures kept { M.kept memory.new ≡ M.kept memory.old }
         ensures table { (self.new.table ≡ self.old.table) × ((M.image memory.new).table ≡ (M.image memory.old).table) }
         ensures rounds { self.old.rounds ≤ self.new.rounds }
     {
@@ -374,6 +448,7 @@ impl<A: Allocator + Copy> InPlaceSession<A> {
         ensures main { IfOk result (λ n. source ≡ main_source → n ≡ length piece.now) }
         ensures waits { IfOk result (λ n. n < length piece.now → TakesNoMore source self.new.sources) }
         ensures counts { IfOk result (λ n. counts_of self.new.sources ≡ with_fed (counts_of self.old.sources) source n) }
+        ensures kept { M.kept memory.new ≡ M.kept memory.old }
         ensures table { (self.new.table ≡ self.old.table) × ((M.image memory.new).table ≡ (M.image memory.old).table) }
         ensures rounds { self.new.rounds ≡ self.old.rounds }
     {
@@ -403,6 +478,7 @@ impl<A: Allocator + Copy> InPlaceSession<A> {
         ensures lacks { OnErr result (LacksBehind (source.Channel j) piece.now (λ f. Loads f (M.image memory.old) self.old) self.old (M.image memory.new) self.new) }
         ensures waits { IfOk result (λ n. n < length piece.now → TakesNoMore (source.Channel j) self.new.sources) }
         ensures counts { IfOk result (λ n. counts_of self.new.sources ≡ with_fed (counts_of self.old.sources) (source.Channel j) n) }
+        ensures kept { M.kept memory.new ≡ M.kept memory.old }
         ensures table { (self.new.table ≡ self.old.table) × ((M.image memory.new).table ≡ (M.image memory.old).table) }
         ensures others { (self.new.rounds ≡ self.old.rounds) × (self.new.verdict ≡ self.old.verdict) }
     {
@@ -492,6 +568,7 @@ impl<A: Allocator + Copy> InPlaceSession<A> {
         ensures read { OnOk result ((f : Loading) → Loads f (M.image memory.old) self.old → IsUnsettled (with_bytes source.Main piece.now f) (M.image memory.new) self.new) }
         ensures lacks { OnErr result ((self.new ≡ self.old) × (M.image memory.new ≡ M.image memory.old)) }
         ensures counts { OnOk result (counts_of self.new.sources ≡ with_fed (counts_of self.old.sources) source.Main (length piece.now)) }
+        ensures kept { M.kept memory.new ≡ M.kept memory.old }
         ensures table { (self.new.table ≡ self.old.table) × ((M.image memory.new).table ≡ (M.image memory.old).table) }
         ensures rounds { self.new.rounds ≡ self.old.rounds }
     {
@@ -506,6 +583,20 @@ impl<A: Allocator + Copy> InPlaceSession<A> {
 }
 
 impl<A: Allocator> InPlaceSession<A> {
+    // Judges the bytes so far. Returns whether all sources have the current round, and it is lawful.
+    fn judge_round(&mut self) -> Result<bool, NoMemory>
+        ensures stands { IfOk result (λ judged. IsFalse judged → (f : Loading) (memory : Image) → IsUnsettled f memory self.old → Stands f memory self.new) }
+        ensures judged { IfOk result (λ judged. IsTrue judged → (f : Loading) (memory : Image) → IsUnsettled f memory self.old → IsJudged f memory self.new) }
+        ensures next { IfOk result (λ judged. IsTrue judged → HasNextRound self.new) }
+        ensures lacks { OnErr result ((f : Loading) (memory : Image) → IsUnsettled f memory self.old → Lacks f memory self.new) }
+        ensures others { self.new ≡ record self.old { round = self.new.round; verdict = self.new.verdict } }
+    {
+        if self.verdict != Verdict::Running || self.tell() {
+            return Ok(false);
+        }
+        self.judge()
+    }
+
     // Judges the bytes so far.
     fn judge_so_far<M: GuestTarget>(&mut self, memory: &mut M) -> Result<(), NoMemory>
         requires { (M.image memory.old).table ≡ self.old.table }
@@ -513,17 +604,30 @@ impl<A: Allocator> InPlaceSession<A> {
         ensures lacks { OnErr result ((f : Loading) → IsUnsettled f (M.image memory.old) self.old → Lacks f (M.image memory.new) self.new) }
         ensures sources { self.new.rounds ≡ self.old.rounds → self.new.sources ≡ self.old.sources }
         ensures counts { counts_of self.new.sources ≡ counts_of self.old.sources }
+        ensures kept { M.kept memory.new ≡ M.kept memory.old }
         ensures table { (self.new.table ≡ self.old.table) × ((M.image memory.new).table ≡ (M.image memory.old).table) }
         ensures rounds { self.old.rounds ≤ self.new.rounds }
     {
-        if self.verdict != Verdict::Running || self.tell() {
-            return Ok(());
-        }
-        if self.judge()? {
-            self.advance(memory);
-            self.tell();
+        if self.judge_round()? {
+            self.next_round(memory);
         }
         Ok(())
+    }
+
+    /// Goes on to the next round, after `feed_round` returned that the current one is lawful, and
+    /// before any other call. It counts that round, and writes the main stream's records of the
+    /// next one if they have come.
+    pub fn next_round<M: GuestTarget>(&mut self, memory: &mut M)
+        requires table { (M.image memory.old).table ≡ self.old.table }
+        requires next { HasNextRound self.old }
+        ensures stands { (f : Loading) → IsJudged f (M.image memory.old) self.old → Stands f (M.image memory.new) self.new }
+        ensures counts { counts_of self.new.sources ≡ counts_of self.old.sources }
+        ensures kept { M.kept memory.new ≡ M.kept memory.old }
+        ensures table { (self.new.table ≡ self.old.table) × ((M.image memory.new).table ≡ (M.image memory.old).table) }
+        ensures rounds { self.new.rounds ≡ self.old.rounds + 1 }
+    {
+        self.advance(memory);
+        self.tell();
     }
 
     // Returns the verdict of the sources at the current round, or None if all have the round.
@@ -585,6 +689,7 @@ impl<A: Allocator> InPlaceSession<A> {
         requires rounds { self.old.rounds < 2 ^ 63 }
         ensures loads { (f : Loading) → Loads f (M.image memory.old) self.old → IsDue f self.old.rounds → PassesAt f self.old.rounds → Loads f (M.image memory.new) self.new }
         ensures counts { counts_of self.new.sources ≡ counts_of self.old.sources }
+        ensures kept { M.kept memory.new ≡ M.kept memory.old }
         ensures table { (self.new.table ≡ self.old.table) × ((M.image memory.new).table ≡ (M.image memory.old).table) }
         ensures rounds { self.new.rounds ≡ self.old.rounds + 1 }
         ensures runs { self.new.verdict ≡ running }

@@ -22,6 +22,7 @@ mod heap;
 mod pages_read;
 #[cfg(test)]
 mod rounds;
+mod staged;
 #[cfg(test)]
 mod threaded;
 #[cfg(test)]

@@ -1,7 +1,7 @@
 //! The traits by which senders read a guest's memory (`GuestPages`) and loads write one
 //! (`GuestTarget`). Callers may implement both.
 
-ghost use Rattle.std.specs.Prelude.{◌≡◌, ◌↔◌, ◌<◌, All, map, length, IfSome, IsSome};
+ghost use Rattle.std.specs.Prelude.{◌≡◌, ◌↔◌, ◌<◌, All, map, length, IfSome, IsSome, Option, None};
 ghost use Rattle.std.specs.Option.{option_copied};
 ghost use Rattle.std.specs.Thread.{IsSync};
 ghost use Rattle.mig_mem.specs.Image.{Image, IsImage, content, zero_page, with_page};
@@ -59,6 +59,10 @@ pub trait GuestTarget {
     /// The image that it holds.
     ghost image: { Self → Image };
 
+    /// What no write changes. Of a target that keeps the pages of a round apart until the round was
+    /// judged, it is the memory without them. Others leave it out.
+    ghost kept: { Self → Option Image } = { λ _. None };
+
     /// Returns the table of the memory. The contract also says that a memory has one content of the
     /// page size for each place of it.
     fn table(&self) -> &Table<Self::Alloc>
@@ -69,14 +73,16 @@ pub trait GuestTarget {
     fn put_page(&mut self, place: Place, bytes: &[u8])
         requires place { IsPlace (image self.old).table place }
         requires bytes { length bytes.now ≡ (image self.old).table.page_size }
-        ensures { image self.new ≡ with_page (image self.old) place bytes.now };
+        ensures image { image self.new ≡ with_page (image self.old) place bytes.now }
+        ensures kept { kept self.new ≡ kept self.old };
 
     /// Sets a page to zeros. Lent bytes that are zeros aren't written, and neither is a page of a
     /// `Memory` that was never written. So such a page takes no memory from the system. The
     /// contract doesn't say so.
     fn put_zero_page(&mut self, place: Place)
         requires { IsPlace (image self.old).table place }
-        ensures { image self.new ≡ with_page (image self.old) place (zero_page (image self.old).table.page_size) };
+        ensures image { image self.new ≡ with_page (image self.old) place (zero_page (image self.old).table.page_size) }
+        ensures kept { kept self.new ≡ kept self.old };
 }
 
 impl<A: Allocator> GuestTarget for Memory<A> {

@@ -32,7 +32,7 @@ loop-i-preserved g c =
     (place_at c.args.block (c.offset.result / c.page_size-page_size.result)) c.page.result.now c.loop-i.invariant (omega arith)
     (place_is table c.args.block packet.bytes.now c.loop-i.i c.offset.result c.page_size-page_size.result c.offset.ensures
     (c.page_size-page_size.ensures ∙ ap (λ (t : RamTable). t.page_size) c.table.ensures.value))
-    c.page.ensures.content c.put_page.ensures
+    c.page.ensures.content c.put_page.ensures.image
 
 pub returns : goal.returns
 returns g c =

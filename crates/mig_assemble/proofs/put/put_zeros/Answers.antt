@@ -32,7 +32,7 @@ loop-i-preserved g c =
     (place_at c.args.block (c.offset.result / c.page_size-page_size.result)) (zero_page table.page_size) c.loop-i.invariant refl
     (place_is table c.args.block bytes i c.offset.result c.page_size-page_size.result c.offset.ensures
     (c.page_size-page_size.ensures ∙ ap (λ (t : RamTable). t.page_size) c.table.ensures.value))
-    refl (rw (← ap (λ (m : Image). m.table.page_size) c.loop-i.invariant) c.put_zero_page.ensures)
+    refl (rw (← ap (λ (m : Image). m.table.page_size) c.loop-i.invariant) c.put_zero_page.ensures.image)
 
 pub returns : goal.returns
 returns g c =

@@ -23,7 +23,7 @@ returns-then-not-has_misplaced-clause-taken g c = λ given k text stands.
     c.records-in-Some.new.self (g.M.GuestTarget.image c.args.memory.now)
     (g.M.GuestTarget.image c.put_records.new.memory) c.in-Some.ensures.round c.in-Some.ensures.whole stands
     (c.in-Some.ensures.stands given k text stands) c.records-in-Some.ensures.keeps c.records-in-Some.ensures.misplaced
-    (λ _. c.put_records.ensures) (λ wrong. absurd cc))
+    (λ _. c.put_records.ensures.image) (λ wrong. absurd cc))
 
 pub returns-then-not-has_misplaced-clause-main : goal.returns-then-not-has_misplaced-clause-main
 returns-then-not-has_misplaced-clause-main g c =

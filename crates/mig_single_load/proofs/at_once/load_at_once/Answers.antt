@@ -63,7 +63,7 @@ pieces-preserved g c =
     let next = c.in_ok-gave-2.gave in
     let e = c.in_ok-gave-2.ensures in
     let step : Gave next old new = record { ok = e.ok; page_size = e.page_size; places = e.places; end = e.end; found = e.found; less = e.less } in
-    let put : c.put_records.new.memory ≡ with_round m (pages_of_round old.given) = c.put_records.ensures
+    let put : c.put_records.new.memory ≡ with_round m (pages_of_round old.given) = c.put_records.ensures.image
     ∙ ap (λ (x : RoundOfRecords). with_round m (pages_of_round x)) c.given.ensures in
     let names : PlaceSet = c.pieces.named in
     let more : c.name_records.new.named ≡ with_places names (places_of (pages_of_round old.given)) =

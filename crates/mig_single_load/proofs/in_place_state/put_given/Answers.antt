@@ -40,7 +40,7 @@ records-preserved g c =
     let new : Image = g.M.GuestTarget.image c.put_records.new.memory in
     let e = c.in_ok-gave.ensures in
     let step : Step next r s = record { ok = e.ok; page_size = e.page_size; places = e.places; end = e.end; none = e.none; less = e.less } in
-    let is : new ≡ with_round m (pages_of_round r.given) = c.put_records.ensures
+    let is : new ≡ with_round m (pages_of_round r.given) = c.put_records.ensures.image
     ∙ ap (λ (x : RoundOfRecords). with_round m (pages_of_round x)) c.given.ensures in
     let named : c.name_records.new.named ≡ with_places c.records.named (places_of (pages_of_round r.given)) =
     c.name_records.ensures.named ∙ ap (λ (x : RoundOfRecords). with_places c.records.named (places_of (pages_of_round x))) c.given-in-records.ensures in
@@ -101,7 +101,7 @@ returns-in_err-gave-clause-err g c =
     let n = c.records.sections in
     let m : Image = g.M.GuestTarget.image c.records.memory in
     let new : Image = g.M.GuestTarget.image c.put_records.new.memory in
-    let is : new ≡ with_round m (pages_of_round r.given) = c.put_records.ensures
+    let is : new ≡ with_round m (pages_of_round r.given) = c.put_records.ensures.image
     ∙ ap (λ (x : RoundOfRecords). with_round m (pages_of_round x)) c.given.ensures in
     let more : IsEnd gave → ⊥ = elim c.match-gave.branch [
       | in-Records w ↦ no_end_records gave w.in-Records.is

@@ -35,7 +35,7 @@ loop-i-preserved g c =
     let here = c.loop-i.invariant.writes.same_table in
     record {
       writes = writes_more b head first old new j p (zero_page old.table.page_size) (omega (arith, less))
-          (same ∙ ap (λ (t : RamTable). page_place t b head j) here) c.loop-i.invariant.writes c.put_zero_page.ensures;
+          (same ∙ ap (λ (t : RamTable). page_place t b head j) here) c.loop-i.invariant.writes c.put_zero_page.ensures.image;
       zeros = zeros_more b head old new c.loop-i.i p (zero_page old.table.page_size)
-          (subst (λ (t : RamTable). LiesIn t b head) (sym here) c.requires.lies) less same refl c.put_zero_page.ensures c.loop-i.invariant.zeros;
+          (subst (λ (t : RamTable). LiesIn t b head) (sym here) c.requires.lies) less same refl c.put_zero_page.ensures.image c.loop-i.invariant.zeros;
     }

@@ -14,8 +14,8 @@ invariant_of-self c =
     c.self.invariant is c.page_size-size.ensures c.index_mut.ensures.value
     (c.requires.bytes ∙ ap (λ (m : Image). m.table.page_size) (sym c.self.view_is)) c.write_page.ensures).0
 
-pub returns : goal.returns
-returns c =
+pub returns-clause-image : goal.returns-clause-image
+returns-clause-image c =
     let table = c.self.inside.table in
     let is : IsPlace table c.args.place = rw (sym (ap (λ (m : Image). m.table) c.self.view_is)) at c.requires.place in
     sym (block_written table c.self.inside.blocks.items c.args.place c.index_mut.result.now

@@ -17,8 +17,8 @@ invariant_of-self c =
     (c.clear_page.ensures ∙ ap (λ (n : ℕ). with_content c.page_size-size.result c.index_mut.result.now.now c.args.place.page
     (zero_page n)) c.page_size-size.ensures)).0
 
-pub returns : goal.returns
-returns c =
+pub returns-clause-image : goal.returns-clause-image
+returns-clause-image c =
     let table = c.self.inside.table in
     let is : IsPlace table c.args.place = rw (sym (ap (λ (m : Image). m.table) c.self.view_is)) at c.requires in
     sym (block_written table c.self.inside.blocks.items c.args.place c.index_mut.result.now

@@ -51,7 +51,7 @@ returns-in-In-clause-adds g c = λ _ head e.
     ∙ ap (λ (k : KeptChannel). k.reader.given.page_size) c.self.view_is ∙ c.requires.page_size in
     subst (λ (h : List ℕ). AddsHead h c.args.round.now m c.packet.new.self after) same
     (adds_head m.table bytes c.args.round.now c.packet.new.self m after refl c.in_ok-pages.ensures.keeps
-    (wrote_in m.table c.in-In.block c.in-Some.head.page_size bytes c.packet.new.self m after lie.1 size right c.put_zeros.ensures))
+    (wrote_in m.table c.in-In.block c.in-Some.head.page_size bytes c.packet.new.self m after lie.1 size right c.put_zeros.ensures.image))
 
 pub returns-in-Nowhere : goal.returns-in-Nowhere
 returns-in-Nowhere g c =
@@ -79,6 +79,7 @@ returns-in-Nowhere g c =
       reader = (refl, refl);
       round = also_some m.table (as_zeros bytes) c.args.round.now c.packet.new.self c.in_ok-pages.ensures.keeps;
       misplaced = c.packet.ensures.stays;
+      kept = refl;
       table = refl;
     }
 

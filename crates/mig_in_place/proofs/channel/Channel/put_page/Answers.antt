@@ -23,7 +23,7 @@ returns-in-Some-clause-adds g c =
     (λ b e right.
     let both : Some c.in-Some.block ≡ Some b = sym block ∙ e in
     let same : c.in-Some.block ≡ b = cc in
-    c.put_page.ensures
+    c.put_page.ensures.image
     ∙ ap (λ (l : List ℕ). with_page m (place_at c.in-Some.block (c.args.offset / c.page_size.result)) l) is_content
     ∙ ap (λ (n : ℕ). with_page m (place_at c.in-Some.block (c.args.offset / n)) content) size
     ∙ ap (λ (k : ℕ). with_page m (place_at k (c.args.offset / m.table.page_size)) content) same)

@@ -13,11 +13,11 @@ use Rattle.mig_in_place.proofs.Turns.{TakenSoFar, taken_none, taken_more, lacks_
 use Rattle.mig_in_place.proofs.session.InPlaceSession.take.Goals as goal
 
 pub rounds-init : goal.rounds-init
-rounds-init g c = taken_none c.args.source c.args.piece.now (g.M.GuestTarget.image c.args.memory.now) c.args.self.now
+rounds-init g c = (taken_none c.args.source c.args.piece.now (g.M.GuestTarget.image c.args.memory.now) c.args.self.now, refl)
 
 pub returns-then-not-is_taking-clause-steps : goal.returns-then-not-is_taking-clause-steps
 returns-then-not-is_taking-clause-steps g c =
-    λ given uuid first texts stands. c.rounds.invariant.steps (record { given = given; uuid = uuid; first = first; texts = texts }) stands
+    λ given uuid first texts stands. c.rounds.invariant.0.steps (record { given = given; uuid = uuid; first = first; texts = texts }) stands
 
 pub returns-then-not-is_taking-clause-waits : goal.returns-then-not-is_taking-clause-waits
 returns-then-not-is_taking-clause-waits g c = λ lt. elim (running_or_not c.rounds.self.verdict) [
@@ -38,7 +38,7 @@ returns-in_err-count-clause-lacks g c =
     let running : s.verdict ≡ Running = c.if-not-is_taking.ensures.runs refl in
     let lacks : LacksBehind c.args.source (drop n piece) (λ f. Loads f middle s) s turn c.read.new.self =
     subst (λ (x : List ℕ). LacksBehind c.args.source x (λ f. Loads f middle s) s turn c.read.new.self) all c.in_err-count.ensures.lacks in
-    any_err c.from_residual.result (lacks_read c.args.source piece n first middle turn c.args.self.now s c.read.new.self running lacks c.rounds.invariant)
+    any_err c.from_residual.result (lacks_read c.args.source piece n first middle turn c.args.self.now s c.read.new.self running lacks c.rounds.invariant.0)
 
 pub returns-in_err-judge_so_far-clause-lacks : goal.returns-in_err-judge_so_far-clause-lacks
 returns-in_err-judge_so_far-clause-lacks g c =
@@ -59,7 +59,7 @@ returns-in_err-judge_so_far-clause-lacks g c =
     any_err c.from_residual-in_err-judge_so_far.result
     (lacks_settle c.args.source piece n k first middle last c.args.self.now s c.read.new.self c.judge_so_far.new.self turn running le
     reads c.in_err-judge_so_far.ensures.lacks c.in_ok-count.ensures.counts
-    c.judge_so_far.ensures.counts c.rounds.invariant)
+    c.judge_so_far.ensures.counts c.rounds.invariant.0)
 
 pub returns-then-self-rounds-clause-steps : goal.returns-then-self-rounds-clause-steps
 returns-then-self-rounds-clause-steps g c = λ given uuid guest texts stands.
@@ -82,7 +82,7 @@ returns-then-self-rounds-clause-steps g c = λ given uuid guest texts stands.
     c.in_ok-judge_so_far.ensures.stands c.in_ok-count.ensures.counts c.judge_so_far.ensures.counts
     c.read.ensures.table.0 c.judge_so_far.ensures.table.0 c.read.ensures.table.1 c.judge_so_far.ensures.table.1
     c.read.ensures.rounds c.judge_so_far.ensures.rounds
-    (λ main. c.in_ok-count.ensures.main main ∙ ap (λ (x : List ℕ). length x) all) c.rounds.invariant in
+    (λ main. c.in_ok-count.ensures.main main ∙ ap (λ (x : List ℕ). length x) all) c.rounds.invariant.0 in
     next.steps (record { given = given; uuid = uuid; first = guest; texts = texts }) stands
 
 pub returns-then-self-rounds-clause-waits : goal.returns-then-self-rounds-clause-waits
@@ -106,7 +106,7 @@ returns-then-self-rounds-clause-waits g c = λ lt.
     c.in_ok-judge_so_far.ensures.stands c.in_ok-count.ensures.counts c.judge_so_far.ensures.counts
     c.read.ensures.table.0 c.judge_so_far.ensures.table.0 c.read.ensures.table.1 c.judge_so_far.ensures.table.1
     c.read.ensures.rounds c.judge_so_far.ensures.rounds
-    (λ main. c.in_ok-count.ensures.main main ∙ ap (λ (x : List ℕ). length x) all) c.rounds.invariant in
+    (λ main. c.in_ok-count.ensures.main main ∙ ap (λ (x : List ℕ). length x) all) c.rounds.invariant.0 in
     let zero_taken : k ≡ 0 = c.if-count-eq0.true in
     let rounds : c.judge_so_far.new.self.rounds ≡ c.read.new.self.rounds =
     sym (ap (λ (x : InPlaceLoad). x.rounds) c.self-in-rounds.view_is) ∙ c.if-self-rounds.true
@@ -145,7 +145,7 @@ returns-then-self-rounds-clause-counts g c =
     c.in_ok-judge_so_far.ensures.stands c.in_ok-count.ensures.counts c.judge_so_far.ensures.counts
     c.read.ensures.table.0 c.judge_so_far.ensures.table.0 c.read.ensures.table.1 c.judge_so_far.ensures.table.1
     c.read.ensures.rounds c.judge_so_far.ensures.rounds
-    (λ main. c.in_ok-count.ensures.main main ∙ ap (λ (x : List ℕ). length x) all) c.rounds.invariant in
+    (λ main. c.in_ok-count.ensures.main main ∙ ap (λ (x : List ℕ). length x) all) c.rounds.invariant.0 in
     next.has_counts
 
 pub returns-then-self-rounds-clause-main : goal.returns-then-self-rounds-clause-main
@@ -169,7 +169,7 @@ returns-then-self-rounds-clause-main g c =
     c.in_ok-judge_so_far.ensures.stands c.in_ok-count.ensures.counts c.judge_so_far.ensures.counts
     c.read.ensures.table.0 c.judge_so_far.ensures.table.0 c.read.ensures.table.1 c.judge_so_far.ensures.table.1
     c.read.ensures.rounds c.judge_so_far.ensures.rounds
-    (λ main. c.in_ok-count.ensures.main main ∙ ap (λ (x : List ℕ). length x) all) c.rounds.invariant in
+    (λ main. c.in_ok-count.ensures.main main ∙ ap (λ (x : List ℕ). length x) all) c.rounds.invariant.0 in
     next.takes_whole
 
 pub rounds-preserved : goal.rounds-preserved
@@ -193,15 +193,15 @@ rounds-preserved g c =
     c.in_ok-judge_so_far.ensures.stands c.in_ok-count.ensures.counts c.judge_so_far.ensures.counts
     c.read.ensures.table.0 c.judge_so_far.ensures.table.0 c.read.ensures.table.1 c.judge_so_far.ensures.table.1
     c.read.ensures.rounds c.judge_so_far.ensures.rounds
-    (λ main. c.in_ok-count.ensures.main main ∙ ap (λ (x : List ℕ). length x) all) c.rounds.invariant in
-    next
+    (λ main. c.in_ok-count.ensures.main main ∙ ap (λ (x : List ℕ). length x) all) c.rounds.invariant.0 in
+    (next, c.judge_so_far.ensures.kept ∙ c.read.ensures.kept ∙ c.rounds.invariant.1)
 
 pub returns-clause-steps : goal.returns-clause-steps
-returns-clause-steps g c = λ given uuid first texts stands. c.rounds.invariant.steps
+returns-clause-steps g c = λ given uuid first texts stands. c.rounds.invariant.0.steps
     (record { given = given; uuid = uuid; first = first; texts = texts }) stands
 
 pub returns-then-not-is_taking-clause-main : goal.returns-then-not-is_taking-clause-main
-returns-then-not-is_taking-clause-main g c = c.rounds.invariant.takes_whole
+returns-then-not-is_taking-clause-main g c = c.rounds.invariant.0.takes_whole
 
 pub returns-clause-main : goal.returns-clause-main
-returns-clause-main g c = c.rounds.invariant.takes_whole
+returns-clause-main g c = c.rounds.invariant.0.takes_whole

@@ -11,14 +11,14 @@ pub invariant_of-self : goal.invariant_of-self
 invariant_of-self g c =
     let m : Marked = record { memory = g.M.GuestTarget.image c.self.inside.memory; written = c.self.inside.written } in
     let are = All-from_get_or (λ (byte : ℕ). byte < 2 ^ 8) c.args.bytes.now 0 (λ i lt. Fits-lt-pow {w = w8} (c.type_inv.bytes i)) in
-    subst (λ (i : Image). IsMarked (record { memory = i; written = c.mark.new.self })) (sym c.put_page.ensures)
+    subst (λ (i : Image). IsMarked (record { memory = i; written = c.mark.new.self })) (sym c.put_page.ensures.image)
     (subst (λ (s : PlaceSet). IsMarked (record { memory = with_page m.memory c.args.place c.args.bytes.now; written = s })) (sym c.mark.ensures.set)
     (marked_put m c.args.place c.args.bytes.now c.self.invariant are))
 
-pub returns : goal.returns
-returns g c =
+pub returns-clause-image : goal.returns-clause-image
+returns-clause-image g c =
     let m : Marked = record { memory = g.M.GuestTarget.image c.self.inside.memory; written = c.self.inside.written } in
-    ap (λ (i : Image). seen (record { memory = i; written = c.mark.new.self })) c.put_page.ensures
+    ap (λ (i : Image). seen (record { memory = i; written = c.mark.new.self })) c.put_page.ensures.image
     ∙ ap (λ (s : PlaceSet). seen (record { memory = with_page m.memory c.args.place c.args.bytes.now; written = s })) c.mark.ensures.set
     ∙ seen_put m c.args.place c.args.bytes.now c.self.invariant
     ∙ ap (λ (x : Marked). with_page (seen x) c.args.place c.args.bytes.now) c.self.view_is

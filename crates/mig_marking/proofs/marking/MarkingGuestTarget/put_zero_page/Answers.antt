@@ -9,7 +9,7 @@ pub invariant_of-self : goal.invariant_of-self
 invariant_of-self g c =
     let m : Marked = record { memory = g.M.GuestTarget.image c.self.inside.memory; written = c.self.inside.written } in
     let are = zeros_are_bytes (g.M.GuestTarget.image c.self.inside.memory).table.page_size in
-    subst (λ (i : Image). IsMarked (record { memory = i; written = c.mark.new.self })) (sym c.put_zero_page.ensures)
+    subst (λ (i : Image). IsMarked (record { memory = i; written = c.mark.new.self })) (sym c.put_zero_page.ensures.image)
     (subst (λ (s : PlaceSet). IsMarked (record {
       memory = with_page m.memory c.args.place
           (zero_page (g.M.GuestTarget.image c.self.inside.memory).table.page_size);
@@ -17,10 +17,10 @@ invariant_of-self g c =
     })) (sym c.mark.ensures.set)
     (marked_put m c.args.place (zero_page (g.M.GuestTarget.image c.self.inside.memory).table.page_size) c.self.invariant are))
 
-pub returns : goal.returns
-returns g c =
+pub returns-clause-image : goal.returns-clause-image
+returns-clause-image g c =
     let m : Marked = record { memory = g.M.GuestTarget.image c.self.inside.memory; written = c.self.inside.written } in
-    ap (λ (i : Image). seen (record { memory = i; written = c.mark.new.self })) c.put_zero_page.ensures
+    ap (λ (i : Image). seen (record { memory = i; written = c.mark.new.self })) c.put_zero_page.ensures.image
     ∙ ap (λ (s : PlaceSet). seen (record {
       memory = with_page m.memory c.args.place
           (zero_page (g.M.GuestTarget.image c.self.inside.memory).table.page_size);

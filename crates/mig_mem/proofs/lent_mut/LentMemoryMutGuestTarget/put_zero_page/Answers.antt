@@ -24,8 +24,8 @@ invariant_of-self g c =
     (loan_written (λ (b : MutBor (List ℕ)). b.now) table loans p no_loan
     (set_vals c.clear_part.new.bytes (get_or loans p.block no_loan)) (zero_page table.page_size) c.self.invariant is changes).0
 
-pub returns : goal.returns
-returns g c =
+pub returns-clause-image : goal.returns-clause-image
+returns-clause-image g c =
     let table = c.self.inside.table.now in
     let loans = c.self.inside.blocks.now in
     let p = c.args.place in

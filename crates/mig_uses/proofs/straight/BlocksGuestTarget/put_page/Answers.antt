@@ -13,8 +13,8 @@ invariant_of-self g c =
     (set_vals c.write_page.new.bytes c.index_mut.result.now) c.page_size-size.result c.args.bytes.now
     c.self.invariant is c.page_size-size.ensures c.index_mut.ensures.value c.write_page.ensures).0
 
-pub returns : goal.returns
-returns g c =
+pub returns-clause-image : goal.returns-clause-image
+returns-clause-image g c =
     let table = c.self.inside.table in
     let is : IsPlace table c.args.place = rw (sym (ap (λ (m : Image). m.table) c.self.view_is)) at c.requires.place in
     sym (block_written table c.self.inside.blocks.items c.args.place c.index_mut.result.now

@@ -17,8 +17,8 @@ invariant_of-self g c =
     (subst (λ (n : ℕ). ChangesPart size c.index_mut.result.now.now c.clear_page.new.bytes c.args.place.page (zero_page n))
     c.page_size-size.ensures c.clear_page.ensures)).0
 
-pub returns : goal.returns
-returns g c =
+pub returns-clause-image : goal.returns-clause-image
+returns-clause-image g c =
     let table = c.self.inside.table in
     let is : IsPlace table c.args.place = rw (sym (ap (λ (m : Image). m.table) c.self.view_is)) at c.requires in
     let size = c.page_size-size.result in

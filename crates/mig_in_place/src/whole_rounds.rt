@@ -1,0 +1,83 @@
+//! Whole rounds alone: a load that writes a round into the memory once it was judged lawful.
+
+ghost use Rattle.std.specs.Prelude.{◌≡◌, ◌≢◌, ◌+◌, ◌<◌, ◌≤◌, ◌^◌, Err, IsFalse, IfOk, length, take};
+ghost use Rattle.mig_session.specs.Session.{HasSource, count_of, feed_step, with_fed};
+ghost use Rattle.mig_single_load.specs.declared.fault.InPlaceFault.TheVariants as in_place_fault;
+ghost use Rattle.mig_staged.specs.Staged.{staged};
+ghost use Rattle.mig_in_place.specs.Sources.{counts_of};
+ghost use Rattle.mig_in_place.specs.Session.{RunsOut, StepsOn};
+ghost use Rattle.mig_in_place.specs.WholeRounds.{KeepsRounds};
+
+use crate::InPlaceSession;
+use mig_mem::{GuestTarget, NoMemory};
+use mig_session::Source;
+use mig_single_load::InPlaceFault;
+use mig_staged::Staged;
+use std::alloc::Allocator;
+
+impl<A: Allocator + Copy> InPlaceSession<A> {
+    /// Takes bytes as `feed` does, into a memory that keeps the open round apart. So the memory has
+    /// the rounds counted, and nothing else, whatever has come of the next one.
+    ///
+    /// # Errors
+    ///
+    /// Those of `feed`.
+    pub fn feed_rounds<M: GuestTarget, B: Allocator>(
+        &mut self,
+        memory: &mut Staged<M, B>,
+        source: Source,
+        piece: &[u8],
+    ) -> Result<usize, InPlaceFault>
+        requires source { HasSource (counts_of self.old.sources) source }
+        requires open { IsFalse (count_of (counts_of self.old.sources) source).ended }
+        requires room { (count_of (counts_of self.old.sources) source).fed + length piece.now < 2 ^ 64 }
+        ensures taken { IfOk result (λ n. n ≤ length piece.now) }
+        ensures ok { IfOk result (λ n. StepsOn (feed_step source (take n piece.now)) (staged memory.old) self.old (staged memory.new) self.new) }
+        ensures kept { IfOk result (λ n. KeepsRounds (feed_step source (take n piece.now)) (staged memory.old) memory.old.kept self.old memory.new.kept self.new) }
+        ensures other { result ≡ Err in_place_fault.OtherTable → (self.old.table ≢ memory.old.kept.table) × (self.new ≡ self.old) × (memory.new ≡ memory.old) }
+        ensures counts { IfOk result (λ n. counts_of self.new.sources ≡ with_fed (counts_of self.old.sources) source n) }
+        ensures table { (self.new.table ≡ self.old.table) × (memory.new.kept.table ≡ memory.old.kept.table) }
+        ensures rounds { self.old.rounds ≤ self.new.rounds }
+    {
+        if !self.table().same(memory.table()) {
+            return Err(InPlaceFault::OtherTable);
+        }
+        match self.take_rounds(memory, source, piece) {
+            Ok(taken) => Ok(taken),
+            Err(NoMemory) => Err(InPlaceFault::NoMemory),
+        }
+    }
+
+    // Takes bytes of a source, round after round, as long as some are taken, and keeps each round
+    // that was judged lawful.
+    fn take_rounds<M: GuestTarget, B: Allocator>(
+        &mut self,
+        memory: &mut Staged<M, B>,
+        source: Source,
+        piece: &[u8],
+    ) -> Result<usize, NoMemory>
+        requires source { HasSource (counts_of self.old.sources) source }
+        requires open { IsFalse (count_of (counts_of self.old.sources) source).ended }
+        requires room { (count_of (counts_of self.old.sources) source).fed + length piece.now < 2 ^ 64 }
+        requires table { memory.old.kept.table ≡ self.old.table }
+        ensures taken { IfOk result (λ n. n ≤ length piece.now) }
+        ensures steps { IfOk result (λ n. StepsOn (feed_step source (take n piece.now)) (staged memory.old) self.old (staged memory.new) self.new) }
+        ensures kept { IfOk result (λ n. KeepsRounds (feed_step source (take n piece.now)) (staged memory.old) memory.old.kept self.old memory.new.kept self.new) }
+        ensures counts { IfOk result (λ n. counts_of self.new.sources ≡ with_fed (counts_of self.old.sources) source n) }
+        ensures table { (self.new.table ≡ self.old.table) × (memory.new.kept.table ≡ memory.old.kept.table) }
+        ensures rounds { self.old.rounds ≤ self.new.rounds }
+    {
+        let mut taken = 0;
+        'rounds: while taken < piece.len() {
+            let (count, judged) = self.feed_round(memory, source, &piece[taken..])?;
+            taken += count;
+            if judged {
+                memory.keep();
+                self.next_round(memory);
+            } else if count == 0 {
+                return Ok(taken);
+            }
+        }
+        Ok(taken)
+    }
+}

@@ -1,0 +1,7 @@
+//! A guest memory that keeps the pages of a round apart until the round was judged: so the memory
+//! has whole rounds alone, whatever load writes into it.
+#![tactic(auto)]
+
+mod staged;
+
+pub use staged::Staged;

@@ -1,0 +1,223 @@
+//! Guest memory into which a load writes round by round.
+
+ghost use Rattle.std.specs.Prelude.{◌≡◌, Some, IfOk, IfErr};
+ghost use Rattle.mig_mem.specs.Place.{IsPlace};
+ghost use Rattle.mig_mem.specs.Image.{content_at, with_page, zero_image};
+ghost use Rattle.mig_mem.specs.Round.{round_of, with_round};
+ghost use Rattle.mig_staged.specs.Staged.{staged};
+
+use mig_mem::{Dirty, GuestTarget, Memory, NoMemory, Place, Table};
+use std::alloc::{Allocator, Global};
+use std::marker::Model;
+use std::mem;
+
+/// A memory, and the pages of the round that is open, which it keeps apart. Pass it to a load in
+/// place of the memory: its image is the memory with these pages. Call `keep` once the round was
+/// judged lawful, and `drop_round` if it wasn't. So the memory has the rounds that were kept, and
+/// nothing else, at any time.
+///
+/// A round's pages take memory beside the guest until they are kept, and are copied then. A first
+/// round into a `Memory` of zeros isn't copied (`keep_own`).
+#[derive(Drop)]
+pub struct Staged<M: GuestTarget, A: Allocator = Global> {
+    memory: M,
+    apart: Memory<A>,
+    named: Dirty<A>,
+    is_fresh: bool,
+}
+
+impl<M: GuestTarget, A: Allocator> Model for Staged<M, A> {
+    ghost use Rattle.mig_staged.specs.Staged.{Staging, IsStaging};
+
+    ghost Value = { Staging };
+
+    ghost view = { λ s. record { kept = M.image s.memory; apart = s.apart; named = s.named; is_fresh = s.is_fresh } };
+
+    ghost invariant = { λ s. IsStaging (record { kept = M.image s.memory; apart = s.apart; named = s.named; is_fresh = s.is_fresh }) };
+}
+
+// Writes a page of a memory into another one of its table.
+fn copy_page<M: GuestTarget, A: Allocator>(memory: &mut M, from: &Memory<A>, place: Place)
+    requires place { IsPlace (M.image memory.old).table place }
+    requires same { from.now.table ≡ (M.image memory.old).table }
+    ensures { M.image memory.new ≡ with_page (M.image memory.old) place (content_at from.now place) }
+{
+    // shows that each content has the page size (`IsImage`)
+    let _table = from.table();
+    if from.is_blank(place) {
+        memory.put_zero_page(place);
+        return;
+    }
+    match from.page(place) {
+        Some(content) => memory.put_page(place, content),
+        None => unreachable!(),
+    }
+}
+
+// Writes the pages of a memory that a set has into another one of its table.
+fn copy_round<M: GuestTarget, A: Allocator>(memory: &mut M, from: &Memory<A>, named: &Dirty<A>)
+    requires same { from.now.table ≡ (M.image memory.old).table }
+    requires named { named.now.table ≡ (M.image memory.old).table }
+    ensures { M.image memory.new ≡ with_round (M.image memory.old) (round_of from.now named.now.marked) }
+{
+    // shows that the memory has a content for each place (`IsImage`)
+    let _table = memory.table();
+    let mut next = Place { block: 0, page: 0 };
+    for _ in 0..named.count() {
+        let Some(place) = named.first_from(next) else {
+            break;
+        };
+        copy_page(memory, from, place);
+        next = Place {
+            block: place.block,
+            page: place.page + 1,
+        };
+    }
+}
+
+impl<M: GuestTarget, A: Allocator + Copy> Staged<M, A> {
+    /// Takes a memory, without an open round. It allocates room for all pages of the table, which
+    /// isn't touched before it is needed, and a bit for each page.
+    ///
+    /// # Errors
+    ///
+    /// The memory, as it was: an allocation was refused.
+    pub fn new(alloc: A, memory: M) -> Result<Staged<M, A>, M>
+        ensures kept { IfOk result (λ s. s.kept ≡ M.image memory) }
+        ensures image { IfOk result (λ s. staged s ≡ s.kept) }
+        ensures err { IfErr result (λ m. M.image m ≡ M.image memory) }
+    {
+        let Ok(apart) = Memory::zeroed(alloc, memory.table()) else {
+            return Err(memory);
+        };
+        let Ok(named) = Dirty::none(alloc, memory.table()) else {
+            return Err(memory);
+        };
+        Ok(Staged {
+            memory,
+            apart,
+            named,
+            is_fresh: false,
+        })
+    }
+}
+
+impl<M: GuestTarget, A: Allocator> Staged<M, A> {
+    /// Returns the memory, with the rounds that were kept.
+    pub fn memory(&self) -> &M
+        ensures { M.image result.now ≡ self.now.kept }
+    {
+        &self.memory
+    }
+
+    /// Returns the memory, with the rounds that were kept.
+    pub fn into_memory(self) -> M
+        ensures { M.image result ≡ self.kept }
+    {
+        self.memory
+    }
+
+    /// Keeps the open round: the memory has its pages, and no round is open. It allocates nothing.
+    pub fn keep(&mut self)
+        ensures kept { self.new.kept ≡ staged self.old }
+        ensures image { staged self.new ≡ self.new.kept }
+    {
+        self.is_fresh = false;
+        copy_round(&mut self.memory, &self.apart, &self.named);
+        self.named.clear();
+        // shows that the memory has a content for each place (`IsImage`)
+        let _table = self.memory.table();
+    }
+
+    /// Drops the open round: the memory stays.
+    pub fn drop_round(&mut self)
+        ensures kept { self.new.kept ≡ self.old.kept }
+        ensures image { staged self.new ≡ self.new.kept }
+    {
+        self.is_fresh = false;
+        self.named.clear();
+        // shows that the memory has a content for each place (`IsImage`)
+        let _table = self.memory.table();
+    }
+}
+
+impl<A: Allocator + Copy> Staged<Memory<A>, A> {
+    /// Creates a memory of zeros, without an open round. It allocates room for the pages twice,
+    /// which isn't touched before it is needed, and a bit for each page.
+    ///
+    /// # Errors
+    ///
+    /// `NoMemory`: an allocation was refused.
+    pub fn zeroed<B: Allocator>(
+        alloc: A,
+        table: &Table<B>,
+    ) -> Result<Staged<Memory<A>, A>, NoMemory>
+        ensures kept { IfOk result (λ s. s.kept ≡ zero_image table.now) }
+        ensures image { IfOk result (λ s. staged s ≡ s.kept) }
+    {
+        let memory = Memory::zeroed(alloc, table)?;
+        let apart = Memory::zeroed(alloc, table)?;
+        let named = Dirty::none(alloc, table)?;
+        // shows that the memory has a content for each place (`IsImage`)
+        let _table = memory.table();
+        Ok(Staged {
+            memory,
+            apart,
+            named,
+            is_fresh: true,
+        })
+    }
+
+    /// Keeps the open round as `keep` does. The first round that has pages isn't copied, if the
+    /// memory was created by `zeroed`: it becomes the memory.
+    pub fn keep_own(&mut self)
+        ensures kept { self.new.kept ≡ staged self.old }
+        ensures image { staged self.new ≡ self.new.kept }
+    {
+        // show that both have a content for each place (`IsImage`)
+        let _kept = self.memory.table();
+        let _apart = self.apart.table();
+        if self.named.count() == 0 {
+            return;
+        }
+        if !self.is_fresh {
+            self.keep();
+            return;
+        }
+        self.is_fresh = false;
+        mem::swap(&mut self.memory, &mut self.apart);
+        self.named.clear();
+    }
+}
+
+impl<M: GuestTarget, A: Allocator> GuestTarget for Staged<M, A> {
+    type Alloc = M::Alloc;
+
+    ghost use Rattle.mig_mem.specs.Round.{round_of, with_round};
+    ghost use Rattle.mig_staged.specs.Staged.{staged};
+
+    ghost image = { λ s. staged s };
+
+    ghost kept = { λ s. Some s.kept };
+
+    fn table(&self) -> &Table<M::Alloc> {
+        // show that the pages of the open round have places of the table, and the page size
+        let _apart = self.apart.table();
+        let _named = self.named.table();
+        self.memory.table()
+    }
+
+    fn put_page(&mut self, place: Place, bytes: &[u8]) {
+        let Ok(_) = self.named.mark(place) else {
+            unreachable!();
+        };
+        self.apart.put_page(place, bytes);
+    }
+
+    fn put_zero_page(&mut self, place: Place) {
+        let Ok(_) = self.named.mark(place) else {
+            unreachable!();
+        };
+        self.apart.put_zero_page(place);
+    }
+}
