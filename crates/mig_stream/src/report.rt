@@ -7,6 +7,7 @@ ghost use Rattle.mig_stream.specs.Reading.{Settings};
 ghost use Rattle.mig_stream.specs.Report.{nothing_reported, with_item, nth_item, IsReport, KeepsItems};
 
 use crate::bytes::Bytes;
+use arrayvec::ArrayVec;
 use mig_mem::NoMemory;
 use std::alloc::{Allocator, Global};
 use std::fmt;
@@ -85,20 +86,24 @@ impl fmt::Debug for ReportedItem<'_> {
     }
 }
 
-// An item as a report keeps it.
+// An item as a report keeps it. Type bytes, heads, records and COMMANDs of few bytes take no
+// allocation.
 #[derive(Drop)]
 struct KeptItem<A: Allocator> {
     at: u64,
     kind: ItemKind,
-    bytes: Bytes<A>,
+    few: ArrayVec<u8, 16>,
+    // the bytes, if they are more
+    many: Option<Bytes<A>>,
 }
 
 impl<A: Allocator> Model for KeptItem<A> {
+    ghost use Rattle.std.specs.Option.{unwrap_or};
     ghost use Rattle.mig_stream.specs.Report.{ItemAt};
 
     ghost Value = { ItemAt };
 
-    ghost view = { λ i. record { at = i.at; kind = i.kind; bytes = i.bytes } };
+    ghost view = { λ i. record { at = i.at; kind = i.kind; bytes = unwrap_or i.many i.few.items } };
 }
 
 /// The items of a stream that aren't parts of page records, as far as the stream was read and they
@@ -176,7 +181,10 @@ impl<A: Allocator> Report<A> {
         ReportedItem {
             at: item.at,
             kind: item.kind,
-            bytes: item.bytes.as_slice(),
+            bytes: match &item.many {
+                Some(bytes) => bytes.as_slice(),
+                None => item.few.as_slice(),
+            },
         }
     }
 
@@ -226,9 +234,17 @@ impl<A: Allocator + Copy> Report<A> {
             self.skip(item.len());
             return Ok(());
         };
-        let bytes = Bytes::copied(*self.items.allocator(), item)?;
-        let at = self.at;
-        self.items.push(KeptItem { at, kind, bytes })?;
+        let mut few = ArrayVec::new();
+        let many = match few.try_extend_from_slice(item) {
+            Ok(()) => None,
+            Err(_) => Some(Bytes::copied(*self.items.allocator(), item)?),
+        };
+        self.items.push(KeptItem {
+            at: self.at,
+            kind,
+            few,
+            many,
+        })?;
         self.skip(item.len());
         Ok(())
     }
