@@ -149,7 +149,7 @@ FAULTS = [
     ("mig_stream/specs/FaultNumber.antt", "STREAM_"),
     ("mig_packet/specs/FaultNumber.antt", "CHANNEL_"),
     ("mig_assemble/specs/RoundFaultNumber.antt", "ROUND_"),
-    ("mig_single_load/specs/LoadFaultNumber.antt", ""),
+    ("mig_load_types/specs/LoadFaultNumber.antt", ""),
 ]
 
 

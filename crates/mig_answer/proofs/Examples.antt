@@ -12,8 +12,8 @@ use Rattle.mig_packet.specs.declared.fault.ChannelFault.TheVariants.{HelloUuid, 
 use Rattle.mig_packet.specs.Fields.{be32_at, be64_at}
 use Rattle.mig_packet.specs.Reading.{ChannelReading}
 use Rattle.mig_assemble.specs.declared.fault.RoundFault.TheVariants.{Foreign, Doubled}
-use Rattle.mig_single_load.specs.declared.fault.Origin.TheVariants as origin
-use Rattle.mig_single_load.specs.declared.fault.Fault.TheVariants as fault
+use Rattle.mig_load_types.specs.declared.fault.Origin.TheVariants as origin
+use Rattle.mig_load_types.specs.declared.fault.Fault.TheVariants as fault
 use Rattle.mig_answer.specs.declared.verdict.Verdict.TheVariants.{Running, Done}
 use Rattle.mig_answer.specs.Texts.{Readings}
 use Rattle.mig_answer.specs.MultiLoad.{passes, verdict_at, failed}

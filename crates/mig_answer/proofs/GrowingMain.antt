@@ -11,8 +11,8 @@ use Rattle.mig_stream.specs.Law.{StaysRead}
 use Rattle.mig_stream.proofs.Exists.{one_reading_law}
 use Rattle.mig_stream.proofs.Limits.{limits_law}
 use Rattle.mig_stream.proofs.Longer.{longer_law, stays_over}
-use Rattle.mig_single_load.specs.Settings.{main_of}
-use Rattle.mig_single_load.specs.declared.settings.LoadSettings.{LoadSettings}
+use Rattle.mig_load_types.specs.Settings.{main_of}
+use Rattle.mig_load_types.specs.declared.settings.LoadSettings.{LoadSettings}
 use Rattle.mig_answer.specs.Texts.{Text, IsMainReading}
 use Rattle.mig_answer.specs.Growing.{GoesOn}
 use Rattle.mig_answer.proofs.OneAnswer.{same_main}

@@ -20,7 +20,6 @@ use Rattle.mig_stream.specs.Text.{total_bytes}
 use Rattle.mig_stream.specs.Written.{single}
 use Rattle.mig_send.specs.DealtRounds.{DealtRound, IsDealtRound}
 use Rattle.mig_send.specs.ReadBack.{SendingsAreReadBack, MachineSendingsAreReadBack}
-use Rattle.mig_single_load.specs.declared.loaded.Loaded.{Loaded}
 use Rattle.mig_answer.specs.declared.verdict.Verdict.{Verdict}
 use Rattle.mig_answer.specs.declared.verdict.Verdict.TheVariants.{Done}
 use Rattle.mig_single_load.specs.SingleLoad.{HasLoadedRounds}

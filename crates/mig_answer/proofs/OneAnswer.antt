@@ -9,8 +9,8 @@ use Rattle.mig_stream.specs.Reading.{StreamReading, state_at}
 use Rattle.mig_stream.proofs.Exists.{one_reading_law as stream_law}
 use Rattle.mig_packet.specs.Reading.{Settings, ChannelReading, IsReading}
 use Rattle.mig_packet.proofs.Exists.{one_reading_law as channel_law}
-use Rattle.mig_single_load.specs.Settings.{main_of, channel_of}
-use Rattle.mig_single_load.specs.declared.settings.LoadSettings.{LoadSettings}
+use Rattle.mig_load_types.specs.Settings.{main_of, channel_of}
+use Rattle.mig_load_types.specs.declared.settings.LoadSettings.{LoadSettings}
 use Rattle.mig_answer.specs.declared.verdict.Verdict.{Verdict}
 use Rattle.mig_answer.specs.Texts.{Text, Texts, Readings, IsMainReading, AreReadings}
 use Rattle.mig_answer.specs.Rounds.{memory_at}

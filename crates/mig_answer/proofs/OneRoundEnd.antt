@@ -7,9 +7,9 @@ use Rattle.mig_stream.specs.declared.item.StreamState.TheVariants.{Closed}
 use Rattle.mig_stream.specs.Reading.{StreamReading}
 use Rattle.mig_stream.proofs.MoreRounds.{sections_are_more}
 use Rattle.mig_packet.specs.Reading.{Settings, ChannelReading, IsReading}
-use Rattle.mig_single_load.specs.Settings.{main_of, channel_of}
-use Rattle.mig_single_load.specs.declared.settings.LoadSettings.{LoadSettings}
-use Rattle.mig_single_load.specs.declared.settings.RoundEnd.TheVariants.{Flush, Eos}
+use Rattle.mig_load_types.specs.Settings.{main_of, channel_of}
+use Rattle.mig_load_types.specs.declared.settings.LoadSettings.{LoadSettings}
+use Rattle.mig_load_types.specs.declared.settings.RoundEnd.TheVariants.{Flush, Eos}
 use Rattle.mig_answer.specs.Status.{stream_end, channel_end, is_clean}
 use Rattle.mig_answer.specs.Texts.{Text, IsMainReading}
 use Rattle.mig_answer.specs.MultiLoad.{Standing, main_at, channels_at}

@@ -18,9 +18,9 @@ use Rattle.mig_stream.specs.Law.{closed}
 use Rattle.mig_packet.specs.Reading.{Settings, settings, ChannelReading, IsReading}
 use Rattle.mig_send.specs.DealtRounds.{DealtRound, IsSending, channel_text}
 use Rattle.mig_send.specs.ReadBack.{channel_told, round_packets}
-use Rattle.mig_single_load.specs.declared.settings.LoadSettings.{LoadSettings}
-use Rattle.mig_single_load.specs.declared.settings.RoundEnd.TheVariants.{Flush}
-use Rattle.mig_single_load.specs.declared.fault.Origin.TheVariants as origin
+use Rattle.mig_load_types.specs.declared.settings.LoadSettings.{LoadSettings}
+use Rattle.mig_load_types.specs.declared.settings.RoundEnd.TheVariants.{Flush}
+use Rattle.mig_load_types.specs.declared.fault.Origin.TheVariants as origin
 use Rattle.mig_answer.specs.declared.status.Status.{Status}
 use Rattle.mig_answer.specs.declared.status.Status.TheVariants.{Whole, Clean}
 use Rattle.mig_answer.specs.Status.{main_status, channel_status, status_at}

@@ -29,10 +29,10 @@ use Rattle.mig_packet.proofs.LetThrough.{through_law as channel_through}
 use Rattle.mig_send.specs.DealtRounds.{DealtRound}
 use Rattle.mig_send.specs.ReadBack.{channel_told, SendingsAreReadBack, MachineSendingsAreReadBack}
 use Rattle.mig_send.proofs.ReadBack.{sendings_are_read_back, machine_sendings_are_read_back}
-use Rattle.mig_single_load.specs.Settings.{main_of, channel_of}
-use Rattle.mig_single_load.specs.declared.settings.LoadSettings.{LoadSettings}
-use Rattle.mig_single_load.specs.declared.settings.RoundEnd.{RoundEnd}
-use Rattle.mig_single_load.specs.declared.settings.RoundEnd.TheVariants.{Flush as by_flush}
+use Rattle.mig_load_types.specs.Settings.{main_of, channel_of}
+use Rattle.mig_load_types.specs.declared.settings.LoadSettings.{LoadSettings}
+use Rattle.mig_load_types.specs.declared.settings.RoundEnd.{RoundEnd}
+use Rattle.mig_load_types.specs.declared.settings.RoundEnd.TheVariants.{Flush as by_flush}
 use Rattle.mig_answer.specs.Texts.{Text, ended_text, ended_texts, Readings, IsMainReading, AreReadings}
 use Rattle.mig_answer.specs.Rounds.{memory_at}
 use Rattle.mig_answer.specs.MultiLoad.{verdict_at, IsFirstStop, Answer, IsAnswer}

@@ -1,9 +1,9 @@
 -- Properties of the answers of loads on several channels, whatever code returns them.
 use Rattle.std.specs.Prelude.{ℕ, ◌≡◌, ◌≢◌, ◌≤◌, ◌<◌, ◌^◌, true, List, length, All}
 use Rattle.mig_mem.specs.PageSize.{IsPageSize}
-use Rattle.mig_single_load.specs.declared.settings.LoadSettings.{LoadSettings}
-use Rattle.mig_single_load.specs.declared.settings.RoundEnd.{RoundEnd}
-use Rattle.mig_single_load.specs.declared.settings.RoundEnd.TheVariants.{Flush, Eos}
+use Rattle.mig_load_types.specs.declared.settings.LoadSettings.{LoadSettings}
+use Rattle.mig_load_types.specs.declared.settings.RoundEnd.{RoundEnd}
+use Rattle.mig_load_types.specs.declared.settings.RoundEnd.TheVariants.{Flush, Eos}
 use Rattle.mig_answer.specs.declared.verdict.Verdict.TheVariants.{Running, Done}
 use Rattle.mig_answer.specs.Texts.{Texts}
 use Rattle.mig_answer.specs.MultiLoad.{Answer, IsAnswer}

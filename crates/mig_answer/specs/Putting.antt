@@ -2,12 +2,12 @@
 use Rattle.std.specs.Prelude.{◌≡◌, ◌⊎◌, ℕ, Option, Some, Result, Ok, Err, ⊤}
 use Rattle.mig_assemble.specs.declared.fault.RoundFault.{RoundFault}
 use Rattle.mig_assemble.specs.Target.{LoadTarget}
-use Rattle.mig_single_load.specs.declared.fault.Origin.TheVariants as origin
-use Rattle.mig_single_load.specs.declared.fault.LoadFault.{LoadFault}
+use Rattle.mig_load_types.specs.declared.fault.Origin.TheVariants as origin
+use Rattle.mig_load_types.specs.declared.fault.LoadFault.{LoadFault}
 use Rattle.mig_single_load.specs.SingleLoad.{no_memory_at}
 use Rattle.mig_answer.specs.Texts.{Readings}
 use Rattle.mig_answer.specs.Rounds.{memory_at, named_at, base_at}
-use Rattle.mig_single_load.specs.declared.fault.Fault.TheVariants as fault
+use Rattle.mig_load_types.specs.declared.fault.Fault.TheVariants as fault
 
 -- the first k rounds are in the memory, and the places that they named are known
 pub record HasLoaded (k : ℕ) (readings : Readings) (target : LoadTarget) : Type 0 where

@@ -5,10 +5,10 @@ use Rattle.mig_mem.specs.PageSize.{IsPageSize}
 use Rattle.mig_packet.specs.Packet.{Fields}
 use Rattle.mig_packet.specs.ChannelItems.{ChannelItem, Hello, Page, Stop, AreItems}
 use Rattle.mig_packet.specs.Reading.{ChannelReading, Settings, IsReading}
-use Rattle.mig_single_load.specs.Settings.{channel_of}
-use Rattle.mig_single_load.specs.declared.settings.LoadSettings.{LoadSettings}
-use Rattle.mig_single_load.specs.declared.fault.Fault.TheVariants as fault
-use Rattle.mig_single_load.specs.declared.fault.Origin.TheVariants as origin
+use Rattle.mig_load_types.specs.Settings.{channel_of}
+use Rattle.mig_load_types.specs.declared.settings.LoadSettings.{LoadSettings}
+use Rattle.mig_load_types.specs.declared.fault.Fault.TheVariants as fault
+use Rattle.mig_load_types.specs.declared.fault.Origin.TheVariants as origin
 use Rattle.mig_answer.specs.declared.status.Status.{Status}
 use Rattle.mig_answer.specs.declared.status.Status.TheVariants.{Clean, Bad, Pending}
 use Rattle.mig_answer.specs.Status.{status_at, channel_status}

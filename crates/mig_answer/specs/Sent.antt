@@ -11,10 +11,10 @@ use Rattle.mig_stream.specs.Written.{single}
 use Rattle.mig_packet.specs.Waiting.{IsWithin}
 use Rattle.mig_send.specs.DealtRounds.{DealtRound, IsSending, IsMachineSending}
 use Rattle.mig_send.specs.ReadBack.{channel_told}
-use Rattle.mig_single_load.specs.Settings.{ram_settings}
-use Rattle.mig_single_load.specs.declared.loaded.Loaded.{Loaded}
-use Rattle.mig_single_load.specs.declared.settings.LoadSettings.{LoadSettings}
-use Rattle.mig_single_load.specs.declared.settings.RoundEnd.TheVariants.{Flush as by_flush}
+use Rattle.mig_load_types.specs.Settings.{ram_settings}
+use Rattle.mig_load_types.specs.declared.loaded.Loaded.{Loaded}
+use Rattle.mig_load_types.specs.declared.settings.LoadSettings.{LoadSettings}
+use Rattle.mig_load_types.specs.declared.settings.RoundEnd.TheVariants.{Flush as by_flush}
 use Rattle.mig_answer.specs.declared.verdict.Verdict.TheVariants.{Done}
 use Rattle.mig_single_load.specs.SingleLoad.{IsSingleAnswer}
 use Rattle.mig_answer.specs.Texts.{ended_texts}

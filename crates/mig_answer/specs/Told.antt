@@ -1,7 +1,7 @@
 -- The statuses of channels at a round, as sources of a load.
 use Rattle.std.specs.Prelude.{List, map}
 use Rattle.std.specs.List.{enumerate_from}
-use Rattle.mig_single_load.specs.declared.fault.Origin.TheVariants as origin
+use Rattle.mig_load_types.specs.declared.fault.Origin.TheVariants as origin
 use Rattle.mig_answer.specs.declared.status.Status.{Status}
 use Rattle.mig_answer.specs.MultiLoad.{Standing}
 

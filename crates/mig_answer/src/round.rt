@@ -9,8 +9,9 @@ ghost use Rattle.mig_assemble.specs.Target.{FitsTable, pages_of_round, after_rou
 ghost use Rattle.mig_answer.specs.Putting.{IsRoundError};
 
 use mig_assemble::{Gathered, RoundFault, Target};
+use mig_load_types::{Fault, LoadFault, Origin};
 use mig_mem::NoMemory;
-use mig_single_load::{Fault, LoadFault, Origin, no_memory};
+use mig_single_load::no_memory;
 use mig_stream::StreamRound;
 use std::alloc::Allocator;
 use std::thread::Threads;

@@ -4,8 +4,8 @@
 ghost use Rattle.std.specs.Prelude.{◌≡◌};
 ghost use Rattle.mig_answer.specs.Status.{stream_end, channel_end};
 
+use mig_load_types::Fault;
 use mig_packet::ChannelState;
-use mig_single_load::Fault;
 use mig_stream::StreamState;
 
 /// The status of a source at a round, after the rounds before.

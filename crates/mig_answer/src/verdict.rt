@@ -1,7 +1,7 @@
 //! The verdict on a load on several channels, on the bytes so far: the result of
 //! `Session::verdict`.
 
-use mig_single_load::LoadFault;
+use mig_load_types::LoadFault;
 
 /// The verdict on a load on several channels, on the bytes so far.
 #[derive(Clone, Copy, Debug, PartialEq, Eq)]

@@ -5,15 +5,15 @@ ghost use Rattle.std.specs.Prelude.{◌≡◌, [], ◌∷◌, map, is_some, None
 ghost use Rattle.std.specs.List.{list_any, list_all, position};
 ghost use Rattle.std.specs.Option.{option_map};
 ghost use Rattle.mig_mem.specs.First.{first_some};
-ghost use Rattle.mig_single_load.specs.declared.fault.Fault.TheVariants as fault;
-ghost use Rattle.mig_single_load.specs.declared.fault.Origin.TheVariants as origin;
+ghost use Rattle.mig_load_types.specs.declared.fault.Fault.TheVariants as fault;
+ghost use Rattle.mig_load_types.specs.declared.fault.Origin.TheVariants as origin;
 ghost use Rattle.mig_answer.specs.Status.{is_whole, is_clean, is_pending, fault_of};
 ghost use Rattle.mig_answer.specs.MultiLoad.{main_standing, failed, failed_at_first, failed_with_own, sources_verdicts, repeated_hello};
 ghost use Rattle.mig_answer.specs.Told.{standings};
 
 use crate::Verdict;
 use crate::status::Status;
-use mig_single_load::{Fault, LoadFault, Origin};
+use mig_load_types::{Fault, LoadFault, Origin};
 
 /// Returns the verdict at a round, by the statuses of the sources and the least channel whose hello
 /// is repeated. If all sources have the round, and no hello is repeated, returns None.

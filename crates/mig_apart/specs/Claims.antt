@@ -10,10 +10,10 @@ use Rattle.mig_mem.specs.PlaceSet.{PlaceSet}
 use Rattle.mig_mem.specs.Image.{Image, image_of, content_at}
 use Rattle.mig_mem.specs.Round.{with_round}
 use Rattle.mig_packet.specs.Packet.{normal_count, zero_count, offset_at}
-use Rattle.mig_single_load.specs.declared.settings.LoadSettings.{LoadSettings}
+use Rattle.mig_load_types.specs.declared.settings.LoadSettings.{LoadSettings}
 use Rattle.mig_answer.specs.Texts.{Texts}
-use Rattle.mig_session.specs.declared.source.Source.TheVariants as source
-use Rattle.mig_session.specs.Session.{feed_step}
+use Rattle.mig_sources.specs.declared.source.Source.TheVariants as source
+use Rattle.mig_sources.specs.Sources.{feed_step}
 use Rattle.mig_in_place.specs.Answer.{HoldsElsewhere}
 use Rattle.mig_in_place.specs.Session.{InPlaceLoad, StandsFor}
 use Rattle.mig_assemble.specs.HeadPlaces.{LieIn}

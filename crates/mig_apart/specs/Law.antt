@@ -1,7 +1,7 @@
 -- The laws of a load whose pages others read to their places.
 use Rattle.std.specs.Prelude.{ℕ, ◌≡◌, List, []}
 use Rattle.mig_mem.specs.Image.{Image, IsImage}
-use Rattle.mig_single_load.specs.declared.settings.LoadSettings.{LoadSettings}
+use Rattle.mig_load_types.specs.declared.settings.LoadSettings.{LoadSettings}
 use Rattle.mig_answer.specs.Texts.{Texts}
 use Rattle.mig_in_place.specs.Answer.{HoldsElsewhere}
 use Rattle.mig_in_place.specs.Session.{StandsFor}

@@ -4,11 +4,11 @@ ghost use Rattle.std.specs.Prelude.{ℕ, ◌≡◌, ◌≢◌, ◌⊎◌, ◌+�
 ghost use Rattle.mig_mem.specs.Image.{Image, IsImage};
 ghost use Rattle.mig_mem.specs.Lent.{lent_bytes};
 ghost use Rattle.mig_assemble.specs.HeadPlaces.{LieIn};
-ghost use Rattle.mig_single_load.specs.declared.fault.InPlaceFault.TheVariants as in_place_fault;
-ghost use Rattle.mig_single_load.specs.Settings.{for_table};
-ghost use Rattle.mig_session.specs.declared.source.Source.TheVariants as source;
-ghost use Rattle.mig_session.specs.declared.source.Source.TheVariants.{Main as main_source};
-ghost use Rattle.mig_session.specs.Session.{HasSource, count_of, no_count, with_fed, with_end, feed_step, end_step};
+ghost use Rattle.mig_load_types.specs.declared.fault.InPlaceFault.TheVariants as in_place_fault;
+ghost use Rattle.mig_load_types.specs.Settings.{for_table};
+ghost use Rattle.mig_sources.specs.declared.source.Source.TheVariants as source;
+ghost use Rattle.mig_sources.specs.declared.source.Source.TheVariants.{Main as main_source};
+ghost use Rattle.mig_sources.specs.Sources.{HasSource, count_of, no_count, with_fed, with_end, feed_step, end_step};
 ghost use Rattle.mig_answer.specs.declared.verdict.Verdict.TheVariants.{Running as running};
 ghost use Rattle.mig_answer.specs.Texts.{no_texts};
 ghost use Rattle.mig_in_place.specs.Sources.{counts_of};
@@ -18,10 +18,10 @@ ghost use Rattle.mig_apart.specs.Claims.{StandsFreely, TakesFreely, ClaimsLess, 
 
 use crate::places::{all_claimed, any_claimed, claim_all, free_all};
 use mig_in_place::InPlaceSession;
+use mig_load_types::{InPlaceFault, LoadSettings};
 use mig_mem::{Dirty, GuestTarget, NoMemory, Table};
 use mig_packet::PacketHead;
-use mig_session::Source;
-use mig_single_load::{InPlaceFault, LoadSettings};
+use mig_sources::Source;
 use std::alloc::{Allocator, Global};
 use std::fmt::{self, Debug, Formatter};
 use std::marker::Model;

@@ -17,9 +17,9 @@ use mig_c_calls::status::{BAD_CHANNELS, BAD_FRAME, BAD_LENGTH, BAD_ROUND_END, DO
 use mig_c_loads::{
     AskedSettings, FoundFault, HeldSession, frame_of, round_end_of, source_of, waiting_of,
 };
+use mig_load_types::RoundEnd;
 use mig_mem::{NoMemory, Table};
-use mig_session::Source;
-use mig_single_load::RoundEnd;
+use mig_sources::Source;
 use mig_stream::Frame;
 use std::alloc::Global;
 use uuid::Uuid;

@@ -17,8 +17,9 @@ use mig_c_loads::{
     AskedSettings, FoundFault, count_blocks, fault_of, feed_loader, frame_of, loader_closed_at,
     loader_missing, read_block, read_page, read_pages, settle_loader, waiting_of,
 };
+use mig_load_types::{LoadSettings, RoundEnd};
 use mig_mem::{NoMemory, is_page_size};
-use mig_single_load::{LoadSettings, RoundEnd, SingleLoader};
+use mig_single_load::SingleLoader;
 use std::alloc::Global;
 
 // Creates a loader in a box.

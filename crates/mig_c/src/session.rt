@@ -22,9 +22,9 @@ use mig_c_loads::{
     frame_of, missing_of, read_block, read_page, read_pages, round_end_of, source_fault_of,
     source_of, valid_up_to_of, verdict_of, waiting_of,
 };
+use mig_load_types::LoadSettings;
 use mig_mem::{NoMemory, is_page_size};
 use mig_session::{Session, Source};
-use mig_single_load::LoadSettings;
 use std::alloc::Global;
 use uuid::Uuid;
 

@@ -15,7 +15,7 @@ use Rattle.mig_send.specs.DealtRounds.{DealtRound, channel_text}
 use Rattle.mig_send.specs.MultiSending.{MultiSending, Drained, HasSentRounds, KeepsSetting, with_channel}
 use Rattle.mig_send.specs.ChannelWork.{ChannelWork, HasPacked, HasEnded, seats_of}
 use Rattle.mig_send.specs.MultiRound as round
-use Rattle.mig_send.specs.MultiRound.{OpenMulti, IsRoundSoFar, HasBegun, TakesBack, HasSentRound, dirty_of, with_channels}
+use Rattle.mig_send.specs.MultiRound.{OpenMulti, IsRoundSoFar, HasBegun, TakesBack, dirty_of, with_channels}
 use Rattle.mig_c_calls.specs.declared.waiting.Waiting.{Waiting}
 use Rattle.mig_c_calls.specs.declared.sending.HeldWorker.{HeldWorker}
 use Rattle.mig_c_calls.specs.Status.{IsOneOf, done, running, no_memory, bad_length}

@@ -15,7 +15,7 @@ use Rattle.mig_stream.specs.MachineWritten.{machine_written}
 use Rattle.mig_stream.proofs.Configured.{written_is_closed}
 use Rattle.mig_send.specs.DealtRounds.{DealtRound, IsSending, channel_text, channel_texts}
 use Rattle.mig_send.specs.MultiSending.{Drained}
-use Rattle.mig_single_load.specs.declared.settings.LoadSettings.{LoadSettings}
+use Rattle.mig_load_types.specs.declared.settings.LoadSettings.{LoadSettings}
 use Rattle.mig_single_load.specs.InPlace.{HasRecordsOnto, HasVerdictOnto}
 use Rattle.mig_single_load.specs.MachineSent.{IsMachineSent}
 use Rattle.mig_single_load.proofs.LoadsInPlace.{sent_in_place}

@@ -8,7 +8,7 @@ use Rattle.mig_mem.specs.Image.{Image, content_at, with_page}
 use Rattle.mig_mem.specs.Lent.{FitTable, lent_image}
 use Rattle.mig_mem.proofs.Images.{content_size}
 use Rattle.mig_mem.proofs.Lents.{lent_is_image}
-use Rattle.mig_single_load.specs.declared.settings.LoadSettings.{LoadSettings}
+use Rattle.mig_load_types.specs.declared.settings.LoadSettings.{LoadSettings}
 use Rattle.mig_single_load.specs.LoadInPlace.{LoadInPlace, LoadsInPlace}
 use Rattle.mig_single_load.specs.ComesNext.{page_wanted}
 use Rattle.mig_c_loads.specs.NextBytes.{IsReadInto}

@@ -6,10 +6,10 @@ use Rattle.mig_mem.specs.PlaceSet.{PlaceSet}
 use Rattle.mig_packet.specs.Packet.{normal_count, zero_count, offset_at}
 use Rattle.mig_assemble.specs.HeadPlaces.{LieIn}
 use Rattle.mig_stream.specs.declared.item.Frame.{Frame}
-use Rattle.mig_single_load.specs.declared.settings.RoundEnd.{RoundEnd}
-use Rattle.mig_session.specs.declared.source.Source.{Source}
-use Rattle.mig_session.specs.declared.source.Source.TheVariants as source
-use Rattle.mig_session.specs.Session.{HasSource}
+use Rattle.mig_load_types.specs.declared.settings.RoundEnd.{RoundEnd}
+use Rattle.mig_sources.specs.declared.source.Source.{Source}
+use Rattle.mig_sources.specs.declared.source.Source.TheVariants as source
+use Rattle.mig_sources.specs.Sources.{HasSource}
 use Rattle.mig_in_place.specs.Sources.{counts_of}
 use Rattle.mig_in_place.specs.Session.{InPlaceLoad}
 use Rattle.mig_apart.specs.Claims.{ApartLoad, packet_places, IsNewClaim, MeetsClaim, FreesPacket, TakesFreely}

@@ -4,9 +4,9 @@ use Rattle.std.specs.Prelude.{ℕ, Bool, not, ◌==◌, Option, None, Some, if�
 use Rattle.std.specs.Option.{option_map, option_and_then}
 use Rattle.mig_stream.specs.declared.item.Frame.{Frame}
 use Rattle.mig_stream.specs.declared.item.Frame.TheVariants.{Ram, Machine}
-use Rattle.mig_single_load.specs.declared.settings.LoadSettings.{LoadSettings}
-use Rattle.mig_single_load.specs.declared.settings.RoundEnd.{RoundEnd}
-use Rattle.mig_single_load.specs.declared.settings.RoundEnd.TheVariants.{Flush, Eos, AsShown}
+use Rattle.mig_load_types.specs.declared.settings.LoadSettings.{LoadSettings}
+use Rattle.mig_load_types.specs.declared.settings.RoundEnd.{RoundEnd}
+use Rattle.mig_load_types.specs.declared.settings.RoundEnd.TheVariants.{Flush, Eos, AsShown}
 
 -- 0 is RAM's sections alone, 1 a machine's stream, and no other number is a frame
 abbrev pub frame_of : ℕ → Option Frame

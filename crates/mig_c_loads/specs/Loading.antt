@@ -1,8 +1,8 @@
 -- The effects of a loader's calls, by status.
 use Rattle.std.specs.Prelude.{◌≡◌, ◌≢◌, ◌≤◌, ◌<◌, ◌+◌, ◌^◌, ◌++◌, ℕ, Bool, true, false, List, [], ◌∷◌, length, Option, None, Some, IsTrue, IsFalse, Result, ⊤}
-use Rattle.mig_single_load.specs.Settings.{single_of}
-use Rattle.mig_single_load.specs.declared.settings.LoadSettings.{LoadSettings}
-use Rattle.mig_single_load.specs.declared.fault.LoadFault.{LoadFault}
+use Rattle.mig_load_types.specs.Settings.{single_of}
+use Rattle.mig_load_types.specs.declared.settings.LoadSettings.{LoadSettings}
+use Rattle.mig_load_types.specs.declared.fault.LoadFault.{LoadFault}
 use Rattle.mig_single_load.specs.Loader.{Loader, Loads, HasAllSections, Waits, Judges, TellsMissing as lacks}
 use Rattle.mig_mem.specs.PageSize.{IsPageSize}
 use Rattle.mig_stream.specs.Reader.{IsFinal, HasClosedAt, IsValidUpTo}

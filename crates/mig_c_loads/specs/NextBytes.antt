@@ -8,7 +8,7 @@ use Rattle.mig_mem.specs.Image.{Image, content_at, with_page}
 use Rattle.mig_mem.specs.Lent.{FitTable, lent_image}
 use Rattle.mig_stream.specs.declared.wanted.Wanted.{Wanted}
 use Rattle.mig_stream.specs.declared.wanted.Wanted.TheVariants as wanted
-use Rattle.mig_single_load.specs.declared.settings.LoadSettings.{LoadSettings}
+use Rattle.mig_load_types.specs.declared.settings.LoadSettings.{LoadSettings}
 use Rattle.mig_single_load.specs.LoadInPlace.{LoadInPlace, LoadsInPlace, LacksMemory}
 use Rattle.mig_single_load.specs.ComesNext.{ComesNext, page_wanted, page_asked}
 use Rattle.mig_c_loads.specs.ZeroBlocks.{with_filled}

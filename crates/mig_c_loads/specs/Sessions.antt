@@ -1,14 +1,16 @@
 -- What the calls of a session do, by their status.
 use Rattle.std.specs.Prelude.{◌≡◌, ◌≢◌, ◌⊎◌, ◌≤◌, ◌<◌, ◌+◌, ◌-◌, ◌^◌, ℕ, Bool, List, [], ◌∷◌, length, IsTrue, IsFalse, if◌then◌else◌, ◌==◌, Option, None, Some}
-use Rattle.mig_session.specs.declared.source.Source.{Source}
-use Rattle.mig_session.specs.declared.source.Source.TheVariants as source
-use Rattle.mig_single_load.specs.declared.settings.LoadSettings.{LoadSettings}
-use Rattle.mig_single_load.specs.declared.fault.Fault.{Fault}
+use Rattle.mig_sources.specs.declared.source.Source.{Source}
+use Rattle.mig_sources.specs.declared.source.Source.TheVariants as source
+use Rattle.mig_load_types.specs.declared.settings.LoadSettings.{LoadSettings}
+use Rattle.mig_load_types.specs.declared.fault.Fault.{Fault}
 use Rattle.mig_answer.specs.declared.verdict.Verdict.TheVariants.{Running, Done}
 use Rattle.mig_stream.specs.Reader.{IsClosedAt, HasClosedAt}
-use Rattle.mig_single_load.specs.Settings.{main_of}
+use Rattle.mig_load_types.specs.Settings.{main_of}
 use Rattle.mig_answer.specs.Texts.{Texts, no_texts}
-use Rattle.mig_session.specs.Session.{LoadSession, StandsFor, HasSource, count_of, feed_step, end_step, answer_in, StepsOn, RunsOut, StillLacks, AsRead, LacksMemory, IsSourceValidUpTo, HasFault, HasAllRounds, HasMissing}
+use Rattle.mig_session.specs.Session.{LoadSession, StandsFor, answer_in, StepsOn, RunsOut, StillLacks, AsRead, LacksMemory, HasAllRounds, HasMissing}
+use Rattle.mig_sources.specs.Sources.{HasSource, count_of, feed_step, end_step}
+use Rattle.mig_sources.specs.Faults.{IsSourceValidUpTo, HasFault}
 use Rattle.mig_session.specs.Advancing.{failed_without_memory}
 use Rattle.mig_mem.specs.PageSize.{IsPageSize}
 use Rattle.mig_c_calls.specs.Status.{IsOneOf, done, running, no_memory, bad_page_size, bad_limit, bad_channels, bad_source, is_over, too_long, bad_length, bad_frame, bad_round_end}

@@ -5,9 +5,9 @@ ghost use Rattle.mig_c_loads.specs.Found.{source_number, carried_of_stream, carr
 
 use mig_assemble::RoundFault;
 use mig_c_calls::status::{RUNNING, STREAM_TRUNCATED};
+use mig_load_types::{Fault, LoadFault, Origin};
 use mig_packet::ChannelFault;
-use mig_session::Source;
-use mig_single_load::{Fault, LoadFault, Origin};
+use mig_sources::Source;
 use mig_stream::StreamFault;
 
 /// Where a load ended, and why.

@@ -6,7 +6,7 @@ ghost use Rattle.std.specs.Prelude.{◌≡◌, ◌≤◌, ◌<◌, ◌+◌, ◌^
 ghost use Rattle.mig_mem.specs.RamTable.{RamTable};
 ghost use Rattle.mig_assemble.specs.HeadPlaces.{LieIn};
 ghost use Rattle.mig_mem.specs.Lent.{mut_lent_bytes, lent_bytes};
-ghost use Rattle.mig_session.specs.Session.{HasSource, count_of};
+ghost use Rattle.mig_sources.specs.Sources.{HasSource, count_of};
 ghost use Rattle.mig_in_place.specs.Sources.{counts_of};
 ghost use Rattle.mig_c_loads.specs.Found.{seen_of_verdict};
 ghost use Rattle.mig_c_loads.specs.InPlaceSessions.{BeginsInto, FeedsMemory, FeedsBlocks, TellsTaken, TellsTakes, TellsClosedAt, TellsValidUpTo, TellsFault, TellsAllRounds, TellsMissing};
@@ -23,11 +23,11 @@ use mig_apart::{ApartSession, Claim};
 use mig_c_calls::status::{
     BAD_SOURCE, DONE, IS_CLAIMED, MAX_LIMIT, NO_MEMORY, OUT_OF_TURN, RUNNING, TO_FEED,
 };
+use mig_load_types::{LoadSettings, RoundEnd};
 use mig_marking::Fresh;
 use mig_mem::{Dirty, GuestTarget, NoMemory, Table};
 use mig_packet::PacketHead;
-use mig_session::Source;
-use mig_single_load::{LoadSettings, RoundEnd};
+use mig_sources::Source;
 use mig_stream::Frame;
 use std::alloc::Global;
 use std::marker::Model;

@@ -14,9 +14,10 @@ use crate::next_bytes::{NextBytes, next_page, take_page, wanted};
 use mig_c_calls::status::{
     BAD_LENGTH, DONE, IS_OVER, MAX_LIMIT, NO_MEMORY, ROOM, RUNNING, TOO_LONG,
 };
+use mig_load_types::{LoadSettings, RoundEnd};
 use mig_marking::Fresh;
 use mig_mem::{Dirty, GuestTarget, NoMemory, Place, Table};
-use mig_single_load::{InPlaceState, LoadSettings, RoundEnd};
+use mig_single_load::InPlaceState;
 use mig_stream::Frame;
 use std::alloc::Global;
 use std::marker::Model;

@@ -3,7 +3,7 @@
 
 ghost use Rattle.std.specs.Prelude.{◌≡◌, ◌≤◌, ◌<◌, ◌+◌, ◌^◌, ◌↔◌, IsFalse, IfOk, IfSome, None, Some, length};
 ghost use Rattle.mig_mem.specs.Lent.{mut_lent_bytes};
-ghost use Rattle.mig_session.specs.Session.{HasSource, count_of};
+ghost use Rattle.mig_sources.specs.Sources.{HasSource, count_of};
 ghost use Rattle.mig_in_place.specs.Sources.{counts_of};
 ghost use Rattle.mig_c_loads.specs.Found.{seen_of_verdict};
 ghost use Rattle.mig_c_loads.specs.InPlaceSessions.{BeginsInto, RefusesPiece, FeedsMemory, FeedsBlocks, EndsSource, TellsTaken, TellsTakes, TellsClosedAt, TellsValidUpTo, TellsFault, TellsAllRounds, TellsMissing};
@@ -16,10 +16,10 @@ use mig_c_calls::status::{
     BAD_LENGTH, BAD_SOURCE, DONE, IS_OVER, MAX_LIMIT, NO_MEMORY, RUNNING, TOO_LONG,
 };
 use mig_in_place::InPlaceSession;
+use mig_load_types::{LoadSettings, RoundEnd};
 use mig_marking::Fresh;
 use mig_mem::{Dirty, GuestTarget, NoMemory, Table};
-use mig_session::Source;
-use mig_single_load::{LoadSettings, RoundEnd};
+use mig_sources::Source;
 use mig_stream::Frame;
 use std::alloc::Global;
 use std::marker::Model;

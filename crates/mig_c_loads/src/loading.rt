@@ -4,8 +4,9 @@ ghost use Rattle.mig_c_loads.specs.Loading.{Feeds, Settles, TellsVerdict, TellsC
 
 use crate::fault::{FoundFault, of_verdict};
 use mig_c_calls::status::{DONE, IS_OVER, NO_MEMORY, ROOM, RUNNING, TOO_LONG, WAITS};
+use mig_load_types::FeedFault;
 use mig_mem::NoMemory;
-use mig_single_load::{FeedFault, SingleLoader};
+use mig_single_load::SingleLoader;
 use std::alloc::Global;
 
 /// Feeds the next piece of a stream, and applies the sections that it completes. Returns the

@@ -3,7 +3,7 @@
 ghost use Rattle.std.specs.Prelude.{◌≡◌};
 ghost use Rattle.mig_c_loads.specs.Frames.{round_end_of};
 
-use mig_single_load::RoundEnd;
+use mig_load_types::RoundEnd;
 
 /// Each FLUSH.
 pub(crate) const BY_FLUSH: u32 = 0;

@@ -1,7 +1,8 @@
 //! A session: its sources, as C names them, the bytes that are fed to them, and the verdict.
 
 ghost use Rattle.std.specs.Prelude.{◌≡◌, ◌↔◌, IsTrue};
-ghost use Rattle.mig_session.specs.Session.{HasSource, answer_in};
+ghost use Rattle.mig_session.specs.Session.{answer_in};
+ghost use Rattle.mig_sources.specs.Sources.{HasSource};
 ghost use Rattle.mig_c_loads.specs.Found.{seen_of_verdict};
 ghost use Rattle.mig_c_loads.specs.Sessions.{FeedsSource, EndsSource, TellsFed, TellsClosedAt, TellsValidUpTo, TellsFault, TellsAllRounds, TellsMissing, source_of};
 

@@ -20,9 +20,9 @@ use Rattle.mig_stream.specs.Written.{single}
 use Rattle.mig_send.specs.DealtRounds.{DealtRound, IsSending, channel_text}
 use Rattle.mig_send.specs.MultiSending.{MultiSending, texts_of}
 use Rattle.mig_send.specs.declared.multi.Sent.{Sent}
-use Rattle.mig_single_load.specs.Settings.{ram_settings}
-use Rattle.mig_single_load.specs.declared.loaded.Loaded.{Loaded}
-use Rattle.mig_single_load.specs.declared.fault.LoadFault.{LoadFault}
+use Rattle.mig_load_types.specs.Settings.{ram_settings}
+use Rattle.mig_load_types.specs.declared.loaded.Loaded.{Loaded}
+use Rattle.mig_load_types.specs.declared.fault.LoadFault.{LoadFault}
 use Rattle.mig_answer.specs.declared.verdict.Verdict.TheVariants.{Done, Failed}
 use Rattle.mig_single_load.specs.SingleLoad.{HasLoadedRounds, no_memory_at}
 use Rattle.mig_answer.specs.MultiLoad.{Answer as LoadAnswer, answer_of, as_verdict, IsWithoutMemory, bytes_of}

@@ -13,16 +13,16 @@ use Rattle.mig_stream.specs.Text.{total_bytes}
 use Rattle.mig_stream.specs.Written.{single}
 use Rattle.mig_send.specs.DealtRounds.{DealtRound, IsSending}
 use Rattle.mig_send.specs.declared.multi.Sent.{Sent}
-use Rattle.mig_single_load.specs.Settings.{ram_settings}
-use Rattle.mig_single_load.specs.LoadFaultNumber.{fault_number}
-use Rattle.mig_single_load.specs.declared.fault.Fault.TheVariants as load_fault
+use Rattle.mig_load_types.specs.Settings.{ram_settings}
+use Rattle.mig_load_types.specs.LoadFaultNumber.{fault_number}
+use Rattle.mig_load_types.specs.declared.fault.Fault.TheVariants as load_fault
 use Rattle.mig_answer.specs.declared.verdict.Verdict.{Verdict}
 use Rattle.mig_answer.specs.declared.verdict.Verdict.TheVariants.{Running, Done, Failed}
-use Rattle.mig_single_load.specs.declared.loaded.Loaded.{Loaded}
+use Rattle.mig_load_types.specs.declared.loaded.Loaded.{Loaded}
 use Rattle.mig_single_load.specs.SingleLoad.{IsSingleWithoutMemory, HasLoadedRounds, no_memory_at}
-use Rattle.mig_single_load.specs.declared.fault.LoadFault.{LoadFault}
-use Rattle.mig_single_load.specs.declared.fault.Origin.{Origin}
-use Rattle.mig_single_load.specs.declared.fault.Origin.TheVariants as origin
+use Rattle.mig_load_types.specs.declared.fault.LoadFault.{LoadFault}
+use Rattle.mig_load_types.specs.declared.fault.Origin.{Origin}
+use Rattle.mig_load_types.specs.declared.fault.Origin.TheVariants as origin
 use Rattle.mig_command.specs.declared.answer.Answer.{Answer}
 use Rattle.mig_command.specs.declared.answer.Answer.TheVariants as answers
 use Rattle.mig_command.specs.declared.answer.Checked.{Checked}

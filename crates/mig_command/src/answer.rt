@@ -1,9 +1,9 @@
 //! The tool's answer, before it is printed.
 
 use crate::fault::ToolFault;
+use mig_load_types::LoadFault;
 use mig_mem::{NoMemory, Place};
 use mig_scenario::ScenarioFault;
-use mig_single_load::LoadFault;
 
 /// The result of comparing two memories of one table.
 #[derive(Clone, Copy, Debug, PartialEq, Eq)]

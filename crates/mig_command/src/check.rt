@@ -3,7 +3,7 @@
 
 ghost use Rattle.std.specs.Prelude.{ℕ, ◌≡◌, ◌⊎◌, ⊤, List, None, Some, Ok, Err, true, length, is_some, IfSome, IsSomeAnd, IfOk, IfErr, OnOk};
 ghost use Rattle.mig_send.specs.declared.multi.Sent.{Sent};
-ghost use Rattle.mig_single_load.specs.declared.fault.LoadFault.{LoadFault};
+ghost use Rattle.mig_load_types.specs.declared.fault.LoadFault.{LoadFault};
 ghost use Rattle.mig_mem.specs.Image.{Image};
 ghost use Rattle.mig_mem.specs.PageSize.{IsPageSize};
 ghost use Rattle.mig_scenario.specs.Scenario.{refusal};
@@ -13,12 +13,13 @@ ghost use Rattle.mig_command.specs.Answer.{Answers, answer_from, IsLoadOf, IsLoa
 use crate::answer::{Answer, ChannelsChecked, Checked, Comparison};
 use crate::comparison::compared;
 use crate::sending::total_len;
+use mig_load_types::{Fault, LoadFault, Loaded, Origin};
 use mig_mem::{MAX_TOTAL, Memory};
 use mig_packet::OpenGate;
 use mig_relay::load_multi;
 use mig_scenario::{Layout, Played, ScenarioFault, Senders, Texts, judge, play};
 use mig_send::Sent;
-use mig_single_load::{Fault, LoadFault, Loaded, Origin, load_single};
+use mig_single_load::load_single;
 use std::alloc::Allocator;
 use std::sync::Wait;
 use std::thread::Threads;

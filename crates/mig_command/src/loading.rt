@@ -2,7 +2,8 @@
 
 ghost use Rattle.std.specs.Prelude.{◌≡◌, ◌≤◌, ◌^◌, replicate, Some, IfOk, IfErr, vec_len};
 ghost use Rattle.mig_answer.specs.MultiLoad.{as_verdict};
-ghost use Rattle.mig_session.specs.Session.{HasSource, answer_in, count_of, no_count};
+ghost use Rattle.mig_session.specs.Session.{answer_in};
+ghost use Rattle.mig_sources.specs.Sources.{HasSource, count_of, no_count};
 ghost use Rattle.mig_command.specs.Answer.{unloaded_of};
 ghost use Rattle.mig_command.specs.Feeding.{OthersStay};
 
@@ -12,11 +13,12 @@ use crate::files::{channel_name, open, read_file};
 use crate::request::LoadRequest;
 use mig_answer::Verdict;
 use mig_image::BUFFER_ROOM;
+use mig_load_types::{Fault, LoadFault, Loaded, Origin};
 use mig_mem::{Memory, NoMemory};
 use mig_packet::OpenGate;
 use mig_relay::load_multi;
 use mig_session::{Counted, PumpFault, Session, Source, pump};
-use mig_single_load::{Fault, LoadFault, Loaded, Origin, load_single};
+use mig_single_load::load_single;
 use std::alloc::Allocator;
 use std::fs::Files;
 use std::sync::Wait;

@@ -9,8 +9,8 @@ use crate::answer::{Answer, ChannelsChecked, Checked, Comparison};
 use crate::fault::ToolFault;
 use arrayvec::ArrayVec;
 use itoa::Buffer;
+use mig_load_types::{LoadFault, Origin};
 use mig_scenario::ScenarioFault;
-use mig_single_load::{LoadFault, Origin};
 use std::io::{self, Write};
 
 /// The most bytes of an answer's lines. The longest are those of a check on channels whose memories

@@ -35,15 +35,15 @@ use Rattle.mig_assemble.proofs.Bags.{SameBag, bag_permutation, bag_length, bag_b
 use Rattle.mig_assemble.proofs.OrderFree.{last_at-same, lawful_once}
 use Rattle.mig_assemble.proofs.Lawful.{lawful_lies_right}
 use Rattle.mig_assemble.proofs.Putting.{put_after}
-use Rattle.mig_single_load.specs.Settings.{main_of, for_table, channel_of}
-use Rattle.mig_single_load.specs.declared.settings.LoadSettings.{LoadSettings}
+use Rattle.mig_load_types.specs.Settings.{main_of, for_table, channel_of}
+use Rattle.mig_load_types.specs.declared.settings.LoadSettings.{LoadSettings}
 use Rattle.mig_answer.specs.Texts.{Text, Readings, IsMainReading}
 use Rattle.mig_answer.specs.Rounds.{record_pages_at, channel_packets_at, packets_at, base_at, refusal_at, pages_at, places_in_rounds}
 use Rattle.mig_answer.specs.Status.{is_whole}
 use Rattle.mig_answer.specs.MultiLoad.{Standing, passes, sources_at, hello_ids, repeated_hello}
 use Rattle.mig_answer.proofs.Putting.{packets_counted, base_more}
 use Rattle.mig_stream.specs.Reader.{Stands, HasRound}
-use Rattle.mig_session.specs.declared.counts.Count.{Count}
+use Rattle.mig_sources.specs.declared.counts.Count.{Count}
 use Rattle.mig_in_place.specs.Answer.{rounds_onto}
 use Rattle.mig_packet.specs.PacketHead.{as_zeros, offsets_in}
 use Rattle.mig_in_place.specs.Round.{KeptRound, Keeps, AlsoKeeps}

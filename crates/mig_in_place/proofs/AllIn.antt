@@ -24,8 +24,8 @@ use Rattle.mig_assemble.specs.Arrivals.{packets_in}
 use Rattle.mig_assemble.proofs.Bags.{bag_permutation, bag_length}
 use Rattle.mig_assemble.proofs.Elements.{contains_here, contains_later}
 use Rattle.mig_assemble.proofs.Putting.{put_after}
-use Rattle.mig_single_load.specs.Settings.{for_table, channel_of}
-use Rattle.mig_single_load.specs.declared.settings.LoadSettings.{LoadSettings}
+use Rattle.mig_load_types.specs.Settings.{for_table, channel_of}
+use Rattle.mig_load_types.specs.declared.settings.LoadSettings.{LoadSettings}
 use Rattle.mig_answer.specs.declared.verdict.Verdict.TheVariants.{Done}
 use Rattle.mig_answer.specs.declared.status.Status.{Status}
 use Rattle.mig_answer.specs.declared.status.Status.TheVariants.{Whole}

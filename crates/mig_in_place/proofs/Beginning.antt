@@ -8,21 +8,20 @@ use Rattle.mig_mem.specs.PageSize.{IsPageSize}
 use Rattle.mig_mem.specs.First.{first_some}
 use Rattle.mig_mem.specs.RamTable.{RamTable, IsTable}
 use Rattle.mig_mem.specs.Image.{Image, IsImage}
-use Rattle.mig_stream.specs.declared.item.StreamState.TheVariants.{Reading}
 use Rattle.mig_stream.specs.Progress.{StreamProgress, start}
 use Rattle.mig_stream.specs.Reading.{StreamReading}
 use Rattle.mig_stream.proofs.Feeding.{reads_short}
 use Rattle.mig_packet.specs.Reading.{Settings}
 use Rattle.mig_packet.specs.Paging.{none_given}
-use Rattle.mig_single_load.specs.Settings.{main_of, channel_of, for_table, mode_of}
-use Rattle.mig_single_load.specs.declared.settings.LoadSettings.{LoadSettings}
+use Rattle.mig_load_types.specs.Settings.{main_of, channel_of, for_table, mode_of}
+use Rattle.mig_load_types.specs.declared.settings.LoadSettings.{LoadSettings}
 use Rattle.mig_answer.specs.declared.verdict.Verdict.{Verdict}
 use Rattle.mig_answer.specs.declared.verdict.Verdict.TheVariants.{Running}
 use Rattle.mig_answer.specs.Rounds.{base_at}
 use Rattle.mig_answer.specs.Texts.{Readings, no_text, no_texts}
 use Rattle.mig_answer.proofs.OneAnswer.{some_readings}
 use Rattle.mig_answer.proofs.ToldSources.{told_at}
-use Rattle.mig_session.proofs.Sessions.{nothing_read, main_nothing}
+use Rattle.mig_sources.proofs.First.{nothing_read, main_nothing}
 use Rattle.mig_in_place.specs.Round.{Keeps}
 use Rattle.mig_in_place.specs.Sources.{KeptMain, KeptChannel, HoldsMain, HoldsChannel, IsChannelOf, HasHelloAlone}
 use Rattle.mig_in_place.specs.Session.{InPlaceLoad, Loading, Loads, StandsFor, IsMainOf}

@@ -14,8 +14,8 @@ use Rattle.mig_stream.specs.Reader.{HasState, IsClosedAt, HasClosedAt}
 use Rattle.mig_stream.proofs.Feeding.{reads_short}
 use Rattle.mig_stream.proofs.Later.{Reads-more}
 use Rattle.mig_stream.proofs.Unique.{one_reading}
-use Rattle.mig_single_load.specs.Settings.{for_table, main_of}
-use Rattle.mig_single_load.specs.declared.settings.LoadSettings.{LoadSettings}
+use Rattle.mig_load_types.specs.Settings.{for_table, main_of}
+use Rattle.mig_load_types.specs.declared.settings.LoadSettings.{LoadSettings}
 use Rattle.mig_answer.specs.declared.status.Status.TheVariants.{Whole, Pending}
 use Rattle.mig_answer.specs.Status.{status_at, stream_end}
 use Rattle.mig_answer.specs.Texts.{Texts, Readings}
@@ -23,7 +23,7 @@ use Rattle.mig_answer.specs.MultiLoad.{main_at, channels_at, passes}
 use Rattle.mig_answer.proofs.Statuses.{status_whole, status_end, stream_ends}
 use Rattle.mig_answer.proofs.Judged.{IsWhole, has_round, whole_at}
 use Rattle.mig_answer.proofs.OneAnswer.{same_readings}
-use Rattle.mig_session.specs.declared.source.Source.TheVariants as source
+use Rattle.mig_sources.specs.declared.source.Source.TheVariants as source
 use Rattle.mig_in_place.specs.Session.{InPlaceLoad, StandsFor, TakesBytes}
 use Rattle.mig_in_place.specs.Turns.{KeptSource, FailsToRead, HasBytes, without_first, Takes, EndsWithTaken, HasBehind}
 

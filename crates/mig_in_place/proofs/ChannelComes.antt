@@ -14,14 +14,14 @@ use Rattle.mig_stream.specs.PageRecord.{page_of}
 use Rattle.mig_stream.specs.Reading.{StreamReading}
 use Rattle.mig_packet.specs.Reading.{Settings}
 use Rattle.mig_packet.specs.Paging.{GivenSoFar, none_given}
-use Rattle.mig_single_load.specs.Settings.{for_table, channel_of}
-use Rattle.mig_single_load.specs.declared.settings.LoadSettings.{LoadSettings}
+use Rattle.mig_load_types.specs.Settings.{for_table, channel_of}
+use Rattle.mig_load_types.specs.declared.settings.LoadSettings.{LoadSettings}
 use Rattle.mig_answer.specs.Texts.{Text, Texts, Readings, no_text, with_piece}
 use Rattle.mig_answer.specs.Growing.{GoesOn}
 use Rattle.mig_answer.proofs.OneAnswer.{some_readings, same_main}
 use Rattle.mig_answer.proofs.Growing.{ReadingsStay, readings_stay, pass_still, base_still}
-use Rattle.mig_session.specs.declared.source.Source.TheVariants as source
-use Rattle.mig_session.proofs.KeptSources.{zip_at, zip_set}
+use Rattle.mig_sources.specs.declared.source.Source.TheVariants as source
+use Rattle.mig_sources.proofs.Zips.{zip_at, zip_set}
 use Rattle.mig_in_place.specs.declared.main_stream.SizeList.{SizeList}
 use Rattle.mig_in_place.specs.declared.main_stream.SizeList.TheVariants as list
 use Rattle.mig_in_place.specs.Answer.{rounds_onto}

@@ -12,7 +12,7 @@ use Rattle.mig_packet.specs.Paging.{OpenPacket, GivenSoFar, PageHolder, Gives, H
 use Rattle.mig_packet.proofs.Exists.{one_reading_law}
 use Rattle.mig_answer.specs.declared.status.Status.{Status}
 use Rattle.mig_answer.specs.declared.status.Status.TheVariants.{Whole}
-use Rattle.mig_single_load.specs.declared.fault.Fault.{Fault}
+use Rattle.mig_load_types.specs.declared.fault.Fault.{Fault}
 use Rattle.mig_answer.specs.Status.{channel_status, channel_end, is_pending, fault_of}
 use Rattle.mig_answer.specs.Texts.{Text, over}
 use Rattle.mig_answer.proofs.Statuses.{status_whole, status_end}

@@ -5,7 +5,7 @@ use Rattle.std.proofs.lemmas.Bool.{cases_eq}
 use Rattle.mig_mem.specs.RamTable.{Block, RamTable}
 use Rattle.mig_mem.specs.Image.{Image}
 use Rattle.mig_stream.specs.Reading.{StreamReading}
-use Rattle.mig_single_load.specs.Settings.{for_table}
+use Rattle.mig_load_types.specs.Settings.{for_table}
 use Rattle.mig_single_load.specs.InPlace.{IsOfOwnTable, IsOfOtherTable}
 use Rattle.mig_answer.specs.Texts.{Readings}
 use Rattle.mig_answer.specs.MultiLoad.{verdict_at, IsFirstStop}

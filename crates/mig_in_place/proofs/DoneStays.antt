@@ -8,8 +8,8 @@ use Rattle.mig_mem.specs.Image.{Page, Image, content_at}
 use Rattle.mig_mem.specs.Round.{with_rounds}
 use Rattle.mig_stream.specs.declared.item.StreamState.TheVariants.{Reading, Closed}
 use Rattle.mig_stream.specs.Reading.{StreamReading}
-use Rattle.mig_single_load.specs.Settings.{for_table}
-use Rattle.mig_single_load.specs.declared.settings.LoadSettings.{LoadSettings}
+use Rattle.mig_load_types.specs.Settings.{for_table}
+use Rattle.mig_load_types.specs.declared.settings.LoadSettings.{LoadSettings}
 use Rattle.mig_single_load.proofs.Onto.{apart}
 use Rattle.mig_answer.specs.declared.verdict.Verdict.TheVariants.{Done}
 use Rattle.mig_answer.specs.Status.{stream_end, is_clean}

@@ -14,9 +14,9 @@ use Rattle.mig_stream.specs.Reading.{StreamReading, IsReading as IsStreamReading
 use Rattle.mig_stream.proofs.Exists.{one_reading_law}
 use Rattle.mig_packet.specs.Reading.{Settings, ChannelReading, IsReading}
 use Rattle.mig_single_load.specs.InPlace.{IsOfOwnTable}
-use Rattle.mig_single_load.specs.Settings.{main_of, for_table, channel_of}
-use Rattle.mig_single_load.specs.declared.fault.Origin.TheVariants as origin
-use Rattle.mig_single_load.specs.declared.settings.LoadSettings.{LoadSettings}
+use Rattle.mig_load_types.specs.Settings.{main_of, for_table, channel_of}
+use Rattle.mig_load_types.specs.declared.fault.Origin.TheVariants as origin
+use Rattle.mig_load_types.specs.declared.settings.LoadSettings.{LoadSettings}
 use Rattle.mig_answer.specs.declared.verdict.Verdict.TheVariants.{Running}
 use Rattle.mig_answer.specs.Status.{channel_end, stream_end, main_status, channel_status, is_whole}
 use Rattle.mig_answer.specs.Texts.{Text, Texts, Readings, no_text, over}
@@ -27,12 +27,12 @@ use Rattle.mig_answer.proofs.ToldSources.{told_at}
 use Rattle.mig_answer.proofs.GrowingChannels.{same_rounds}
 use Rattle.mig_answer.proofs.OneAnswer.{same_readings}
 use Rattle.mig_answer.specs.Growing.{GoesOn}
-use Rattle.mig_session.specs.declared.counts.Count.{Count}
-use Rattle.mig_session.specs.declared.source.Source.{Source}
-use Rattle.mig_session.specs.declared.source.Source.TheVariants as source
-use Rattle.mig_session.specs.Session.{end_step, no_count}
-use Rattle.mig_session.proofs.Telling.{due_sources}
-use Rattle.mig_session.proofs.Sessions.{SameBytes, whole_below, all_bytes, same_at}
+use Rattle.mig_sources.specs.declared.counts.Count.{Count}
+use Rattle.mig_sources.specs.declared.source.Source.{Source}
+use Rattle.mig_sources.specs.declared.source.Source.TheVariants as source
+use Rattle.mig_sources.specs.Sources.{end_step, no_count}
+use Rattle.mig_sources.proofs.Due.{due_sources, whole_below}
+use Rattle.mig_sources.proofs.Steps.{SameBytes, all_bytes, same_at}
 use Rattle.mig_in_place.specs.Sources.{KeptChannel, IsChannelOf, channel_count}
 use Rattle.mig_in_place.specs.Session.{InPlaceLoad, Loading, Loads, Stands, IsDue}
 use Rattle.mig_in_place.proofs.Waiting.{running_waits, not_all_whole}

@@ -28,11 +28,11 @@ use Rattle.mig_packet.specs.Reading.{Settings, ChannelReading, IsReading, state_
 use Rattle.mig_packet.specs.Reading as channel
 use Rattle.mig_packet.proofs.Exists.{one_reading_law as channel_law}
 use Rattle.mig_assemble.proofs.Elements.{contains_cases}
-use Rattle.mig_single_load.specs.Settings.{for_table, main_of, channel_of, mode_of}
-use Rattle.mig_single_load.specs.declared.settings.LoadSettings.{LoadSettings}
-use Rattle.mig_single_load.specs.declared.settings.RoundEnd.{RoundEnd}
-use Rattle.mig_single_load.specs.declared.settings.RoundEnd.TheVariants.{Flush as by_flush, Eos as by_eos, AsShown as as_shown}
-use Rattle.mig_single_load.specs.declared.fault.Origin.TheVariants as origin
+use Rattle.mig_load_types.specs.Settings.{for_table, main_of, channel_of, mode_of}
+use Rattle.mig_load_types.specs.declared.settings.LoadSettings.{LoadSettings}
+use Rattle.mig_load_types.specs.declared.settings.RoundEnd.{RoundEnd}
+use Rattle.mig_load_types.specs.declared.settings.RoundEnd.TheVariants.{Flush as by_flush, Eos as by_eos, AsShown as as_shown}
+use Rattle.mig_load_types.specs.declared.fault.Origin.TheVariants as origin
 use Rattle.mig_answer.specs.Status.{stream_end, channel_end, channel_status, is_clean}
 use Rattle.mig_answer.specs.Texts.{Text, IsMainReading}
 use Rattle.mig_answer.specs.Rounds.{pages_at}

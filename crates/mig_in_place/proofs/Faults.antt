@@ -4,7 +4,7 @@ use Rattle.std.specs.Prelude.{slice_get}
 use Rattle.std.specs.List.{AllZip}
 use Rattle.mig_mem.specs.PageSize.{IsPageSize}
 use Rattle.mig_packet.specs.Reading.{Settings, ChannelReading, IsReading}
-use Rattle.mig_single_load.specs.declared.fault.Fault.{Fault}
+use Rattle.mig_load_types.specs.declared.fault.Fault.{Fault}
 use Rattle.mig_answer.specs.Status.{channel_end, fault_of}
 use Rattle.mig_answer.specs.Texts.{Text}
 use Rattle.mig_in_place.specs.Sources.{KeptChannel, HasGiven, TellsChannelFault}

@@ -7,11 +7,10 @@ use Rattle.mig_answer.specs.Texts.{Text, Texts, no_text, with_piece}
 use Rattle.mig_mem.specs.Image.{Image}
 use Rattle.mig_in_place.specs.Sources.{KeptChannel, channel_count, counts_of}
 use Rattle.mig_in_place.specs.Session.{InPlaceLoad, Loading, Lacks, LacksBehind}
-use Rattle.mig_session.specs.declared.counts.Count.{Count}
-use Rattle.mig_session.specs.declared.source.Source.{Source}
-use Rattle.mig_session.specs.declared.source.Source.TheVariants as source
-use Rattle.mig_session.specs.Sources.{Counts}
-use Rattle.mig_session.specs.Session.{feed_step, with_fed, no_count, HasSource}
+use Rattle.mig_sources.specs.declared.counts.Count.{Count}
+use Rattle.mig_sources.specs.declared.source.Source.{Source}
+use Rattle.mig_sources.specs.declared.source.Source.TheVariants as source
+use Rattle.mig_sources.specs.Sources.{Counts, feed_step, with_fed, no_count, HasSource}
 
 -- ---- bytes
 

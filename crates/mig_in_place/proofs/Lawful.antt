@@ -20,10 +20,10 @@ use Rattle.mig_assemble.specs.Arrivals.{records_in, packets_in, refusal_of, IsJu
 use Rattle.mig_assemble.proofs.Bags.{bag_permutation}
 use Rattle.mig_assemble.proofs.OrderFree.{refusal_bag}
 use Rattle.mig_assemble.proofs.Heads.{heads_judged}
-use Rattle.mig_single_load.specs.Settings.{main_of, for_table, channel_of}
-use Rattle.mig_single_load.specs.declared.settings.LoadSettings.{LoadSettings}
-use Rattle.mig_single_load.specs.declared.fault.Origin.TheVariants as origin
-use Rattle.mig_single_load.specs.declared.fault.Fault.TheVariants as fault
+use Rattle.mig_load_types.specs.Settings.{main_of, for_table, channel_of}
+use Rattle.mig_load_types.specs.declared.settings.LoadSettings.{LoadSettings}
+use Rattle.mig_load_types.specs.declared.fault.Origin.TheVariants as origin
+use Rattle.mig_load_types.specs.declared.fault.Fault.TheVariants as fault
 use Rattle.mig_answer.specs.Status.{channel_end, stream_end, channel_status, is_whole}
 use Rattle.mig_answer.specs.Texts.{Text, Readings, AreReadings}
 use Rattle.mig_answer.specs.Rounds.{record_pages_at, channel_packets_at, base_at, refusal_at, refusal_of as refusal_of_table}
@@ -33,8 +33,7 @@ use Rattle.mig_answer.proofs.ToldSources.{told_at}
 use Rattle.mig_answer.proofs.Judged.{IsWhole}
 use Rattle.mig_answer.proofs.OneAnswer.{same_readings}
 use Rattle.mig_answer.proofs.GrowingMain.{main_table_first}
-use Rattle.mig_session.proofs.Telling.{due_sources, due_passes, due_refused}
-use Rattle.mig_session.proofs.Sessions.{whole_below}
+use Rattle.mig_sources.proofs.Due.{due_sources, due_passes, due_refused, whole_below}
 use Rattle.mig_in_place.specs.Answer.{rounds_onto}
 use Rattle.mig_packet.specs.PacketHead.{as_zeros}
 use Rattle.mig_in_place.specs.Round.{KeptRound, KeepsSame}

@@ -20,10 +20,10 @@ use Rattle.mig_packet.specs.Reading.{Settings}
 use Rattle.mig_packet.specs.Paging.{GivenSoFar, OpenPacket}
 use Rattle.mig_assemble.proofs.Putting.{put_none}
 use Rattle.mig_single_load.specs.InPlace.{IsOfOwnTable}
-use Rattle.mig_single_load.specs.Settings.{main_of, for_table, channel_of}
-use Rattle.mig_single_load.specs.declared.fault.Origin.TheVariants as origin
-use Rattle.mig_single_load.specs.declared.fault.Fault.TheVariants as fault
-use Rattle.mig_single_load.specs.declared.settings.LoadSettings.{LoadSettings}
+use Rattle.mig_load_types.specs.Settings.{main_of, for_table, channel_of}
+use Rattle.mig_load_types.specs.declared.fault.Origin.TheVariants as origin
+use Rattle.mig_load_types.specs.declared.fault.Fault.TheVariants as fault
+use Rattle.mig_load_types.specs.declared.settings.LoadSettings.{LoadSettings}
 use Rattle.mig_answer.specs.Texts.{Text, Texts, Readings, AreReadings, with_piece}
 use Rattle.mig_answer.specs.Growing.{GoesOn}
 use Rattle.mig_answer.specs.Rounds.{record_pages_at}

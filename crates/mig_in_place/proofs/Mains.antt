@@ -18,11 +18,11 @@ use Rattle.mig_stream.specs.Reader.{Reader, Stands, StepsOn, Tells, nothing_yet,
 use Rattle.mig_stream.proofs.Exists.{one_reading_law}
 use Rattle.mig_stream.proofs.Limits.{limits_law}
 use Rattle.mig_stream.proofs.FoundList.{no_some}
-use Rattle.mig_single_load.specs.Settings.{main_of}
-use Rattle.mig_single_load.specs.declared.settings.LoadSettings.{LoadSettings}
+use Rattle.mig_load_types.specs.Settings.{main_of}
+use Rattle.mig_load_types.specs.declared.settings.LoadSettings.{LoadSettings}
 use Rattle.mig_answer.specs.declared.status.Status.{Status}
 use Rattle.mig_answer.specs.declared.status.Status.TheVariants.{Whole}
-use Rattle.mig_single_load.specs.declared.fault.Fault.{Fault}
+use Rattle.mig_load_types.specs.declared.fault.Fault.{Fault}
 use Rattle.mig_answer.specs.Status.{stream_end, fault_of}
 use Rattle.mig_answer.specs.Texts.{Text, IsMainReading, no_text, with_piece, over}
 use Rattle.mig_answer.proofs.Statuses.{status_whole, status_end}

@@ -25,8 +25,8 @@ use Rattle.mig_packet.specs.Paging.{OpenPacket, GivenSoFar, IsOpenPacket, bytes_
 use Rattle.mig_packet.proofs.Later.{IsLater-front}
 use Rattle.mig_assemble.specs.Judging.{places_of}
 use Rattle.mig_assemble.proofs.AddingPlaces.{has_place-append}
-use Rattle.mig_single_load.specs.declared.settings.LoadSettings.{LoadSettings}
-use Rattle.mig_single_load.specs.Settings.{main_of}
+use Rattle.mig_load_types.specs.declared.settings.LoadSettings.{LoadSettings}
+use Rattle.mig_load_types.specs.Settings.{main_of}
 use Rattle.mig_answer.specs.Texts.{Text, IsMainReading}
 use Rattle.mig_in_place.specs.Named.{MainNames, ChannelNames, HasPacket, round_so_far, begun, packet_places}
 use Rattle.mig_in_place.specs.Sources.{KeptMain, KeptChannel, HoldsMain, HoldsChannel, heads_given, heads_begun, packets_given, head_places, rounds_come}

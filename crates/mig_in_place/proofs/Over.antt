@@ -12,8 +12,8 @@ use Rattle.mig_stream.specs.Reading.{StreamReading, IsReading as IsStreamReading
 use Rattle.mig_stream.proofs.Exists.{one_reading_law as stream_law}
 use Rattle.mig_packet.specs.Reading as channel
 use Rattle.mig_assemble.proofs.Elements.{contains_cases, contains_here, contains_later}
-use Rattle.mig_single_load.specs.Settings.{for_table, main_of, channel_of}
-use Rattle.mig_single_load.specs.declared.settings.LoadSettings.{LoadSettings}
+use Rattle.mig_load_types.specs.Settings.{for_table, main_of, channel_of}
+use Rattle.mig_load_types.specs.declared.settings.LoadSettings.{LoadSettings}
 use Rattle.mig_single_load.specs.InPlace.{IsOfOwnTable, IsOfOtherTable}
 use Rattle.mig_single_load.proofs.Onto.{apart}
 use Rattle.mig_answer.specs.declared.verdict.Verdict.{Verdict}
@@ -23,10 +23,10 @@ use Rattle.mig_answer.specs.Rounds.{memory_at}
 use Rattle.mig_answer.specs.MultiLoad.{Answer, IsAnswer, passes}
 use Rattle.mig_answer.proofs.OneAnswer.{some_readings, same_readings}
 use Rattle.mig_answer.proofs.Growing.{ReadingsStay, readings_stay, pass_still, answers_law}
-use Rattle.mig_session.specs.declared.source.Source.{Source}
-use Rattle.mig_session.specs.declared.source.Source.TheVariants as source
-use Rattle.mig_session.specs.Session.{end_step}
-use Rattle.mig_session.proofs.Sessions.{ended_goes_on}
+use Rattle.mig_sources.specs.declared.source.Source.{Source}
+use Rattle.mig_sources.specs.declared.source.Source.TheVariants as source
+use Rattle.mig_sources.specs.Sources.{end_step}
+use Rattle.mig_sources.proofs.Steps.{ended_goes_on}
 use Rattle.mig_in_place.specs.Named.{ChannelNames, SomeChannelNames, IsNamed}
 use Rattle.mig_in_place.specs.Answer.{rounds_onto, HasRoundsOnto, IsInPlaceAnswer, IsInPlaceWithoutMemory}
 use Rattle.mig_in_place.specs.Missing.{HasNamed}

@@ -8,8 +8,8 @@ use Rattle.mig_mem.specs.RamTable.{RamTable}
 use Rattle.mig_mem.specs.Image.{Image}
 use Rattle.mig_packet.specs.Reading.{Settings}
 use Rattle.mig_packet.specs.Paging.{GivenSoFar, PageHolder, Gives}
-use Rattle.mig_single_load.specs.Settings.{main_of, channel_of}
-use Rattle.mig_single_load.specs.declared.settings.LoadSettings.{LoadSettings}
+use Rattle.mig_load_types.specs.Settings.{main_of, channel_of}
+use Rattle.mig_load_types.specs.declared.settings.LoadSettings.{LoadSettings}
 use Rattle.mig_answer.specs.Texts.{Text, Texts, no_text, over}
 use Rattle.mig_in_place.specs.Sources.{KeptMain, KeptChannel, KeptSources, HoldsChannel, HasGiven, StandsAt}
 use Rattle.mig_in_place.specs.Session.{InPlaceLoad, IsRunning, HaveTaken}

@@ -1,9 +1,9 @@
 -- A load that stands for texts doesn't have the verdict of a refused allocation.
 use Rattle.std.proofs.Common.{ℕ, ◌≡◌, ◌≢◌, sym, ap, ◌∙◌, inl, inr}
 use Rattle.mig_mem.specs.Image.{Image}
-use Rattle.mig_single_load.specs.declared.fault.Origin.TheVariants as origin
-use Rattle.mig_single_load.specs.declared.fault.Fault.TheVariants as fault
-use Rattle.mig_single_load.specs.declared.fault.LoadFault.{LoadFault}
+use Rattle.mig_load_types.specs.declared.fault.Origin.TheVariants as origin
+use Rattle.mig_load_types.specs.declared.fault.Fault.TheVariants as fault
+use Rattle.mig_load_types.specs.declared.fault.LoadFault.{LoadFault}
 use Rattle.mig_answer.specs.MultiLoad.{failed}
 use Rattle.mig_in_place.specs.Session.{InPlaceLoad, Loading, Stands}
 use Rattle.mig_answer.proofs.Never.{same_found, never_refused}

@@ -5,13 +5,13 @@ use Rattle.std.proofs.lemmas.Bool.{false≢true, cases_Bool}
 use Rattle.std.proofs.lemmas.List.{length-map}
 use Rattle.std.proofs.lemmas.Slice.Zip.{AllZip-long}
 use Rattle.mig_packet.specs.Reading.{ChannelReading}
-use Rattle.mig_single_load.specs.Settings.{for_table}
+use Rattle.mig_load_types.specs.Settings.{for_table}
 use Rattle.mig_answer.specs.declared.status.Status.TheVariants.{Pending}
 use Rattle.mig_answer.specs.Status.{main_status, channel_status, is_pending}
 use Rattle.mig_answer.specs.MultiLoad.{channels_at}
 use Rattle.mig_answer.proofs.GrowingMain.{main_table_first}
-use Rattle.mig_session.specs.declared.source.Source.TheVariants as source
-use Rattle.mig_session.specs.Session.{count_in}
+use Rattle.mig_sources.specs.declared.source.Source.TheVariants as source
+use Rattle.mig_sources.specs.Sources.{count_in}
 use Rattle.mig_in_place.specs.Session.{IsHeldBack}
 use Rattle.mig_in_place.specs.Law.{RunningTakesSome}
 use Rattle.mig_in_place.proofs.Done.{own_or_other}

@@ -8,15 +8,15 @@ use Rattle.mig_mem.specs.Image.{Image}
 use Rattle.mig_packet.specs.declared.state.ChannelState.TheVariants as channel_state
 use Rattle.mig_packet.specs.Reading.{Settings, ChannelReading, IsReading}
 use Rattle.mig_packet.specs.Paging.{none_given}
-use Rattle.mig_single_load.specs.Settings.{for_table, channel_of}
-use Rattle.mig_single_load.specs.declared.settings.LoadSettings.{LoadSettings}
+use Rattle.mig_load_types.specs.Settings.{for_table, channel_of}
+use Rattle.mig_load_types.specs.declared.settings.LoadSettings.{LoadSettings}
 use Rattle.mig_answer.specs.declared.verdict.Verdict.TheVariants.{Running}
 use Rattle.mig_answer.specs.declared.status.Status.{Status}
 use Rattle.mig_answer.specs.declared.status.Status.TheVariants.{Pending}
 use Rattle.mig_answer.specs.Status.{main_status, channel_status, is_pending}
 use Rattle.mig_answer.specs.Texts.{Text, Readings, no_text}
 use Rattle.mig_answer.proofs.OneAnswer.{same_readings}
-use Rattle.mig_session.specs.declared.source.Source.TheVariants as source
+use Rattle.mig_sources.specs.declared.source.Source.TheVariants as source
 use Rattle.mig_in_place.specs.declared.main_stream.SizeList.{SizeList}
 use Rattle.mig_in_place.specs.declared.main_stream.SizeList.TheVariants as list
 use Rattle.mig_in_place.specs.Sources.{KeptChannel, HoldsChannel, TellsMainStatus, TellsTakes, TellsList, IsListAt}

@@ -14,10 +14,10 @@ use Rattle.mig_packet.specs.Reading.{Settings, ChannelReading, IsReading}
 use Rattle.mig_packet.specs.Paging.{GivenSoFar}
 use Rattle.mig_assemble.specs.Judging.{places_of}
 use Rattle.mig_assemble.proofs.Elements.{contains_here, contains_later}
-use Rattle.mig_single_load.specs.Settings.{for_table, channel_of}
-use Rattle.mig_single_load.specs.declared.fault.Origin.TheVariants as origin
-use Rattle.mig_single_load.specs.declared.fault.Fault.TheVariants as fault
-use Rattle.mig_single_load.specs.declared.settings.LoadSettings.{LoadSettings}
+use Rattle.mig_load_types.specs.Settings.{for_table, channel_of}
+use Rattle.mig_load_types.specs.declared.fault.Origin.TheVariants as origin
+use Rattle.mig_load_types.specs.declared.fault.Fault.TheVariants as fault
+use Rattle.mig_load_types.specs.declared.settings.LoadSettings.{LoadSettings}
 use Rattle.mig_answer.specs.declared.status.Status.{Status}
 use Rattle.mig_answer.specs.declared.verdict.Verdict.{Verdict}
 use Rattle.mig_answer.specs.Status.{main_status, channel_status}
@@ -27,7 +27,7 @@ use Rattle.mig_answer.specs.MultiLoad.{Standing, main_standing, main_at, channel
 use Rattle.mig_answer.specs.Told.{standings}
 use Rattle.mig_answer.proofs.ToldSources.{told_at}
 use Rattle.mig_answer.proofs.OneAnswer.{same_readings}
-use Rattle.mig_session.proofs.Telling.{told_here}
+use Rattle.mig_sources.proofs.Due.{told_here}
 use Rattle.mig_in_place.specs.Named.{SomeChannelNames, IsNamed}
 use Rattle.mig_in_place.specs.Answer.{HasRoundsOnto, IsInPlaceWithoutMemory, rounds_onto}
 use Rattle.mig_in_place.specs.Sources.{KeptChannel, HoldsChannel, TellsMainStatus, TellsChannelStatus, TellsHello, heads_given, head_places, named_places}

@@ -10,17 +10,16 @@ use Rattle.std.proofs.lemmas.List.{append-nil, drop-take, take-append-drop, take
 use Rattle.std.proofs.lemmas.Slice.Zip.{AllZip-long, length-zip}
 use Rattle.mig_mem.specs.Image.{Image}
 use Rattle.mig_stream.specs.Reading.{Settings}
-use Rattle.mig_single_load.specs.Settings.{for_table, main_of}
-use Rattle.mig_single_load.specs.declared.settings.LoadSettings.{LoadSettings}
+use Rattle.mig_load_types.specs.Settings.{for_table, main_of}
+use Rattle.mig_load_types.specs.declared.settings.LoadSettings.{LoadSettings}
 use Rattle.mig_answer.specs.declared.verdict.Verdict.{Verdict}
 use Rattle.mig_answer.specs.declared.verdict.Verdict.TheVariants.{Running}
 use Rattle.mig_answer.specs.Texts.{Text, Texts, no_text, with_piece, over}
-use Rattle.mig_session.specs.declared.counts.Count.{Count}
-use Rattle.mig_session.specs.declared.source.Source.{Source}
-use Rattle.mig_session.specs.declared.source.Source.TheVariants as source
-use Rattle.mig_session.specs.Pumping.{piece_limit}
-use Rattle.mig_session.specs.Sources.{Counts}
-use Rattle.mig_session.specs.Session.{HasSource, count_of, no_count, with_count, at_source, feed_step, end_step}
+use Rattle.mig_sources.specs.declared.counts.Count.{Count}
+use Rattle.mig_sources.specs.declared.source.Source.{Source}
+use Rattle.mig_sources.specs.declared.source.Source.TheVariants as source
+use Rattle.mig_sources.specs.Reads.{piece_limit}
+use Rattle.mig_sources.specs.Sources.{Counts, HasSource, count_of, no_count, with_count, at_source, feed_step, end_step}
 use Rattle.mig_in_place.specs.declared.source_reader.Turn.{Turn}
 use Rattle.mig_in_place.specs.declared.source_reader.Turn.TheVariants as turn
 use Rattle.mig_in_place.specs.declared.source_reader.TurnFault.{TurnFault}

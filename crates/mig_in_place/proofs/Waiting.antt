@@ -15,7 +15,7 @@ use Rattle.mig_packet.specs.Reading as channel
 use Rattle.mig_packet.proofs.Exists.{one_reading_law as channel_law}
 use Rattle.mig_packet.proofs.Heads.{same_map}
 use Rattle.mig_assemble.specs.Judging.{all_round_pages}
-use Rattle.mig_single_load.specs.declared.fault.Origin.TheVariants as origin
+use Rattle.mig_load_types.specs.declared.fault.Origin.TheVariants as origin
 use Rattle.mig_answer.specs.declared.verdict.Verdict.TheVariants.{Running}
 use Rattle.mig_answer.specs.declared.status.Status.{Status}
 use Rattle.mig_answer.specs.declared.status.Status.TheVariants.{Whole, Clean, Bad, Pending}
@@ -28,7 +28,8 @@ use Rattle.mig_answer.proofs.Statuses.{status_whole, stream_ends, channel_ends}
 use Rattle.mig_answer.proofs.Judged.{IsWhole, whole_at, settled_is_told}
 use Rattle.mig_answer.proofs.GrowingChannels.{ChannelStays, channel_stays, round_of_more}
 use Rattle.mig_answer.proofs.Growing.{ReadingsStay, none_passes, at_round}
-use Rattle.mig_session.proofs.Sessions.{whole_below, stays_same, all_same, one_goes}
+use Rattle.mig_sources.proofs.Due.{whole_below}
+use Rattle.mig_sources.proofs.Steps.{stays_same, all_same, one_goes}
 use Rattle.mig_in_place.proofs.Names.{stream_over, channel_over}
 
 -- ---- streams with more bytes

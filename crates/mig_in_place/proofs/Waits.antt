@@ -21,8 +21,8 @@ use Rattle.mig_stream.specs.Reading.{StreamReading, state_at}
 use Rattle.mig_stream.specs.Law.{StaysRead}
 use Rattle.mig_stream.proofs.Exists.{one_reading_law as stream_law}
 use Rattle.mig_packet.specs.Reading as channel
-use Rattle.mig_single_load.specs.Settings.{for_table, main_of, channel_of}
-use Rattle.mig_single_load.specs.declared.settings.LoadSettings.{LoadSettings}
+use Rattle.mig_load_types.specs.Settings.{for_table, main_of, channel_of}
+use Rattle.mig_load_types.specs.declared.settings.LoadSettings.{LoadSettings}
 use Rattle.mig_single_load.specs.InPlace.{IsOfOwnTable}
 use Rattle.mig_single_load.proofs.Onto.{apart}
 use Rattle.mig_answer.specs.declared.verdict.Verdict.TheVariants.{Running}
@@ -36,7 +36,7 @@ use Rattle.mig_answer.proofs.Statuses.{stream_ends, status_end, status_behind}
 use Rattle.mig_answer.proofs.Judged.{IsWhole, whole_at, has_round}
 use Rattle.mig_answer.proofs.OneAnswer.{some_readings, same_main}
 use Rattle.mig_answer.proofs.Growing.{ReadingsStay, readings_stay, pass_still, at_round, some_rounds}
-use Rattle.mig_session.specs.declared.source.Source.TheVariants as source
+use Rattle.mig_sources.specs.declared.source.Source.TheVariants as source
 use Rattle.mig_in_place.specs.Named.{MainNames, SomeChannelNames, IsNamed}
 use Rattle.mig_in_place.specs.Answer.{rounds_onto, IsInPlaceAnswer}
 use Rattle.mig_in_place.specs.Session.{TakesBytes, IsHeldBack}

@@ -1,5 +1,5 @@
 -- A load that keeps whole rounds: what the memory has after each step.
-use Rattle.std.proofs.Common.{ℕ, ◌≡◌, ◌+◌, ◌<◌, ◌≤◌, Bool, List, [], ◌∷◌, length, map, take, drop, refl, sym, ap, subst, ◌∙◌, arith}
+use Rattle.std.proofs.Common.{ℕ, ◌≡◌, ◌+◌, ◌≤◌, Bool, List, [], ◌∷◌, length, map, take, drop, refl, sym, ap, subst, ◌∙◌, arith}
 use Rattle.std.specs.Prelude.{IsFalse}
 use Rattle.std.specs.List.{AllZip}
 use Rattle.std.proofs.lemmas.List.{length-drop, get_or-set_same}
@@ -7,18 +7,17 @@ use Rattle.mig_mem.specs.PageSize.{IsPageSize}
 use Rattle.mig_mem.specs.Image.{Page, Image}
 use Rattle.mig_mem.specs.Round.{with_rounds}
 use Rattle.mig_packet.specs.Reading.{Settings}
-use Rattle.mig_single_load.specs.Settings.{for_table, channel_of}
-use Rattle.mig_single_load.specs.declared.settings.LoadSettings.{LoadSettings}
+use Rattle.mig_load_types.specs.Settings.{for_table, channel_of}
+use Rattle.mig_load_types.specs.declared.settings.LoadSettings.{LoadSettings}
 use Rattle.mig_answer.specs.Growing.{GoOn}
 use Rattle.mig_answer.specs.Texts.{Text, Texts}
 use Rattle.mig_answer.proofs.Growing.{readings_stay, pass_still}
 use Rattle.mig_answer.proofs.OneAnswer.{some_readings}
-use Rattle.mig_session.specs.declared.source.Source.{Source}
-use Rattle.mig_session.specs.declared.source.Source.TheVariants as source
-use Rattle.mig_session.specs.Sources.{Counts}
-use Rattle.mig_session.specs.declared.counts.Count.{Count}
-use Rattle.mig_session.specs.Session.{HasSource, no_count, count_of, count_in, counts_in, with_fed, feed_step}
-use Rattle.mig_session.proofs.Sessions.{fed_goes_on}
+use Rattle.mig_sources.specs.declared.source.Source.{Source}
+use Rattle.mig_sources.specs.declared.source.Source.TheVariants as source
+use Rattle.mig_sources.specs.Sources.{Counts, HasSource, no_count, count_of, count_in, counts_in, with_fed, feed_step}
+use Rattle.mig_sources.specs.declared.counts.Count.{Count}
+use Rattle.mig_sources.proofs.Steps.{fed_goes_on}
 use Rattle.mig_in_place.specs.Sources.{KeptChannel, KeptSources, HasGiven, channel_count, main_count, counts_of}
 use Rattle.mig_in_place.specs.Session.{InPlaceLoad, Loading, HaveTaken, Stands, StepsOn, IsJudged, JudgesOn, with_bytes}
 use Rattle.mig_in_place.specs.WholeRounds.{HasRoundsAlone}

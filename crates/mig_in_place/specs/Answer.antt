@@ -6,11 +6,11 @@ use Rattle.mig_mem.specs.declared.place.Place.{Place}
 use Rattle.mig_mem.specs.Place.{IsPlace}
 use Rattle.mig_mem.specs.Image.{Image, content_at}
 use Rattle.mig_mem.specs.Round.{with_rounds}
-use Rattle.mig_single_load.specs.Settings.{for_table}
+use Rattle.mig_load_types.specs.Settings.{for_table}
 use Rattle.mig_single_load.specs.InPlace.{IsOfOwnTable, IsOfOtherTable}
-use Rattle.mig_single_load.specs.declared.settings.LoadSettings.{LoadSettings}
-use Rattle.mig_single_load.specs.declared.fault.Origin.TheVariants as origin
-use Rattle.mig_single_load.specs.declared.fault.Fault.TheVariants as fault
+use Rattle.mig_load_types.specs.declared.settings.LoadSettings.{LoadSettings}
+use Rattle.mig_load_types.specs.declared.fault.Origin.TheVariants as origin
+use Rattle.mig_load_types.specs.declared.fault.Fault.TheVariants as fault
 use Rattle.mig_answer.specs.declared.verdict.Verdict.{Verdict}
 use Rattle.mig_answer.specs.Texts.{Texts, Readings, AreReadings}
 use Rattle.mig_answer.specs.Rounds.{pages_at}

@@ -4,7 +4,7 @@ use Rattle.mig_mem.specs.PlaceSet.{PlaceSet}
 use Rattle.mig_mem.specs.Image.{Image}
 use Rattle.mig_assemble.specs.NamedPlaces.{HasPlaces}
 use Rattle.mig_single_load.specs.InPlace.{IsOfOwnTable}
-use Rattle.mig_single_load.specs.declared.settings.LoadSettings.{LoadSettings}
+use Rattle.mig_load_types.specs.declared.settings.LoadSettings.{LoadSettings}
 use Rattle.mig_answer.specs.Texts.{Texts, Readings, AreReadings}
 use Rattle.mig_answer.specs.Rounds.{places_in_rounds, missing_after}
 

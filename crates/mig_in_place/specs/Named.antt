@@ -12,8 +12,8 @@ use Rattle.mig_packet.specs.Progress.{ChannelProgress, due_fault}
 use Rattle.mig_packet.specs.Reading as channel
 use Rattle.mig_assemble.specs.Judging.{places_of}
 use Rattle.mig_assemble.specs.Arrivals.{OnePacket, arrival_pages}
-use Rattle.mig_single_load.specs.Settings.{main_of, channel_of}
-use Rattle.mig_single_load.specs.declared.settings.LoadSettings.{LoadSettings}
+use Rattle.mig_load_types.specs.Settings.{main_of, channel_of}
+use Rattle.mig_load_types.specs.declared.settings.LoadSettings.{LoadSettings}
 use Rattle.mig_answer.specs.Texts.{Text, Texts}
 
 -- the records or packets of round k so far: all of them, or, if it is the open round, those read so

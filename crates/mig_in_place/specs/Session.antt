@@ -10,11 +10,11 @@ use Rattle.mig_stream.specs.declared.item.StreamState.TheVariants as stream_stat
 use Rattle.mig_stream.specs.Reading as stream
 use Rattle.mig_stream.specs.Reader.{HasTable}
 use Rattle.mig_packet.specs.Paging.{GivenSoFar}
-use Rattle.mig_single_load.specs.Settings.{main_of, channel_of, for_table}
+use Rattle.mig_load_types.specs.Settings.{main_of, channel_of, for_table}
 use Rattle.mig_single_load.specs.InPlace.{IsOfOwnTable}
-use Rattle.mig_single_load.specs.declared.settings.LoadSettings.{LoadSettings}
-use Rattle.mig_single_load.specs.declared.fault.Origin.TheVariants as origin
-use Rattle.mig_single_load.specs.declared.fault.Fault.TheVariants as fault
+use Rattle.mig_load_types.specs.declared.settings.LoadSettings.{LoadSettings}
+use Rattle.mig_load_types.specs.declared.fault.Origin.TheVariants as origin
+use Rattle.mig_load_types.specs.declared.fault.Fault.TheVariants as fault
 use Rattle.mig_answer.specs.declared.verdict.Verdict.{Verdict}
 use Rattle.mig_answer.specs.declared.verdict.Verdict.TheVariants.{Running}
 use Rattle.mig_answer.specs.declared.status.Status.{Status}
@@ -24,9 +24,9 @@ use Rattle.mig_answer.specs.Texts.{Text, Texts, Readings, AreReadings, no_text}
 use Rattle.mig_answer.specs.Rounds.{record_pages_at, base_at, places_in_rounds}
 use Rattle.mig_answer.specs.MultiLoad.{main_at, channels_at, hello_ids, repeated_hello, sources_verdicts, passes, failed}
 use Rattle.mig_mem.specs.First.{first_some}
-use Rattle.mig_session.specs.declared.source.Source.{Source}
-use Rattle.mig_session.specs.declared.source.Source.TheVariants as source
-use Rattle.mig_session.specs.Session.{with_fed, feed_step, end_step}
+use Rattle.mig_sources.specs.declared.source.Source.{Source}
+use Rattle.mig_sources.specs.declared.source.Source.TheVariants as source
+use Rattle.mig_sources.specs.Sources.{with_fed, feed_step, end_step}
 use Rattle.mig_assemble.specs.NamedPlaces.{HasPlaces}
 use Rattle.mig_in_place.specs.Missing.{HasNamed}
 use Rattle.mig_in_place.specs.Answer.{rounds_onto, IsInPlaceAnswer, IsInPlaceWithoutMemory}

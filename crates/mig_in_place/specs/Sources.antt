@@ -18,15 +18,15 @@ use Rattle.mig_packet.specs.Paging.{OpenPacket, GivenSoFar, PageHolder, Gives, i
 use Rattle.mig_assemble.specs.Judging.{page_in, packet_pages, places_of}
 use Rattle.mig_assemble.specs.PacketPages.{zero_pages}
 use Rattle.mig_assemble.specs.Arrivals.{Arrival, Records, OnePacket, records_in, packets_in, arrival_pages}
-use Rattle.mig_single_load.specs.Settings.{main_of}
-use Rattle.mig_single_load.specs.declared.settings.LoadSettings.{LoadSettings}
+use Rattle.mig_load_types.specs.Settings.{main_of}
+use Rattle.mig_load_types.specs.declared.settings.LoadSettings.{LoadSettings}
 use Rattle.mig_answer.specs.declared.status.Status.{Status}
 use Rattle.mig_answer.specs.declared.status.Status.TheVariants.{Pending}
-use Rattle.mig_single_load.specs.declared.fault.Fault.{Fault}
+use Rattle.mig_load_types.specs.declared.fault.Fault.{Fault}
 use Rattle.mig_answer.specs.Status.{main_status, channel_status, stream_end, channel_end, fault_of}
 use Rattle.mig_answer.specs.Texts.{Text, IsMainReading, with_piece}
-use Rattle.mig_session.specs.Sources.{Counts}
-use Rattle.mig_session.specs.declared.counts.Count.{Count}
+use Rattle.mig_sources.specs.Sources.{Counts}
+use Rattle.mig_sources.specs.declared.counts.Count.{Count}
 use Rattle.mig_stream.specs.declared.item.StreamState.TheVariants as stream_state
 use Rattle.mig_in_place.specs.declared.main_stream.SizeList.{SizeList}
 use Rattle.mig_in_place.specs.declared.main_stream.SizeList.TheVariants as list

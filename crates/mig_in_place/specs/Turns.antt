@@ -5,17 +5,16 @@ use Rattle.std.specs.Io.KnownBytes.{Consumes, IsAtEnd, Keeps}
 use Rattle.mig_mem.specs.Image.{Image}
 use Rattle.mig_stream.specs.Reading.{Settings}
 use Rattle.mig_stream.specs.Reader.{IsClosedAt, HasClosedAt}
-use Rattle.mig_single_load.specs.Settings.{for_table, main_of}
-use Rattle.mig_single_load.specs.declared.settings.LoadSettings.{LoadSettings}
+use Rattle.mig_load_types.specs.Settings.{for_table, main_of}
+use Rattle.mig_load_types.specs.declared.settings.LoadSettings.{LoadSettings}
 use Rattle.mig_answer.specs.declared.verdict.Verdict.{Verdict}
 use Rattle.mig_answer.specs.declared.verdict.Verdict.TheVariants.{Running}
 use Rattle.mig_answer.specs.Texts.{Text, Texts}
-use Rattle.mig_session.specs.declared.counts.Count.{Count}
-use Rattle.mig_session.specs.declared.source.Source.{Source}
-use Rattle.mig_session.specs.declared.source.Source.TheVariants as source
-use Rattle.mig_session.specs.Reads.{ReadsSoFar, no_reads, after_pieces, after_end, after_failure}
-use Rattle.mig_session.specs.Pumping.{IsPiece, piece_limit}
-use Rattle.mig_session.specs.Session.{HasSource, count_of, with_fed, with_end, feed_step, end_step}
+use Rattle.mig_sources.specs.declared.counts.Count.{Count}
+use Rattle.mig_sources.specs.declared.source.Source.{Source}
+use Rattle.mig_sources.specs.declared.source.Source.TheVariants as source
+use Rattle.mig_sources.specs.Reads.{ReadsSoFar, no_reads, after_pieces, after_end, after_failure, IsPiece, piece_limit}
+use Rattle.mig_sources.specs.Sources.{HasSource, count_of, with_fed, with_end, feed_step, end_step}
 use Rattle.mig_in_place.specs.declared.source_reader.Turn.{Turn}
 use Rattle.mig_in_place.specs.declared.source_reader.Turn.TheVariants as turn
 use Rattle.mig_in_place.specs.declared.source_reader.TurnFault.{TurnFault}

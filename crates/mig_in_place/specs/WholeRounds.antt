@@ -2,8 +2,8 @@
 -- round was judged.
 use Rattle.std.specs.Prelude.{ℕ, ◌≡◌, ◌<◌, List, IsTrue}
 use Rattle.mig_mem.specs.Image.{Image}
-use Rattle.mig_single_load.specs.Settings.{for_table}
-use Rattle.mig_single_load.specs.declared.settings.LoadSettings.{LoadSettings}
+use Rattle.mig_load_types.specs.Settings.{for_table}
+use Rattle.mig_load_types.specs.declared.settings.LoadSettings.{LoadSettings}
 use Rattle.mig_answer.specs.Texts.{Texts, Readings, AreReadings}
 use Rattle.mig_answer.specs.MultiLoad.{passes}
 use Rattle.mig_in_place.specs.Answer.{rounds_onto}

@@ -7,15 +7,15 @@ ghost use Rattle.mig_mem.specs.RamTable.{RamTable};
 ghost use Rattle.mig_mem.specs.Place.{IsPlace};
 ghost use Rattle.mig_stream.specs.Reading.{Settings};
 ghost use Rattle.mig_stream.specs.Reader.{HasTable, HasRound, HasClosedAt, IsValidUpTo};
-ghost use Rattle.mig_single_load.specs.Settings.{main_of};
+ghost use Rattle.mig_load_types.specs.Settings.{main_of};
 ghost use Rattle.mig_answer.specs.Texts.{Text, no_text, with_piece, over};
 ghost use Rattle.mig_answer.specs.Status.{is_pending, is_clean, fault_of};
 ghost use Rattle.mig_answer.specs.declared.status.Status.TheVariants.{Whole as whole};
 ghost use Rattle.mig_in_place.specs.Sources.{StandsAt, HasNoRound, HoldsMain, TellsMainStatus, TellsMainFault, TellsList, main_count};
 
 use mig_answer::{Status, stream_end};
+use mig_load_types::{Fault, LoadSettings};
 use mig_mem::{NoMemory, Table};
-use mig_single_load::{Fault, LoadSettings};
 use mig_stream::{StreamReader, StreamRound, StreamState};
 use std::alloc::{Allocator, Global};
 use std::marker::Model;

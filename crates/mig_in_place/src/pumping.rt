@@ -11,7 +11,7 @@ use crate::source_reader::{PIECE_LIMIT, takes};
 use crate::{InPlaceSession, SourceReader, Turn, TurnFault};
 use mig_answer::Verdict;
 use mig_mem::GuestTarget;
-use mig_session::{PieceReader, Source};
+use mig_sources::{PieceReader, Source};
 use std::alloc::Allocator;
 
 /// Chooses the source to read next: among live connections one that has bytes, so that none waits

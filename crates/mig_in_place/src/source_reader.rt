@@ -4,11 +4,11 @@
 ghost use Rattle.std.specs.Prelude.{ℕ, ◌≡◌, ◌≢◌, ◌+◌, ◌<◌, ◌≤◌, ◌^◌, ◌↔◌, List, [], length, take, drop, IsTrue, IsFalse, IfOk, OnErr, Ok, Err};
 ghost use Rattle.std.specs.Option.{option_copied};
 ghost use Rattle.mig_mem.specs.Image.{Image};
-ghost use Rattle.mig_single_load.specs.declared.fault.InPlaceFault.TheVariants as in_place_fault;
+ghost use Rattle.mig_load_types.specs.declared.fault.InPlaceFault.TheVariants as in_place_fault;
 ghost use Rattle.mig_stream.specs.Reading.{Settings};
-ghost use Rattle.mig_single_load.specs.Settings.{main_of, for_table};
-ghost use Rattle.mig_session.specs.Pumping.{piece_limit};
-ghost use Rattle.mig_session.specs.Session.{HasSource, count_of, with_fed, feed_step};
+ghost use Rattle.mig_load_types.specs.Settings.{main_of, for_table};
+ghost use Rattle.mig_sources.specs.Reads.{piece_limit};
+ghost use Rattle.mig_sources.specs.Sources.{HasSource, count_of, with_fed, feed_step};
 ghost use Rattle.mig_in_place.specs.declared.source_reader.Turn.TheVariants as turn;
 ghost use Rattle.mig_in_place.specs.Sources.{counts_of};
 ghost use Rattle.mig_in_place.specs.Session.{StepsOn, RunsOut, Tells};
@@ -16,9 +16,9 @@ ghost use Rattle.mig_in_place.specs.Turns.{HasBytes, Fills, FindsEnd, FailsToRea
 ghost use Rattle.mig_in_place.specs.TurnFaultNumber.{turn_fault_number};
 
 use crate::InPlaceSession;
+use mig_load_types::InPlaceFault;
 use mig_mem::{GuestTarget, NoMemory};
-use mig_session::{PieceReader, ReadFailed, Source};
-use mig_single_load::InPlaceFault;
+use mig_sources::{PieceReader, ReadFailed, Source};
 use std::alloc::{Allocator, Global};
 use std::error::Error;
 use std::fmt::{self, Debug, Display, Formatter};
@@ -92,7 +92,7 @@ pub struct SourceReader<P: PieceReader, A: Allocator = Global> {
 
 impl<P: PieceReader, A: Allocator> Model for SourceReader<P, A> {
     ghost use Rattle.std.specs.Prelude.{◌≡◌, ◌≤◌, ◌+◌, ◌-◌, ◌^◌, length, take, drop};
-    ghost use Rattle.mig_session.specs.Pumping.{piece_limit};
+    ghost use Rattle.mig_sources.specs.Reads.{piece_limit};
     ghost use Rattle.mig_in_place.specs.Turns.{KeptSource};
 
     ghost Value = { KeptSource };

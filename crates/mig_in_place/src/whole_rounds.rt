@@ -1,17 +1,17 @@
 //! Whole rounds alone: a load that writes a round into the memory once it was judged lawful.
 
 ghost use Rattle.std.specs.Prelude.{◌≡◌, ◌≢◌, ◌+◌, ◌<◌, ◌≤◌, ◌^◌, Err, IsFalse, IfOk, length, take};
-ghost use Rattle.mig_session.specs.Session.{HasSource, count_of, feed_step, with_fed};
-ghost use Rattle.mig_single_load.specs.declared.fault.InPlaceFault.TheVariants as in_place_fault;
+ghost use Rattle.mig_sources.specs.Sources.{HasSource, count_of, feed_step, with_fed};
+ghost use Rattle.mig_load_types.specs.declared.fault.InPlaceFault.TheVariants as in_place_fault;
 ghost use Rattle.mig_staged.specs.Staged.{staged};
 ghost use Rattle.mig_in_place.specs.Sources.{counts_of};
 ghost use Rattle.mig_in_place.specs.Session.{RunsOut, StepsOn};
 ghost use Rattle.mig_in_place.specs.WholeRounds.{KeepsRounds};
 
 use crate::InPlaceSession;
+use mig_load_types::InPlaceFault;
 use mig_mem::{GuestTarget, NoMemory};
-use mig_session::Source;
-use mig_single_load::InPlaceFault;
+use mig_sources::Source;
 use mig_staged::Staged;
 use std::alloc::Allocator;
 

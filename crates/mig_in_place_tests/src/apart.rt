@@ -2,16 +2,16 @@
 //! bytes are fed.
 
 use crate::both::{LIMIT, failed};
-use crate::texts::{Part, channel_of, main_of, nines_and_zeros, one, text_of};
+use crate::texts::{channel_of, main_of, nines_and_zeros, one, text_of};
 use mig_answer::Verdict;
 use mig_apart::{ApartSession, Claim};
 use mig_assemble::RoundFault;
-use mig_fixtures::{at, is_full, zeroed};
+use mig_fixtures::{Part, at, is_full, zeroed};
+use mig_load_types::{Fault, LoadSettings, Origin};
 use mig_mem::{GuestTarget, Memory, Place};
 use mig_packet::PacketHead;
 use mig_send::Sent;
-use mig_session::Source;
-use mig_single_load::{Fault, LoadSettings, Origin};
+use mig_sources::Source;
 use std::alloc::AllocGlobal;
 use std::process::Abort;
 use uuid::Uuid;

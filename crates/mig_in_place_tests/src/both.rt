@@ -1,12 +1,14 @@
-//! Feeds a session and a load in place the same bytes, and compares what they report.
+//! Feeds a session and two loads in place the same bytes, and compares what they report. One of the
+//! two keeps each round apart until it was judged: its memory is the session's at any time.
 
 use crate::texts::text_of;
 use mig_answer::Verdict;
 use mig_in_place::InPlaceSession;
-use mig_mem::{Memory, Table, is_page_size};
+use mig_load_types::{Fault, InPlaceFault, LoadFault, LoadSettings, Origin};
+use mig_mem::{Memory, Table, first_difference, is_page_size};
 use mig_send::Sent;
 use mig_session::{Session, Source};
-use mig_single_load::{Fault, InPlaceFault, LoadFault, LoadSettings, Origin};
+use mig_staged::Staged;
 use rand_core::Rng;
 use rand_pcg::Pcg32;
 use std::alloc::{AllocGlobal, Allocator};
@@ -15,12 +17,14 @@ use uuid::Uuid;
 
 pub(crate) const LIMIT: u64 = 1 << 40;
 
-/// A session, and a load in place with its memory.
+/// A session, a load in place with its memory, and one of whole rounds with its own.
 #[derive(Drop)]
 pub(crate) struct Both {
     session: Session,
     pub(crate) in_place: InPlaceSession,
     pub(crate) memory: Memory,
+    by_rounds: InPlaceSession,
+    staged: Staged<Memory>,
 }
 
 /// Returns a random number below `n`.
@@ -45,17 +49,26 @@ pub(crate) fn failed(round: u64, source: Origin, fault: Fault) -> Verdict {
     })
 }
 
-// Returns a session and a load in place of `channels` channels, into a memory of zeros.
+// Returns a memory of zeros that keeps the open round apart.
+fn staged(rt: &(impl AllocGlobal + Abort), table: &Table) -> Staged<Memory> {
+    let memory = Memory::zeroed(rt.alloc(), table).expect(rt, "a memory");
+    Staged::new(rt.alloc(), memory).ok().expect(rt, "a memory")
+}
+
+// Returns loads of `channels` channels, into memories of zeros.
 fn both_of(rt: &(impl AllocGlobal + Abort), table: &Table, channels: usize) -> Both {
     let size = table.page_size();
     assert!(rt; is_page_size(size) && 1 <= channels && channels <= 255);
     let session = Session::new(rt.alloc(), size, &Uuid::nil(), channels, LIMIT);
     let settings = LoadSettings::new(size, LIMIT);
     let in_place = InPlaceSession::new(rt.alloc(), settings, table, &Uuid::nil(), channels);
+    let by_rounds = InPlaceSession::new(rt.alloc(), settings, table, &Uuid::nil(), channels);
     Both {
         session: session.expect(rt, "a session"),
         in_place: in_place.expect(rt, "a load"),
         memory: Memory::zeroed(rt.alloc(), table).expect(rt, "a memory"),
+        by_rounds: by_rounds.expect(rt, "a load"),
+        staged: staged(rt, table),
     }
 }
 
@@ -100,12 +113,31 @@ fn session_ends(session: &mut Session, source: Source) -> bool {
     true
 }
 
-// Feeds a piece to the load in place, and what it took to the session. Returns whether what it left
-// waits.
+// Feeds a piece to the load of whole rounds. Returns how many bytes it took.
+fn rounds_fed(
+    load: &mut InPlaceSession,
+    memory: &mut Staged<Memory>,
+    source: Source,
+    piece: &[u8],
+) -> Option<usize> {
+    if !load.has(source) {
+        return None;
+    }
+    if load.ended(source) || !load.has_room(source, piece.len()) {
+        return None;
+    }
+    load.feed_rounds(memory, source, piece).ok()
+}
+
+// Feeds a piece to the loads in place, and what they took to the session. Returns whether both took
+// as much, and what they left waits.
 fn is_taken(rt: &impl Abort, both: &mut Both, source: Source, piece: &[u8]) -> bool {
     let Ok(taken) = feed(rt, &mut both.in_place, &mut both.memory, source, piece) else {
         return false;
     };
+    if rounds_fed(&mut both.by_rounds, &mut both.staged, source, piece) != Some(taken) {
+        return false;
+    }
     if taken < piece.len() && takes(&both.in_place, source) {
         return false;
     }
@@ -134,7 +166,9 @@ fn fed(load: &InPlaceSession, source: Source, text: &[u8]) -> Option<usize> {
 // Feeds at most `most` of the bytes that are left of a source, or ends it if none is left.
 fn steps(rt: &impl Abort, both: &mut Both, source: Source, rest: &[u8], most: usize) -> bool {
     if rest.is_empty() {
-        return ends(&mut both.in_place, source) && session_ends(&mut both.session, source);
+        return ends(&mut both.in_place, source)
+            && ends(&mut both.by_rounds, source)
+            && session_ends(&mut both.session, source);
     }
     match rest.get(..most.min(rest.len())) {
         Some(piece) => is_taken(rt, both, source, piece),
@@ -142,12 +176,24 @@ fn steps(rt: &impl Abort, both: &mut Both, source: Source, rest: &[u8], most: us
     }
 }
 
-// Returns whether the session and the load in place report the same: rounds, verdict, and where the
+// Returns whether a load in place reports what the session does: rounds, verdict, and where the
 // main stream is closed.
+fn is_alike(load: &InPlaceSession, session: &Session) -> bool {
+    load.rounds() == session.rounds()
+        && load.verdict() == session.verdict()
+        && load.closed_at() == session.closed_at()
+}
+
 fn are_alike(both: &Both) -> bool {
-    both.in_place.rounds() == both.session.rounds()
-        && both.in_place.verdict() == both.session.verdict()
-        && both.in_place.closed_at() == both.session.closed_at()
+    is_alike(&both.in_place, &both.session) && is_alike(&both.by_rounds, &both.session)
+}
+
+// Returns whether the memory of whole rounds is the session's, once that has one.
+fn have_same_memory(both: &Both) -> bool {
+    let (Some(memory), kept) = (both.session.memory(), both.staged.memory()) else {
+        return true;
+    };
+    kept.table().same(memory.table()) && first_difference(kept, memory).is_none()
 }
 
 // Returns whether they report the same place up to which a source is valid.
@@ -167,8 +213,15 @@ fn steps_alike(rt: &impl Abort, both: &mut Both, source: Source, text: &[u8], mo
     steps(rt, both, source, rest, most) && are_alike(both) && are_valid_alike(both, source)
 }
 
-// Feeds streams to the session and the load in place until there is a verdict, in pieces of at most
-// `most` bytes and in a random order. Returns whether they are alike after each piece.
+// Returns whether the memories are compared after a piece. After small ones they seldom are.
+fn is_compared(most: u64, random: &mut Pcg32) -> bool {
+    let pieces = 4096u64.checked_div(most).unwrap_or(0);
+    below(random, pieces.wrapping_add(1)) == 0
+}
+
+// Feeds streams to the loads until there is a verdict, in pieces of at most `most` bytes and in a
+// random order. Returns whether they are alike after each piece, as are the memories that are
+// compared.
 fn are_fed_alike(
     rt: &impl Abort,
     both: &mut Both,
@@ -184,14 +237,16 @@ fn are_fed_alike(
             return false;
         }
         if both.in_place.verdict() != Verdict::Running {
-            return true;
+            return have_same_memory(both);
+        }
+        if is_compared(most, random) && !have_same_memory(both) {
+            return false;
         }
     }
     false
 }
 
-/// Returns a session and a load in place that were fed these streams in this way, and were alike
-/// after each piece.
+/// Returns loads that were fed these streams in this way, and were alike after each piece.
 pub(crate) fn loaded(
     rt: &(impl AllocGlobal + Abort),
     table: &Table,

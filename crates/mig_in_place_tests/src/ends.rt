@@ -2,15 +2,15 @@
 //! many pages no round named.
 
 use crate::both::{LIMIT, ends, feed};
-use crate::texts::{Part, channel_of, main_of, one, sevens_then_zeros, text_of};
+use crate::texts::{channel_of, main_of, one, sevens_then_zeros, text_of};
 use mig_answer::Verdict;
-use mig_fixtures::zeroed;
+use mig_fixtures::{Part, zeroed};
 use mig_in_place::InPlaceSession;
+use mig_load_types::{Fault, LoadSettings};
 use mig_mem::Memory;
 use mig_packet::ChannelFault;
 use mig_send::Sent;
-use mig_session::Source;
-use mig_single_load::{Fault, LoadSettings};
+use mig_sources::Source;
 use std::alloc::AllocGlobal;
 use std::process::Abort;
 use uuid::Uuid;

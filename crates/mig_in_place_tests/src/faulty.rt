@@ -1,12 +1,12 @@
 //! Streams with a fault: the verdict, and the pages that a failed round leaves.
 
 use crate::both::{failed, loaded};
-use crate::texts::{Part, channel_of, main_of, one, sevens_then_zeros, with_byte};
+use crate::texts::{channel_of, main_of, one, sevens_then_zeros, with_byte};
 use mig_assemble::RoundFault;
-use mig_fixtures::{at, is_full, table};
+use mig_fixtures::{Part, at, is_full, table};
+use mig_load_types::{Fault, Origin};
 use mig_send::Sent;
-use mig_session::Source;
-use mig_single_load::{Fault, Origin};
+use mig_sources::Source;
 use mig_stream::StreamFault;
 use rand_pcg::Pcg32;
 use std::alloc::AllocGlobal;

@@ -1,6 +1,6 @@
 //! Tests of the load of several channels in place. Its answers are those of a `Session` that is fed
 //! the same bytes, in any pieces and any order of the sources. When it is done the memory is the
-//! guest's.
+//! guest's. A load of whole rounds has the session's memory after each piece.
 #![tactic(auto)]
 
 #[cfg(test)]

@@ -1,52 +1,14 @@
-//! Streams of complete migrations, made by hand: the UUID is zeros, pages have 4096 bytes, and the
-//! only block is `a`.
+//! Streams of complete migrations, and streams that were changed.
 
-use mig_fixtures::table;
-use mig_packet::{hello, put_packet};
+use mig_fixtures::Part;
 use mig_send::Sent;
-use mig_session::Source;
-use mig_stream::StreamWriter;
+use mig_sources::Source;
 use std::alloc::AllocGlobal;
 use std::process::Abort;
-use uuid::Uuid;
-
-// ---- streams of one source
 
 /// Returns the main stream of `pages` pages and `rounds` rounds.
 pub(crate) fn main_of(rt: &(impl AllocGlobal + Abort), pages: u64, rounds: u64) -> Vec<u8> {
-    let table = table(rt.alloc(), &[("a", pages)]).expect(rt, "a table");
-    let mut writer = StreamWriter::new(rt.alloc(), &table)
-        .ok()
-        .expect(rt, "a writer");
-    for _ in 0..rounds {
-        assert!(rt; writer.flush_part().is_ok());
-    }
-    writer.finish().ok().expect(rt, "a stream")
-}
-
-/// What a packet has: a page that is filled with a byte, a page as zeros, or SYNC and no page.
-#[derive(Clone, Copy)]
-pub(crate) enum Part {
-    Page(u64, u8),
-    Zeros(u64),
-    Sync,
-}
-
-// Appends a packet.
-fn put(text: &mut Vec<u8>, number: u64, part: Part) -> bool {
-    let put = match part {
-        Part::Page(page, byte) => {
-            let contents = [byte; 4096];
-            let normal = [page.wrapping_mul(4096)];
-            put_packet(4096, text, number, false, b"a", &normal, &contents, &[])
-        }
-        Part::Zeros(page) => {
-            let zero = [page.wrapping_mul(4096)];
-            put_packet(4096, text, number, false, b"a", &[], &[], &zero)
-        }
-        Part::Sync => put_packet(4096, text, number, true, &[], &[], &[], &[]),
-    };
-    put.is_ok()
+    mig_fixtures::main_of(rt.alloc(), pages, rounds).expect(rt, "a stream")
 }
 
 /// Returns a channel: a hello with this id, and packets, each with its number.
@@ -55,14 +17,8 @@ pub(crate) fn channel_of(
     id: u8,
     packets: &[(u64, Part)],
 ) -> Vec<u8> {
-    let mut text = Vec::from_slice(rt.alloc(), &hello(&Uuid::nil(), id)).expect(rt, "a hello");
-    for (number, part) in packets {
-        assert!(rt; put(&mut text, *number, *part));
-    }
-    text
+    mig_fixtures::channel_of(rt.alloc(), id, packets).expect(rt, "a channel")
 }
-
-// ---- streams of all sources
 
 /// Returns the streams of one channel.
 pub(crate) fn one(rt: &(impl AllocGlobal + Abort), main: Vec<u8>, channel: Vec<u8>) -> Sent {

@@ -8,10 +8,10 @@ use mig_fixtures::{at, is_full, zeroed};
 use mig_in_place::{
     InPlaceSession, RoundRobin, SourceReader, Turn, TurnFault, TurnOrder, pump_by_turns,
 };
+use mig_load_types::LoadSettings;
 use mig_mem::Memory;
 use mig_send::Sent;
 use mig_session::{Counted, PieceReader, Source};
-use mig_single_load::LoadSettings;
 use mig_stream::Frame;
 use rand_pcg::Pcg32;
 use std::alloc::{AllocGlobal, Allocator};

@@ -2,9 +2,10 @@
 
 use crate::texts::LIMIT;
 use mig_fixtures::{at, places_of, set, zeroed};
+use mig_load_types::{Fault, InPlaceFault, LoadFault, LoadSettings, Origin};
 use mig_mem::{Memory, Place};
 use mig_send::SingleSender;
-use mig_single_load::{Fault, InPlaceFault, InPlaceState, LoadFault, LoadSettings, Origin};
+use mig_single_load::InPlaceState;
 use mig_stream::StreamFault;
 use std::alloc::AllocGlobal;
 use std::process::Abort;

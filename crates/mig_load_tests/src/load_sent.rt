@@ -4,11 +4,11 @@
 use crate::meeting::Meeting;
 use crate::texts::LIMIT;
 use mig_fixtures::{at, places_of, set, zeroed};
+use mig_load_types::Loaded;
 use mig_mem::{Memory, first_difference};
 use mig_packet::{Gate, OpenGate};
 use mig_relay::load_multi;
 use mig_send::{MultiSender, Sent};
-use mig_single_load::Loaded;
 use std::alloc::AllocGlobal;
 use std::process::Abort;
 use std::sync::Wait;

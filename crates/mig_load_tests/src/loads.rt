@@ -4,10 +4,13 @@
 //! Loads whose workers pass no gate are cases of `mig_rows`, in `several.txt`.
 
 use crate::meeting::{Meeting, reaches};
-use crate::texts::{LIMIT, is_done, is_failed, is_read_to, main_of, one, syncs, two, two_channels};
+use crate::texts::{
+    LIMIT, channels_of_sevens, is_done, is_failed, is_read_to, main_of, one_channel, syncs,
+    two_channels,
+};
+use mig_load_types::{Fault, Loaded};
 use mig_packet::{Gate, Step};
 use mig_relay::load_multi;
-use mig_single_load::{Fault, Loaded};
 use std::alloc::AllocGlobal;
 use std::process::Abort;
 use std::sync::Wait;
@@ -66,7 +69,7 @@ fn channel_with_many_rounds_more(rt: HostRuntime) {
         found: AtomicU64::new(0),
         pushed: AtomicU64::new(0),
     };
-    let texts = one(&rt, syncs(&rt, 0, 1, 100));
+    let texts = one_channel(&rt, syncs(&rt, 0, 1, 100));
     let loaded = load(&rt, &main_of(&rt, 1, 0), &texts, &gate);
     assert!(rt; is_failed(&loaded, Fault::Extra) && gate.has_counted(102));
 }
@@ -75,7 +78,7 @@ fn channel_with_many_rounds_more(rt: HostRuntime) {
 #[test]
 fn two_workers_at_once(rt: HostRuntime) {
     let gate = Meeting::new();
-    let loaded = load(&rt, &main_of(&rt, 2, 1), &two_channels(&rt), &gate);
+    let loaded = load(&rt, &main_of(&rt, 2, 1), &channels_of_sevens(&rt), &gate);
     assert!(rt; is_done(&loaded, 1, 7) && gate.have_met());
     assert!(rt; is_read_to(&loaded, 0, 101));
 }
@@ -113,7 +116,7 @@ fn worker_that_lasts(rt: HostRuntime) {
         pushed: AtomicU64::new(0),
         given_up: AtomicU64::new(0),
     };
-    let texts = two(&rt, syncs(&rt, 0, 2, 2), syncs(&rt, 1, 2, 2));
+    let texts = two_channels(&rt, syncs(&rt, 0, 2, 2), syncs(&rt, 1, 2, 2));
     let loaded = load(&rt, &main_of(&rt, 1, 2), &texts, &gate);
     assert!(rt; is_done(&loaded, 2, 0) && gate.has_lasted());
     assert!(rt; is_read_to(&loaded, 1, 127));

@@ -3,10 +3,10 @@
 
 use crate::meeting::reaches;
 use crate::pieces::{drain, feed, is_over, relay_of, takes};
-use crate::texts::{LIMIT, is_failed, main_of, one, syncs, two};
+use crate::texts::{LIMIT, is_failed, main_of, one_channel, syncs, two_channels};
+use mig_load_types::Fault;
 use mig_packet::{Gate, OpenGate, Step};
 use mig_relay::{Collector, Feeder, FeederStep, load_relayed};
-use mig_single_load::Fault;
 use std::alloc::AllocGlobal;
 use std::process::Abort;
 use std::sync::Wait;
@@ -31,7 +31,7 @@ fn is_extra<R: AllocGlobal + Abort + Wait>(rt: &R, collector: &mut Collector<'_>
 // items that are pushed later.
 #[test]
 fn load_takes_no_more_than_it_needs(rt: HostRuntime) {
-    let texts = one(&rt, syncs(&rt, 0, 1, 3));
+    let texts = one_channel(&rt, syncs(&rt, 0, 1, 3));
     let (mut feeders, mut collector) = relay_of(&rt, &texts, 64);
     // (the hello and the first SYNC packet)
     let feeder = step(&rt, step(&rt, feeders.pop().expect(&rt, "a feeder")));
@@ -44,7 +44,7 @@ fn load_takes_no_more_than_it_needs(rt: HostRuntime) {
 // first one doesn't wait for it.
 #[test]
 fn drain_leaves_channels_without_a_worker(rt: HostRuntime) {
-    let texts = two(&rt, syncs(&rt, 0, 1, 1), syncs(&rt, 1, 1, 1));
+    let texts = two_channels(&rt, syncs(&rt, 0, 1, 1), syncs(&rt, 1, 1, 1));
     let (mut feeders, collector) = relay_of(&rt, &texts, 64);
     let second = feeders.pop().expect(&rt, "a feeder");
     feed(&rt, feeders.pop().expect(&rt, "a feeder"), &OpenGate);
@@ -55,7 +55,7 @@ fn drain_leaves_channels_without_a_worker(rt: HostRuntime) {
 // 102 items wait in a queue that has room for them.
 #[test]
 fn queue_has_room_for_its_capacity(rt: HostRuntime) {
-    let texts = one(&rt, syncs(&rt, 0, 1, 100));
+    let texts = one_channel(&rt, syncs(&rt, 0, 1, 100));
     let (mut feeders, collector) = relay_of(&rt, &texts, 102);
     feed(&rt, feeders.pop().expect(&rt, "a feeder"), &OpenGate);
     drain(&rt, collector, 1);
@@ -117,7 +117,7 @@ fn take_beside<'a, R: Abort + Threads + Wait + Sync>(
 // A hello, three SYNC packets and the stop pass a queue that holds one item.
 #[test]
 fn queue_of_one_holds_one_item(rt: HostRuntime) {
-    let texts = one(&rt, syncs(&rt, 0, 1, 3));
+    let texts = one_channel(&rt, syncs(&rt, 0, 1, 3));
     let (mut feeders, collector) = relay_of(&rt, &texts, 1);
     let feeder = feeders.pop().expect(&rt, "a feeder");
     let gate = Watch {

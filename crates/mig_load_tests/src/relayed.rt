@@ -4,10 +4,11 @@
 ghost use Rattle.std.specs.Prelude.{◌≤◌, ◌^◌};
 
 use crate::pieces::feed;
-use crate::texts::{LIMIT, Part, channel_of, is_done, is_failed, is_read_to, main_of, one};
+use crate::texts::{LIMIT, channel_of, is_done, is_failed, is_read_to, main_of, one_channel};
+use mig_fixtures::Part;
+use mig_load_types::{Fault, LoadSettings, Loaded};
 use mig_packet::{ChannelFault, OpenGate};
 use mig_relay::{Collector, Relay, load_relayed, load_relayed_with};
-use mig_single_load::{Fault, LoadSettings, Loaded};
 use mig_stream::Frame;
 use std::alloc::AllocGlobal;
 use std::process::Abort;
@@ -22,7 +23,7 @@ fn sevens_then_nines(rt: &(impl AllocGlobal + Abort)) -> Vec<Vec<u8>> {
         (2, Part::Page(0, 9)),
         (3, Part::Sync),
     ];
-    one(rt, channel_of(rt, 0, &packets))
+    one_channel(rt, channel_of(rt, 0, &packets))
 }
 
 // Returns the collector of a relay of one channel, where `most` may wait in a round. Its feeder has

@@ -1,7 +1,7 @@
 //! The steps of a feeder, which it reports to its gate, on one thread.
 
 use crate::pieces::{drain, feed, relay_of};
-use crate::texts::{syncs, two};
+use crate::texts::{syncs, two_channels};
 use mig_packet::{Gate, Step};
 use std::sync::atomic::{AtomicU64, Ordering};
 
@@ -39,7 +39,7 @@ impl Steps {
 // The hello, three SYNC packets and the stop make ten steps.
 #[test]
 fn steps_of_a_feeder(rt: HostRuntime) {
-    let texts = two(&rt, syncs(&rt, 0, 1, 0), syncs(&rt, 1, 1, 3));
+    let texts = two_channels(&rt, syncs(&rt, 0, 1, 0), syncs(&rt, 1, 1, 3));
     let (feeders, collector) = relay_of(&rt, &texts, 64);
     let gate = Steps {
         reported: AtomicU64::new(0),

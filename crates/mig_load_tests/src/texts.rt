@@ -1,49 +1,18 @@
-//! Streams of complete migrations, made by hand: the UUID is zeros, pages have 4096 bytes, and the
-//! only block is `a`. Also what their loads returned.
+//! Streams of complete migrations, made by hand, and what their loads returned.
 
-use mig_fixtures::{at, is_full, table};
-use mig_packet::{hello, put_packet};
-use mig_single_load::{Fault, LoadFault, Loaded, Origin};
-use mig_stream::StreamWriter;
+use mig_fixtures::{Part, at, is_full, put_all};
+use mig_load_types::{Fault, LoadFault, Loaded, Origin};
 use std::alloc::AllocGlobal;
 use std::process::Abort;
-use uuid::Uuid;
 
 /// The limit of the blocks' bytes.
 pub(crate) const LIMIT: u64 = 1 << 40;
 
-/// Returns the main stream of `pages` pages and `rounds` rounds.
-pub(crate) fn main_of(rt: &(impl AllocGlobal + Abort), pages: u64, rounds: u64) -> Vec<u8> {
-    let table = table(rt.alloc(), &[("a", pages)]).expect(rt, "a table");
-    let mut writer = StreamWriter::new(rt.alloc(), &table)
-        .ok()
-        .expect(rt, "a writer");
-    for _ in 0..rounds {
-        assert!(rt; writer.flush_part().is_ok());
-    }
-    writer.finish().ok().expect(rt, "a stream")
-}
-
 // ---- channels
 
-/// What a packet has: a page that is filled with a byte, or SYNC and no page.
-#[derive(Clone, Copy)]
-pub(crate) enum Part {
-    Page(u64, u8),
-    Sync,
-}
-
-// Appends a packet.
-fn is_put(text: &mut Vec<u8>, number: u64, part: Part) -> bool {
-    let put = match part {
-        Part::Page(page, byte) => {
-            let contents = [byte; 4096];
-            let normal = [page.wrapping_mul(4096)];
-            put_packet(4096, text, number, false, b"a", &normal, &contents, &[])
-        }
-        Part::Sync => put_packet(4096, text, number, true, &[], &[], &[], &[]),
-    };
-    put.is_ok()
+/// Returns the main stream of `pages` pages and `rounds` rounds.
+pub(crate) fn main_of(rt: &(impl AllocGlobal + Abort), pages: u64, rounds: u64) -> Vec<u8> {
+    mig_fixtures::main_of(rt.alloc(), pages, rounds).expect(rt, "a stream")
 }
 
 /// Returns a channel: a hello with this id, and packets, each with its number.
@@ -52,11 +21,25 @@ pub(crate) fn channel_of(
     id: u8,
     packets: &[(u64, Part)],
 ) -> Vec<u8> {
-    let mut text = Vec::from_slice(rt.alloc(), &hello(&Uuid::nil(), id)).expect(rt, "a hello");
-    for (number, part) in packets {
-        assert!(rt; is_put(&mut text, *number, *part));
-    }
-    text
+    mig_fixtures::channel_of(rt.alloc(), id, packets).expect(rt, "a channel")
+}
+
+/// Returns a list of one channel.
+pub(crate) fn one_channel(rt: &(impl AllocGlobal + Abort), text: Vec<u8>) -> Vec<Vec<u8>> {
+    let mut texts = Vec::new(rt.alloc());
+    assert!(rt; texts.push(text).is_ok());
+    texts
+}
+
+/// Returns a list of two channels.
+pub(crate) fn two_channels(
+    rt: &(impl AllocGlobal + Abort),
+    first: Vec<u8>,
+    second: Vec<u8>,
+) -> Vec<Vec<u8>> {
+    let mut texts = one_channel(rt, first);
+    assert!(rt; texts.push(second).is_ok());
+    texts
 }
 
 /// Returns a channel that has only SYNC packets, `count` of them. The first one's number is the id,
@@ -65,35 +48,17 @@ pub(crate) fn syncs(rt: &(impl AllocGlobal + Abort), id: u8, step: u64, count: u
     let mut text = channel_of(rt, id, &[]);
     for i in 0..count {
         let number = i.wrapping_mul(step).wrapping_add(u64::from(id));
-        assert!(rt; is_put(&mut text, number, Part::Sync));
+        assert!(rt; put_all(&mut text, &[(number, Part::Sync)]).is_some());
     }
     text
 }
 
-/// Returns a list of one channel.
-pub(crate) fn one(rt: &(impl AllocGlobal + Abort), text: Vec<u8>) -> Vec<Vec<u8>> {
-    let mut texts = Vec::new(rt.alloc());
-    assert!(rt; texts.push(text).is_ok());
-    texts
-}
-
-/// Returns a list of two channels.
-pub(crate) fn two(
-    rt: &(impl AllocGlobal + Abort),
-    first: Vec<u8>,
-    second: Vec<u8>,
-) -> Vec<Vec<u8>> {
-    let mut texts = one(rt, first);
-    assert!(rt; texts.push(second).is_ok());
-    texts
-}
-
 /// Returns two channels of one round of two pages, each filled with 7: packet 0 and SYNC packet 2
 /// in one, packet 1 and SYNC packet 3 in the other.
-pub(crate) fn two_channels(rt: &(impl AllocGlobal + Abort)) -> Vec<Vec<u8>> {
+pub(crate) fn channels_of_sevens(rt: &(impl AllocGlobal + Abort)) -> Vec<Vec<u8>> {
     let first = channel_of(rt, 0, &[(0, Part::Page(0, 7)), (2, Part::Sync)]);
     let second = channel_of(rt, 1, &[(1, Part::Page(1, 7)), (3, Part::Sync)]);
-    two(rt, first, second)
+    two_channels(rt, first, second)
 }
 
 // ---- loads

@@ -2,7 +2,7 @@
 //! another thread.
 
 use crate::pieces::{Seen, drain, feed, has_received, is_over, relay_of, takes};
-use crate::texts::{syncs, two, two_channels};
+use crate::texts::{channels_of_sevens, syncs, two_channels};
 use mig_packet::OpenGate;
 use mig_relay::{ChannelEnd, Collector, Feeder};
 use std::alloc::AllocGlobal;
@@ -85,7 +85,7 @@ const ALL: [Wanted<'static>; 2] = [
 // All items of two channels, also through queues that have room for one item.
 #[test]
 fn two_channels_on_two_threads(rt: HostRuntime) {
-    let texts = two_channels(&rt);
+    let texts = channels_of_sevens(&rt);
     relay(&rt, &texts, 64, &ALL);
     relay(&rt, &texts, 1, &ALL);
 }
@@ -105,7 +105,7 @@ const FEW: [Wanted<'static>; 2] = [
 // queue continues when the rest is dropped.
 #[test]
 fn pieces_that_nobody_takes(rt: HostRuntime) {
-    let texts = two(&rt, syncs(&rt, 0, 1, 100), syncs(&rt, 1, 1, 100));
+    let texts = two_channels(&rt, syncs(&rt, 0, 1, 100), syncs(&rt, 1, 1, 100));
     relay(&rt, &texts, 64, &FEW);
     relay(&rt, &texts, 1, &FEW);
 }

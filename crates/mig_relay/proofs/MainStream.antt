@@ -15,8 +15,8 @@ use Rattle.mig_stream.specs.Round.{RoundOfRecords}
 use Rattle.mig_stream.proofs.Exists.{one_reading_law}
 use Rattle.mig_stream.proofs.Limits.{limits_law}
 use Rattle.mig_assemble.specs.Target.{LoadTarget}
-use Rattle.mig_single_load.specs.Settings.{main_of}
-use Rattle.mig_single_load.specs.declared.fault.LoadFault.{LoadFault}
+use Rattle.mig_load_types.specs.Settings.{main_of}
+use Rattle.mig_load_types.specs.declared.fault.LoadFault.{LoadFault}
 use Rattle.mig_relay.specs.RelayItems.{QueueEnd}
 use Rattle.mig_relay.specs.Relayed.{Load, Loading, HasEnded, ComesToRound, Goes, EndsAt, Ends}
 use Rattle.mig_answer.proofs.Putting.{table_is}

@@ -7,8 +7,8 @@ use Rattle.mig_packet.specs.declared.packet.Packet.{Packet}
 use Rattle.mig_packet.specs.Lent.{fields}
 use Rattle.mig_assemble.specs.Judging.{refusal}
 use Rattle.mig_assemble.specs.Target.{LoadTarget, pages_of_round, after_round}
-use Rattle.mig_single_load.specs.Settings.{main_of}
-use Rattle.mig_single_load.specs.declared.fault.LoadFault.{LoadFault}
+use Rattle.mig_load_types.specs.Settings.{main_of}
+use Rattle.mig_load_types.specs.declared.fault.LoadFault.{LoadFault}
 use Rattle.mig_answer.specs.Putting.{IsRoundError, HasLoaded}
 use Rattle.mig_relay.specs.RelayItems.{QueueEnd}
 use Rattle.mig_relay.specs.Relayed.{Load, Loading, Ready, Ends, Goes}

@@ -18,9 +18,9 @@ use Rattle.mig_stream.proofs.Exists.{one_reading_law}
 use Rattle.mig_stream.proofs.Limits.{limits_law}
 use Rattle.mig_packet.specs.Reading.{settings, with_waiting}
 use Rattle.mig_assemble.specs.Target.{LoadTarget, new_target}
-use Rattle.mig_single_load.specs.Settings.{main_of}
-use Rattle.mig_single_load.specs.declared.settings.LoadSettings.{LoadSettings}
-use Rattle.mig_single_load.specs.declared.loaded.Loaded.{Loaded}
+use Rattle.mig_load_types.specs.Settings.{main_of}
+use Rattle.mig_load_types.specs.declared.settings.LoadSettings.{LoadSettings}
+use Rattle.mig_load_types.specs.declared.loaded.Loaded.{Loaded}
 use Rattle.mig_relay.specs.declared.log.ChannelText.{ChannelText}
 use Rattle.mig_single_load.specs.SingleLoad.{no_memory_at, unloaded}
 use Rattle.mig_answer.specs.Texts.{AreReadings, ended_texts}

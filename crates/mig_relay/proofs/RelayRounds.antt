@@ -13,11 +13,11 @@ use Rattle.mig_packet.specs.declared.packet.Packet.{Packet}
 use Rattle.mig_packet.specs.ChannelItems.{ChannelItem}
 use Rattle.mig_assemble.specs.Judging.{refusal}
 use Rattle.mig_assemble.specs.Target.{LoadTarget, pages_of_round, after_round}
-use Rattle.mig_single_load.specs.Settings.{channel_of}
-use Rattle.mig_single_load.specs.declared.fault.Origin.TheVariants as origin
-use Rattle.mig_single_load.specs.declared.fault.Fault.{Fault}
-use Rattle.mig_single_load.specs.declared.fault.Fault.TheVariants as fault
-use Rattle.mig_single_load.specs.declared.fault.LoadFault.{LoadFault}
+use Rattle.mig_load_types.specs.Settings.{channel_of}
+use Rattle.mig_load_types.specs.declared.fault.Origin.TheVariants as origin
+use Rattle.mig_load_types.specs.declared.fault.Fault.{Fault}
+use Rattle.mig_load_types.specs.declared.fault.Fault.TheVariants as fault
+use Rattle.mig_load_types.specs.declared.fault.LoadFault.{LoadFault}
 use Rattle.mig_answer.specs.declared.status.Status.{Status}
 use Rattle.mig_answer.specs.declared.status.Status.TheVariants.{Whole, Bad}
 use Rattle.mig_answer.specs.declared.verdict.Verdict.{Verdict}

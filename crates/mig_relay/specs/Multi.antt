@@ -2,8 +2,8 @@
 -- or that after a refused allocation; and what it says of the streams.
 use Rattle.std.specs.Prelude.{ℕ, List}
 use Rattle.mig_mem.specs.PageSize.{IsPageSize}
-use Rattle.mig_single_load.specs.declared.settings.LoadSettings.{LoadSettings}
-use Rattle.mig_single_load.specs.declared.loaded.Loaded.{Loaded}
+use Rattle.mig_load_types.specs.declared.settings.LoadSettings.{LoadSettings}
+use Rattle.mig_load_types.specs.declared.loaded.Loaded.{Loaded}
 use Rattle.mig_answer.specs.Texts.{ended_texts}
 use Rattle.mig_answer.specs.MultiLoad.{IsAnswerOrWithoutMemory, SaysOfStreamsOrNothing, answer_of}
 use Rattle.mig_relay.specs.RelayItems.{QueueEnd}

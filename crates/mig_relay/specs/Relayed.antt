@@ -12,13 +12,13 @@ use Rattle.mig_assemble.specs.Target.{LoadTarget, FitsTable}
 use Rattle.mig_stream.specs.Reader.{Reader, Stands, HasClosedAt, IsValidUpTo}
 use Rattle.mig_stream.specs.Round.{RoundOfRecords}
 use Rattle.mig_stream.specs.declared.item.StreamState.{StreamState}
-use Rattle.mig_single_load.specs.Settings.{main_of}
-use Rattle.mig_single_load.specs.declared.settings.LoadSettings.{LoadSettings}
-use Rattle.mig_single_load.specs.declared.fault.Origin.TheVariants as origin
+use Rattle.mig_load_types.specs.Settings.{main_of}
+use Rattle.mig_load_types.specs.declared.settings.LoadSettings.{LoadSettings}
+use Rattle.mig_load_types.specs.declared.fault.Origin.TheVariants as origin
 use Rattle.mig_answer.specs.declared.status.Status.{Status}
 use Rattle.mig_answer.specs.declared.status.Status.TheVariants.{Whole, Clean, Bad, Pending}
-use Rattle.mig_single_load.specs.declared.fault.LoadFault.{LoadFault}
-use Rattle.mig_single_load.specs.declared.loaded.Loaded.{Loaded}
+use Rattle.mig_load_types.specs.declared.fault.LoadFault.{LoadFault}
+use Rattle.mig_load_types.specs.declared.loaded.Loaded.{Loaded}
 use Rattle.mig_answer.specs.declared.verdict.Verdict.{Verdict}
 use Rattle.mig_answer.specs.declared.verdict.Verdict.TheVariants.{Running, Done}
 use Rattle.mig_single_load.specs.SingleLoad.{no_memory_at}
@@ -30,7 +30,7 @@ use Rattle.mig_relay.specs.declared.item.ChannelEnd.{ChannelEnd}
 use Rattle.mig_relay.specs.declared.item.ChannelEnd.TheVariants as channel_end
 use Rattle.mig_relay.specs.declared.item.Item.{Item}
 use Rattle.mig_relay.specs.declared.relayed.MainPlaces.{MainPlaces}
-use Rattle.mig_single_load.specs.declared.fault.Fault.TheVariants as fault
+use Rattle.mig_load_types.specs.declared.fault.Fault.TheVariants as fault
 use Rattle.mig_relay.specs.RelayItems.{as_channel_item, IsOfPageSize, with_settings, QueueEnd, BeginsItems, IsThrough}
 use Rattle.mig_answer.specs.Putting.{HasLoaded}
 

@@ -1,6 +1,6 @@
 //! The load of complete streams on several channels: a relay, with a worker for each channel.
 
-ghost use Rattle.mig_single_load.specs.declared.settings.RoundEnd.TheVariants.{Flush as by_flush};
+ghost use Rattle.mig_load_types.specs.declared.settings.RoundEnd.TheVariants.{Flush as by_flush};
 ghost use Rattle.std.specs.Prelude.{◌≡◌, ◌<◌, ◌≤◌, ◌^◌, ◌⊎◌, List, length, is_ok, IfOk, vec_len, vec_capacity};
 ghost use Rattle.std.specs.List.{AllZip};
 ghost use Rattle.mig_mem.specs.PageSize.{IsPageSize};
@@ -8,7 +8,7 @@ ghost use Rattle.mig_mem.specs.RamTable.{RamTable};
 ghost use Rattle.mig_stream.specs.declared.item.Frame.TheVariants.{Ram, Machine};
 ghost use Rattle.mig_stream.specs.Text.{total_bytes};
 ghost use Rattle.mig_send.specs.DealtRounds.{DealtRound};
-ghost use Rattle.mig_single_load.specs.Settings.{ram_settings};
+ghost use Rattle.mig_load_types.specs.Settings.{ram_settings};
 ghost use Rattle.mig_answer.specs.Texts.{ended_texts};
 ghost use Rattle.mig_answer.specs.MultiLoad.{IsWithoutMemory, IsAnswerOrWithoutMemory, SaysOfStreamsOrNothing, answer_of, bytes_of};
 ghost use Rattle.mig_answer.specs.Sent.{LetsChannelsThrough, IsSentBefore, IsSentInAnyOrder, IsMachineSentInAnyOrder, sent_answer};
@@ -20,9 +20,10 @@ use crate::feeder::{Fed, Feeder, FeederStep};
 use crate::relay::{Collector, Relay};
 use crate::relayed::{Going, answered, begin, next_round};
 use mig_answer::apply_by;
+use mig_load_types::{LoadFault, LoadSettings, Loaded};
 use mig_mem::NoMemory;
 use mig_packet::Gate;
-use mig_single_load::{LoadFault, LoadSettings, Loaded, without_memory};
+use mig_single_load::without_memory;
 use std::alloc::Allocator;
 use std::sync::Wait;
 use std::thread;

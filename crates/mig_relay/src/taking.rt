@@ -10,8 +10,8 @@ use crate::item::{ChannelEnd, Item};
 use crate::relay::Collector;
 use mig_answer::Status;
 use mig_assemble::Gathered;
+use mig_load_types::Fault;
 use mig_mem::NoMemory;
-use mig_single_load::Fault;
 use std::alloc::Allocator;
 use std::sync::Wait;
 

@@ -4,11 +4,11 @@
 ghost use Rattle.std.specs.Prelude.{◌≡◌, ◌≤◌, IfOk};
 ghost use Rattle.mig_mem.specs.PageSize.{IsPageSize};
 ghost use Rattle.mig_packet.specs.Reader as channel;
-ghost use Rattle.mig_single_load.specs.Settings.{channel_of};
+ghost use Rattle.mig_load_types.specs.Settings.{channel_of};
 
+use mig_load_types::LoadSettings;
 use mig_mem::NoMemory;
 use mig_packet::ChannelReader;
-use mig_single_load::LoadSettings;
 use std::alloc::Allocator;
 use uuid::Uuid;
 

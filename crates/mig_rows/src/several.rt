@@ -2,10 +2,10 @@
 
 use crate::show::put_loaded;
 use mig_cases::{Case, Done, Trouble};
+use mig_load_types::LoadSettings;
 use mig_mem::{MAX_TOTAL, is_page_size};
 use mig_packet::OpenGate;
 use mig_relay::{load_multi, load_multi_with};
-use mig_single_load::LoadSettings;
 use mig_stream::Frame;
 use std::sync::Wait;
 use std::thread::Threads;

@@ -2,7 +2,7 @@
 
 use mig_assemble::RoundFault;
 use mig_cases::{Done, Pages, Trouble, put_memory};
-use mig_single_load::{Fault, LoadFault, Loaded, Origin};
+use mig_load_types::{Fault, LoadFault, Loaded, Origin};
 use mig_stream::{StreamFault, StreamRound, StreamState};
 
 fn put_stream_fault(out: &mut String, fault: StreamFault) -> Done {

@@ -2,10 +2,9 @@
 
 use crate::show::{put_loaded, put_records, put_stream_state};
 use mig_cases::{Case, Done, Trouble, again, agree, put_fed, put_table};
+use mig_load_types::{Fault, FeedFault, LoadSettings};
 use mig_mem::{MAX_TOTAL, is_page_size};
-use mig_single_load::{
-    Fault, FeedFault, LoadSettings, SingleLoader, load_single, load_single_with,
-};
+use mig_single_load::{SingleLoader, load_single, load_single_with};
 use mig_stream::{Frame, Mode, StreamReader, StreamRound, StreamState};
 use std::alloc::Global;
 

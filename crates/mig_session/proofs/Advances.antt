@@ -17,10 +17,10 @@ use Rattle.mig_packet.specs.declared.packet.Packet.{Packet}
 use Rattle.mig_assemble.specs.Judging.{refusal}
 use Rattle.mig_assemble.specs.NamedPlaces.{named_by}
 use Rattle.mig_assemble.specs.Target.{LoadTarget, FitsTable, new_target, pages_of_round, after_round}
-use Rattle.mig_single_load.specs.Settings.{main_of}
-use Rattle.mig_single_load.specs.declared.fault.Origin.TheVariants as origin
-use Rattle.mig_single_load.specs.declared.fault.Fault.TheVariants as fault
-use Rattle.mig_single_load.specs.declared.fault.LoadFault.{LoadFault}
+use Rattle.mig_load_types.specs.Settings.{main_of}
+use Rattle.mig_load_types.specs.declared.fault.Origin.TheVariants as origin
+use Rattle.mig_load_types.specs.declared.fault.Fault.TheVariants as fault
+use Rattle.mig_load_types.specs.declared.fault.LoadFault.{LoadFault}
 use Rattle.mig_answer.specs.declared.verdict.Verdict.{Verdict}
 use Rattle.mig_answer.specs.declared.verdict.Verdict.TheVariants.{Failed}
 use Rattle.mig_answer.specs.Status.{main_status, stream_end, is_whole}
@@ -29,14 +29,15 @@ use Rattle.mig_answer.specs.Rounds.{packets_at, refusal_at, memory_at, pages_at}
 use Rattle.mig_answer.specs.MultiLoad.{main_at, channels_at, passes}
 use Rattle.mig_answer.specs.Putting.{HasLoaded, IsRoundError}
 use Rattle.mig_session.specs.Sources.{FedSources, IsMainRound, Holds, HaveRound, TellsAll, packets_of_all, IsOfSize}
-use Rattle.mig_session.specs.Advancing.{Feeding, HasPutRounds, HasRounds, Advances, TellsVerdict, HasAdvanced, IsDue, RoundIsDue, PutsOrRefuses}
+use Rattle.mig_session.specs.Advancing.{Feeding, HasPutRounds, HasRounds, Advances, TellsVerdict, HasAdvanced, RoundIsDue, PutsOrRefuses}
+use Rattle.mig_sources.specs.Due.{IsDue}
 use Rattle.mig_answer.proofs.Statuses.{status_end, stream_ends}
 use Rattle.mig_answer.proofs.Judged.{IsWhole}
 use Rattle.mig_answer.proofs.NamedRounds.{named_at_first}
 use Rattle.mig_answer.proofs.Putting.{table_is, size_of_table, refusal_of_round, round_is_put, IsNext, after_nothing}
 use Rattle.mig_session.proofs.KeptMain.{same_found, waits_here}
 use Rattle.mig_session.proofs.KeptSources.{have_round, packets_here, sizes_here}
-use Rattle.mig_session.proofs.Telling.{due_sources, due_passes, due_refused, told_here}
+use Rattle.mig_sources.proofs.Due.{due_sources, due_passes, due_refused, told_here}
 
 -- ---- the verdict
 

@@ -13,12 +13,12 @@ use Rattle.mig_packet.specs.Reader.{Reader, RoundOfPackets, Stands, StepsOn, Tel
 use Rattle.mig_packet.proofs.Exists.{one_reading_law}
 use Rattle.mig_answer.specs.declared.status.Status.{Status}
 use Rattle.mig_answer.specs.declared.status.Status.TheVariants.{Whole}
-use Rattle.mig_single_load.specs.declared.fault.Fault.{Fault}
+use Rattle.mig_load_types.specs.declared.fault.Fault.{Fault}
 use Rattle.mig_answer.specs.Status.{channel_status, channel_end, is_whole, fault_of}
 use Rattle.mig_answer.specs.Texts.{Text, with_piece}
 use Rattle.mig_answer.specs.Rounds.{channel_packets_at}
 use Rattle.mig_session.specs.Sources.{FedChannel, HoldsChannel, IsChannelRound, TakesChannel, TellsChannelStatus, TellsHello, channel_so_far, with_one, packets_of, IsOfSize}
-use Rattle.mig_session.specs.Session.{HasChannelFault}
+use Rattle.mig_sources.specs.Faults.{HasChannelFault}
 use Rattle.mig_session.specs.Advancing.{TellsOnly}
 use Rattle.mig_answer.proofs.Statuses.{status_whole, status_end, channel_ends}
 use Rattle.mig_answer.proofs.GrowingChannels.{same_rounds, round_stays}

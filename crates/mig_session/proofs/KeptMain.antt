@@ -16,15 +16,15 @@ use Rattle.mig_stream.specs.Reader.{Reader, Stands, StepsOn, Tells, with_taken, 
 use Rattle.mig_stream.proofs.Exists.{one_reading_law}
 use Rattle.mig_stream.proofs.Limits.{limits_law}
 use Rattle.mig_stream.proofs.Longer.{longer_law}
-use Rattle.mig_single_load.specs.Settings.{main_of}
-use Rattle.mig_single_load.specs.declared.settings.LoadSettings.{LoadSettings}
+use Rattle.mig_load_types.specs.Settings.{main_of}
+use Rattle.mig_load_types.specs.declared.settings.LoadSettings.{LoadSettings}
 use Rattle.mig_answer.specs.declared.status.Status.{Status}
 use Rattle.mig_answer.specs.declared.status.Status.TheVariants.{Whole}
-use Rattle.mig_single_load.specs.declared.fault.Fault.{Fault}
+use Rattle.mig_load_types.specs.declared.fault.Fault.{Fault}
 use Rattle.mig_answer.specs.Status.{main_status, stream_end, is_whole, fault_of}
 use Rattle.mig_answer.specs.Texts.{Text, IsMainReading, with_piece}
 use Rattle.mig_session.specs.Sources.{FedMain, HoldsMain, IsMainRound, TakesMain, TellsMainStatus, main_so_far, with_one}
-use Rattle.mig_session.specs.Session.{HasMainFault}
+use Rattle.mig_sources.specs.Faults.{HasMainFault}
 use Rattle.mig_answer.proofs.Statuses.{status_whole, status_end, stream_ends}
 use Rattle.mig_answer.proofs.GrowingMain.{main_round_stays}
 

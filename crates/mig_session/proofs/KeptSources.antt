@@ -1,9 +1,9 @@
 -- What a session keeps of all its sources, and what they say together.
-use Rattle.std.proofs.Common.{ℕ, zero, suc, ◌≡◌, ◌≢◌, ◌+◌, ◌<◌, ◌≤◌, Bool, true, false, List, [], ◌∷◌, ◌++◌, append_assoc, length, map, take, drop, set, get_or, replicate, refl, sym, ap, subst, ◌∙◌, Option, Some, None, arith}
+use Rattle.std.proofs.Common.{ℕ, zero, suc, ◌≡◌, ◌≢◌, ◌+◌, ◌<◌, ◌≤◌, Bool, true, false, List, [], ◌∷◌, ◌++◌, append_assoc, length, map, take, drop, set, get_or, refl, sym, ap, subst, ◌∙◌, Option, Some, None, arith}
 use Rattle.std.specs.Prelude.{◌&&◌, ◌↔◌, IsTrue, slice_get, Result, Ok, Err, OnOk}
 use Rattle.std.specs.List.{All, AllZip, flat_map, enumerate_from, list_all}
 use Rattle.std.proofs.lemmas.Bool.{and_parts}
-use Rattle.std.proofs.lemmas.List.{set_past, length-set, length-map, replicate_more, take_more, take_more_set, drop_more, drop-set-lt, map-append, append-nil}
+use Rattle.std.proofs.lemmas.List.{set_past, length-set, length-map, take_more, take_more_set, drop_more, drop-set-lt, map-append, append-nil}
 use Rattle.std.proofs.lemmas.Grind.{flat_map-append}
 use Rattle.std.proofs.lemmas.Option.{slice_get_read}
 use Rattle.std.proofs.lemmas.List.Elements.{All-nil, All-cons, All-head, All-tail, All-push}
@@ -15,59 +15,33 @@ use Rattle.mig_packet.specs.Packet.{Fields, fields_of}
 use Rattle.mig_packet.specs.Lent.{fields}
 use Rattle.mig_packet.specs.declared.packet.Packet.{Packet}
 use Rattle.mig_packet.specs.Reading.{Settings, ChannelReading, IsReading}
-use Rattle.mig_send.proofs.Gathering.{zip_push}
-use Rattle.mig_single_load.specs.Settings.{main_of, channel_of}
-use Rattle.mig_single_load.specs.declared.settings.LoadSettings.{LoadSettings}
-use Rattle.mig_single_load.specs.declared.fault.Origin.TheVariants as origin
-use Rattle.mig_session.specs.declared.counts.Count.{Count}
+use Rattle.mig_load_types.specs.Settings.{main_of, channel_of}
+use Rattle.mig_load_types.specs.declared.settings.LoadSettings.{LoadSettings}
+use Rattle.mig_load_types.specs.declared.fault.Origin.TheVariants as origin
+use Rattle.mig_sources.specs.declared.counts.Count.{Count}
 use Rattle.mig_session.specs.declared.places.Noted.{Noted}
 use Rattle.mig_answer.specs.declared.status.Status.{Status}
 use Rattle.mig_answer.specs.declared.status.Status.TheVariants.{Clean}
 use Rattle.mig_answer.specs.declared.verdict.Verdict.{Verdict}
-use Rattle.mig_session.specs.declared.source.Source.TheVariants as source
+use Rattle.mig_sources.specs.declared.source.Source.TheVariants as source
 use Rattle.mig_answer.specs.Status.{main_status, channel_status, stream_end, is_clean}
 use Rattle.mig_answer.specs.Texts.{Text, Texts, Readings, AreReadings, no_text}
 use Rattle.mig_answer.specs.Rounds.{channel_packets_at, packets_at}
 use Rattle.mig_answer.specs.MultiLoad.{Standing, main_standing, main_at, channels_at, hello_ids, repeated_hello, sources_verdicts}
 use Rattle.mig_answer.specs.Told.{standings}
 use Rattle.mig_session.specs.Sources.{Places, FedMain, FedChannel, FedSources, channel_count, HoldsMain, HoldsChannel, Holds, TellsMainStatus, TellsChannelStatus, TellsHello, TellsAll, HaveRound, TakesMain, TakesChannel, packets_of, packets_of_all, IsOfSize, with_one, main_waiting}
-use Rattle.mig_session.specs.Session.{at_source, no_count, IsNotedOfMain, IsNotedOfChannel, HasPlaces, HasOnly}
-use Rattle.mig_session.specs.Advancing.{IsDue, TellsOnly, TellAllIn}
+use Rattle.mig_session.specs.Session.{IsNotedOfMain, IsNotedOfChannel, HasPlaces, HasOnly}
+use Rattle.mig_sources.specs.Sources.{at_source, no_count}
+use Rattle.mig_session.specs.Advancing.{TellsOnly, TellAllIn}
+use Rattle.mig_sources.specs.Due.{IsDue}
 use Rattle.mig_answer.proofs.Statuses.{status_end, clean_at, stream_closed}
 use Rattle.mig_answer.proofs.Judged.{IsWhole}
 use Rattle.mig_session.proofs.KeptChannel as channel
 use Rattle.mig_session.proofs.KeptMain as main
-use Rattle.mig_session.proofs.Telling.{due_sources}
+use Rattle.mig_sources.proofs.Due.{due_sources}
+use Rattle.mig_sources.proofs.Zips.{zip_here, zip_set, zip_more}
 
 -- ---- one place of two lists
-
--- two lists related element by element stay so with a related pair set at the same place
-pub zip_set : {X Y : Type 0} (R : X → Y → Type 0) (xs : List X) (ys : List Y) (j : ℕ) (x : X) (y : Y) → AllZip R xs ys → R x y
-    → AllZip R (set xs j x) (set ys j y)
-zip_set R [] [] j x y zip here = tt
-zip_set R [] (b ∷ ys) j x y zip here = absurd zip
-zip_set R (a ∷ xs) [] j x y zip here = absurd zip
-zip_set R (a ∷ xs) (b ∷ ys) zero x y zip here = (here, zip.1)
-zip_set R (a ∷ xs) (b ∷ ys) (suc j) x y zip here = (zip.0, zip_set R xs ys j x y zip.1 here)
-
--- in two related lists, the element y at a place of the second is related to that of the first
-pub zip_at : {X Y : Type 0} (R : X → Y → Type 0) (xs : List X) (ys : List Y) (j : ℕ) (d : X) (y : Y) → AllZip R xs ys
-    → slice_get ys j ≡ Some y → R (get_or xs j d) y
-zip_at R [] [] j d y zip is = absurd cc
-zip_at R [] (b ∷ ys) j d y zip is = absurd zip
-zip_at R (a ∷ xs) [] j d y zip is = absurd zip
-zip_at R (a ∷ xs) (b ∷ ys) zero d y zip is = subst (λ z. R a z) (let same : b ≡ y = cc in same) zip.0
-zip_at R (a ∷ xs) (b ∷ ys) (suc j) d y zip is = zip_at R xs ys j d y zip.1 is
-
--- an element x set at place j of a list is related to the other list's element there
-pub zip_here : {X Y : Type 0} (R : X → Y → Type 0) (xs : List X) (ys : List Y) (j : ℕ) (x : X) (y : Y) → AllZip R (set xs j x) ys
-    → slice_get ys j ≡ Some y → R x y
-zip_here R [] [] j x y zip is = absurd cc
-zip_here R [] (b ∷ ys) j x y zip is = absurd zip
-zip_here R (a ∷ xs) [] zero x y zip is = absurd zip
-zip_here R (a ∷ xs) [] (suc j) x y zip is = absurd zip
-zip_here R (a ∷ xs) (b ∷ ys) zero x y zip is = subst (λ z. R x z) (let same : b ≡ y = cc in same) zip.0
-zip_here R (a ∷ xs) (b ∷ ys) (suc j) x y zip is = zip_here R xs ys j x y zip.1 is
 
 -- a place that there isn't
 pub set_beyond : (ns : List Noted) (j : ℕ) (n : Noted) → length ns ≤ j → set ns j n ≡ ns
@@ -347,13 +321,6 @@ sizes_here given uuid k texts s holds = sizes_are (channel_of given uuid (length
 
 -- ---- one element more, in a loop
 
--- if a list's first i elements and the next are each related, so are i + 1 with y added
-pub zip_more : {X Y : Type 0} (R : X → Y → Type 0) (xs : List X) (ys : List Y) (i : ℕ) (x : X) (y : Y) → i < length xs
-    → get_or xs i x ≡ x → AllZip R (take i xs) ys → R x y
-    → AllZip R (take (i + 1) xs) (ys ++ y ∷ [])
-zip_more R xs ys i x y below is zip here =
-    subst (λ l. AllZip R l (ys ++ y ∷ [])) (sym (take_more xs i x below ∙ ap (λ z. take i xs ++ z ∷ []) is)) (zip_push R (take i xs) ys x y zip here)
-
 -- a channel went on to its next round, where those from it on hadn't
 pub next_zip : (old now : List FedChannel) (i : ℕ) (c d : FedChannel) → i < length old → length now ≡ length old → get_or now i c ≡ c → drop i now ≡ drop i old
     → AllZip TakesChannel (take i old) (take i now) → TakesChannel c d → AllZip TakesChannel (take (i + 1) old) (take (i + 1) (set now i d))
@@ -395,11 +362,6 @@ pub packets_more : (channels : List FedChannel) (i : ℕ) (c : FedChannel) → i
 packets_more channels i c below is =
     sym (ap packets_of_all (take_more channels i c below ∙ ap (λ z. take i channels ++ z ∷ []) is) ∙ flat_map-append packets_of (take i channels) (c ∷ [])
     ∙ ap (λ (l : List Fields). packets_of_all (take i channels) ++ l) (append-nil (packets_of c)))
-
--- if n copies of x are related to a list, and x to y, so are n + 1 copies to the list with y added
-pub zip_replicate : {X Y : Type 0} (R : X → Y → Type 0) (n : ℕ) (x : X) (y : Y) (ys : List Y) → AllZip R (replicate n x) ys
-    → R x y → AllZip R (replicate (n + 1) x) (ys ++ y ∷ [])
-zip_replicate R n x y ys zip here = subst (λ l. AllZip R l (ys ++ y ∷ [])) (replicate_more n x) (zip_push R (replicate n x) ys x y zip here)
 
 -- packets that lend these bytes say what these say
 pub lent_fields : (page_size : ℕ) (packets : List Packet) (texts : List (List ℕ))

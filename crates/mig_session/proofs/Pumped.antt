@@ -8,20 +8,20 @@ use Rattle.std.proofs.lemmas.List.Folds.{concat-append}
 use Rattle.std.proofs.lemmas.List.Elements.{All-nil, All-push}
 use Rattle.std.proofs.Math.Dec.{eqb-suc-zero}
 use Rattle.std.proofs.KnownBytes.{Consumes-nil, Consumes-trans}
-use Rattle.mig_session.specs.declared.counts.Count.{Count}
-use Rattle.mig_session.specs.declared.source.Source.{Source}
-use Rattle.mig_session.specs.declared.source.Source.TheVariants as source
+use Rattle.mig_sources.specs.declared.counts.Count.{Count}
+use Rattle.mig_sources.specs.declared.source.Source.{Source}
+use Rattle.mig_sources.specs.declared.source.Source.TheVariants as source
 use Rattle.mig_answer.specs.declared.verdict.Verdict.TheVariants.{Running}
 use Rattle.mig_session.specs.declared.pumping.PumpFault.{PumpFault}
 use Rattle.mig_session.specs.declared.pumping.PumpFault.TheVariants as pump
 use Rattle.mig_answer.specs.Texts.{Texts}
-use Rattle.mig_session.specs.Sources.{Counts}
+use Rattle.mig_sources.specs.Sources.{Counts, HasSource, no_count, count_of, with_fed, with_end, feed_step, end_step}
 use Rattle.mig_answer.specs.MultiLoad.{Answer}
 use Rattle.mig_assemble.specs.Target.{LoadTarget}
 use Rattle.mig_session.specs.Advancing.{failed_without_memory}
-use Rattle.mig_session.specs.Session.{LoadSession, HasSource, no_count, count_of, with_fed, with_end, feed_step, end_step, answer_in, rounds_loaded, StandsFor, LacksMemory, StepsOn, RunsOut, StillLacks, KeepsRounds}
-use Rattle.mig_session.specs.Reads.{ReadsSoFar, after_pieces, after_end, after_read}
-use Rattle.mig_session.specs.Pumping.{piece_limit, IsPiece, Explains, reads_after, HasRead, piece_steps, pump_step, FeedsPieces}
+use Rattle.mig_session.specs.Session.{LoadSession, answer_in, rounds_loaded, StandsFor, LacksMemory, StepsOn, RunsOut, StillLacks, KeepsRounds}
+use Rattle.mig_sources.specs.Reads.{ReadsSoFar, after_pieces, after_end, after_read, piece_limit, IsPiece}
+use Rattle.mig_session.specs.Pumping.{Explains, reads_after, HasRead, piece_steps, pump_step, FeedsPieces}
 
 -- ---- counts
 

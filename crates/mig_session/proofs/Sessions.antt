@@ -1,10 +1,10 @@
 -- What a session represents: before the first piece, after each, and once a source has ended.
-use Rattle.std.proofs.Common.{ℕ, zero, suc, ◌≡◌, ◌≢◌, ◌⊎◌, ◌+◌, ◌<◌, Bool, true, false, List, [], ◌∷◌, ◌++◌, append_assoc, length, map, set, get_or, replicate, refl, sym, ap, subst, ◌∙◌, cond, inl, inr, Option, Some, None, arith}
-use Rattle.std.specs.Prelude.{nat_lt, ◌==◌, ◌↔◌, IsTrue, IsFalse, slice_get, Result, Ok, Err, IfOk, OnOk, IfSome}
+use Rattle.std.proofs.Common.{ℕ, zero, suc, ◌≡◌, ◌≢◌, ◌⊎◌, ◌+◌, ◌<◌, Bool, true, false, List, [], ◌∷◌, ◌++◌, length, map, get_or, replicate, refl, sym, ap, subst, ◌∙◌, inl, inr, Option, Some, None, arith}
+use Rattle.std.specs.Prelude.{◌↔◌, IsTrue, IsFalse, slice_get, Result, Ok, Err, IfOk, OnOk, IfSome}
 use Rattle.std.specs.List.{AllZip, All, enumerate_from, range_with_len, list_all}
 use Rattle.std.specs.Option.{option_map, option_and_then, unwrap_or}
-use Rattle.std.proofs.lemmas.Bool.{cases_order, le-ltb, ne_eqb, cond-false, and_parts}
-use Rattle.std.proofs.lemmas.List.{length-append, append-nil, length-map, length-set, get_or-map, take-append-le}
+use Rattle.std.proofs.lemmas.Bool.{and_parts}
+use Rattle.std.proofs.lemmas.List.{length-append, length-map, length-set, take-append-le}
 use Rattle.std.proofs.lemmas.List.Elements.{All-nil, All-cons, All-head, All-tail}
 use Rattle.mig_mem.specs.PageSize.{IsPageSize}
 use Rattle.mig_mem.specs.RamTable.{RamTable}
@@ -22,37 +22,41 @@ use Rattle.mig_packet.specs.Progress.{ChannelProgress, start as channel_start}
 use Rattle.mig_packet.proofs.Feeding.{reads_short as channel_short}
 use Rattle.mig_packet.specs.Reading.{Settings, ChannelReading, IsReading, Reads as ChannelReads}
 use Rattle.mig_assemble.specs.Target.{LoadTarget}
-use Rattle.mig_session.specs.declared.counts.Count.{Count}
+use Rattle.mig_sources.specs.declared.counts.Count.{Count}
 use Rattle.mig_session.specs.declared.places.Noted.{Noted}
-use Rattle.mig_session.specs.declared.source.Source.{Source}
-use Rattle.mig_session.specs.declared.source.Source.TheVariants as source
-use Rattle.mig_single_load.specs.Settings.{main_of, channel_of, mode_of}
-use Rattle.mig_single_load.specs.declared.settings.LoadSettings.{LoadSettings}
-use Rattle.mig_single_load.specs.declared.fault.Origin.TheVariants as origin
-use Rattle.mig_single_load.specs.declared.fault.Fault.{Fault}
+use Rattle.mig_sources.specs.declared.source.Source.{Source}
+use Rattle.mig_sources.specs.declared.source.Source.TheVariants as source
+use Rattle.mig_load_types.specs.Settings.{main_of, channel_of, mode_of}
+use Rattle.mig_load_types.specs.declared.settings.LoadSettings.{LoadSettings}
+use Rattle.mig_load_types.specs.declared.fault.Origin.TheVariants as origin
+use Rattle.mig_load_types.specs.declared.fault.Fault.{Fault}
 use Rattle.mig_answer.specs.declared.status.Status.{Status}
-use Rattle.mig_answer.specs.declared.status.Status.TheVariants.{Whole, Pending}
 use Rattle.mig_answer.specs.declared.verdict.Verdict.{Verdict}
 use Rattle.mig_answer.specs.declared.verdict.Verdict.TheVariants.{Running, Done, Failed}
 use Rattle.mig_answer.specs.Status.{status_at, stream_end, channel_end, channel_status, is_whole, is_pending, is_clean, fault_of}
-use Rattle.mig_answer.specs.Texts.{Text, Texts, Readings, IsMainReading, AreReadings, no_text, no_texts, with_piece, over}
+use Rattle.mig_answer.specs.Texts.{Text, Texts, Readings, IsMainReading, AreReadings, no_text, no_texts, over}
 use Rattle.mig_answer.specs.Rounds.{memory_at, named_at, missing_at, base_at, pages_at}
 use Rattle.mig_answer.specs.MultiLoad.{IsAnswer, Standing, main_at, channels_at, passes, IsFirstStop, verdict_at}
 use Rattle.mig_answer.specs.Growing.{GoesOn, GoOn}
-use Rattle.mig_session.specs.Sources.{Counts, Places, FedChannel, FedSources, main_count, channel_count, counts_of, HoldsChannel, Holds, TellsAll}
-use Rattle.mig_session.specs.Session.{LoadSession, rounds_loaded, missing_in, answer_in, HasSource, count_of, no_count, with_count, with_fed, with_end, count_in, counts_in, at_source, feed_step, end_step, HasBase, IsRunning, HasFault, HasMainFault, HasChannelFault, place_of, noted_fault, nothing_noted, IsNotedOfChannel, HasPlaces, HavePlaces, IsSourceValidUpTo, HasOnly, HasAllRounds, HasMissing, AsRead, StandsFor, LacksMemory, StandsForSome, IsSession}
-use Rattle.mig_session.specs.Advancing.{Feeding, HasPutRounds, HasRounds, Advances, TellsVerdict, HasAdvanced, HasTaken, failed_without_memory, IsDue, TellAllIn}
+use Rattle.mig_session.specs.Sources.{Places, FedChannel, FedSources, main_count, channel_count, counts_of, HoldsChannel, Holds, TellsAll}
+use Rattle.mig_sources.specs.Sources.{Counts, HasSource, count_of, no_count, with_fed, with_end, count_in, counts_in, feed_step, end_step}
+use Rattle.mig_session.specs.Session.{LoadSession, rounds_loaded, missing_in, answer_in, HasBase, IsRunning, place_of, noted_fault, nothing_noted, IsNotedOfChannel, HasPlaces, HavePlaces, HasOnly, HasAllRounds, HasMissing, AsRead, StandsFor, LacksMemory, StandsForSome, IsSession}
+use Rattle.mig_sources.specs.Faults.{HasFault, HasMainFault, HasChannelFault, IsSourceValidUpTo}
+use Rattle.mig_session.specs.Advancing.{Feeding, HasPutRounds, HasRounds, Advances, TellsVerdict, HasAdvanced, HasTaken, failed_without_memory, TellAllIn}
+use Rattle.mig_sources.specs.Due.{IsDue}
 use Rattle.mig_answer.proofs.NamedRounds.{counted_missing, no_missing}
-use Rattle.mig_answer.proofs.Statuses.{status_whole, status_end, stream_ends, channel_ends, clean_at, stream_closed, passes_all}
+use Rattle.mig_answer.proofs.Statuses.{status_whole, stream_ends, channel_ends, clean_at, stream_closed, passes_all}
 use Rattle.mig_answer.proofs.Never.{done_is_clean}
 use Rattle.mig_answer.proofs.Judged.{IsWhole, IsFinal, settled_is_told}
-use Rattle.mig_answer.proofs.OneAnswer.{same_main, some_readings, same_readings}
+use Rattle.mig_answer.proofs.OneAnswer.{some_readings, same_readings}
 use Rattle.mig_session.proofs.KeptMain.{same_found, fault_is as main_fault}
 use Rattle.mig_session.proofs.KeptChannel.{fault_is as channel_fault}
-use Rattle.mig_session.proofs.Telling.{due_sources}
+use Rattle.mig_sources.proofs.Due.{due_sources, whole_below}
 use Rattle.mig_session.proofs.Advances.{told_of, told_without}
 use Rattle.mig_answer.proofs.GrowingChannels.{same_rounds}
 use Rattle.mig_answer.proofs.Growing.{ReadingsStay, readings_stay, pass_still, memory_still, named_still, base_still, answers_law, wants_law}
+use Rattle.mig_sources.proofs.First.{nothing_read, main_nothing}
+use Rattle.mig_sources.proofs.Steps.{counts_fed, stays_same, counts_ended, goes_then, all_same, as_many_texts, fed_goes_on, all_then, none_counted, ended_goes_on, same_at, all_bytes, SameBytes}
 
 -- ---- how much has come
 
@@ -76,80 +80,6 @@ held_counts given uuid k texts s holds =
     ap (λ (x : Count). record { main = x; channels = map channel_count s.channels }) m
     ∙ ap (λ (l : List Count). record { main = count_in texts.main; channels = l })
     (channels_counted (channel_of given uuid (length texts.channels)) k texts.channels s.channels holds.channels)
-
--- a stream that takes a step has the count that does
-channel_stepped : (j : ℕ) (step : Text → Text) (by : Count → Count) (texts : List Text) → ((text : Text) → count_in (step text) ≡ by (count_in text))
-    → map count_in (set texts j (step (get_or texts j no_text))) ≡ set (map count_in texts) j (by (get_or (map count_in texts) j no_count))
-channel_stepped j step by [] same = refl
-channel_stepped zero step by (text ∷ texts) same = ap (λ (c : Count). c ∷ map count_in texts) (same text)
-channel_stepped (suc j) step by (text ∷ texts) same = ap (λ (l : List Count). count_in text ∷ l) (channel_stepped j step by texts same)
-
-counts_stepped : (from : Source) (step : Text → Text) (by : Count → Count) (texts : Texts) → ((text : Text) → count_in (step text) ≡ by (count_in text))
-    → counts_in (at_source from step texts) ≡ with_count (counts_in texts) from (by (count_of (counts_in texts) from))
-counts_stepped source.Main step by texts same = ap (λ (c : Count). record { main = c; channels = map count_in texts.channels }) (same texts.main)
-counts_stepped (source.Channel j) step by texts same =
-    ap (λ (l : List Count). record { main = count_in texts.main; channels = l }) (channel_stepped j step by texts.channels same)
-
--- feeding a piece adds its length to the count of its source's bytes
-pub counts_fed : (from : Source) (piece : List ℕ) (texts : Texts) → counts_in (feed_step from piece texts) ≡ with_fed (counts_in texts) from (length piece)
-counts_fed from piece texts =
-    counts_stepped from (with_piece piece) (λ (c : Count). record c { fed = c.fed + length piece }) texts
-    (λ (text : Text). ap (λ (n : ℕ). record { fed = n; ended = text.ended }) (length-append text.bytes piece))
-
--- ending a source sets the end in its count, and changes no other count
-pub counts_ended : (from : Source) (texts : Texts) → counts_in (end_step from texts) ≡ with_end (counts_in texts) from
-counts_ended from texts = counts_stepped from over (λ (c : Count). record c { ended = true }) texts (λ (text : Text). refl)
-
--- ---- streams go on
-
--- a stream goes on to itself
-pub stays_same : (text : Text) → GoesOn text text
-stays_same text = record { more = []; has_bytes = sym (append-nil text.bytes); stays_ended = λ e. refl }
-
--- each of some streams goes on to itself
-pub all_same : (texts : List Text) → AllZip GoesOn texts texts
-all_same [] = tt
-all_same (text ∷ texts) = (stays_same text, all_same texts)
-
--- if one stream goes on with a step, each does where only that one takes it
-pub one_goes : (j : ℕ) (step : Text → Text) (texts : List Text) → GoesOn (get_or texts j no_text) (step (get_or texts j no_text))
-    → AllZip GoesOn texts (set texts j (step (get_or texts j no_text)))
-one_goes j step [] goes = tt
-one_goes zero step (text ∷ texts) goes = (goes, all_same texts)
-one_goes (suc j) step (text ∷ texts) goes = (stays_same text, one_goes j step texts goes)
-
--- a source's stream
-abbrev text_of : Texts → Source → Text
-text_of texts source.Main = texts.main
-text_of texts (source.Channel j) = get_or texts.channels j no_text
-
-steps_on : (from : Source) (step : Text → Text) (texts : Texts) → GoesOn (text_of texts from) (step (text_of texts from))
-    → GoOn texts (at_source from step texts)
-steps_on source.Main step texts goes = record { main = goes; channels = all_same texts.channels }
-steps_on (source.Channel j) step texts goes = record { main = stays_same texts.main; channels = one_goes j step texts.channels goes }
-
-is_open : (texts : Texts) (from : Source) → HasSource (counts_in texts) from → IsFalse (count_of (counts_in texts) from).ended
-    → (text_of texts from).ended ≡ false
-is_open texts source.Main there e = e
-is_open texts (source.Channel j) there e =
-    sym (ap (λ (c : Count). c.ended) (get_or-map count_in texts.channels j no_text no_count (omega (arith, there, length-map texts.channels count_in)))) ∙ e
-
--- the streams go on with a piece of a source that exists and hasn't ended
-pub fed_goes_on : (from : Source) (piece : List ℕ) (texts : Texts) → HasSource (counts_in texts) from
-    → IsFalse (count_of (counts_in texts) from).ended → GoOn texts (feed_step from piece texts)
-fed_goes_on from piece texts there open_ =
-    let e = is_open texts from there open_ in
-    steps_on from (with_piece piece) texts (record { more = piece; has_bytes = refl; stays_ended = λ over. absurd cc })
-
--- the streams go on as a source ends
-pub ended_goes_on : (from : Source) (texts : Texts) → GoOn texts (end_step from texts)
-ended_goes_on from texts =
-    let text : Text = text_of texts from in
-    steps_on from over texts (record {
-      more = [];
-      has_bytes = sym (append-nil text.bytes);
-      stays_ended = λ e. ap (λ (b : Bool). record { bytes = text.bytes; ended = b }) (sym e);
-    })
 
 -- ---- what is counted stays counted
 
@@ -298,24 +228,6 @@ lacks_of given uuid texts readings counts kept (Some t) size are counted has = r
 
 -- ---- before the first piece
 
--- what no bytes say
-abbrev pub nothing_read : StreamReading
-nothing_read = record { table = None; rounds = []; state = Reading }
-
--- a main stream without bytes reads so
-pub main_nothing : (given : LoadSettings) (reading : StreamReading) → IsPageSize given.page_size → IsMainReading given no_text reading → reading ≡ nothing_read
-main_nothing given reading size is =
-    let begin : StreamProgress = start given.frame (mode_of given.round_end) given.page_size given.limit given.waiting in
-    same_main given no_text reading nothing_read size is (record {
-      found = nothing_read;
-      is_reading = record { to = begin; rest = []; reads = reads_short begin [] (omega arith); has_table = refl; has_rounds = refl };
-      has_end = refl;
-    })
-
-none_counted : (n : ℕ) → replicate n no_count ≡ map count_in (replicate n no_text)
-none_counted zero = refl
-none_counted (suc n) = ap (λ (l : List Count). no_count ∷ l) (none_counted n)
-
 -- nothing is valid up to its first byte
 main_first : (given : LoadSettings) → stream.IsValidUpTo (main_of given) [] 0
 main_first given =
@@ -428,21 +340,6 @@ stands_at_first given uuid n sources counts places size counted holds have =
 
 -- ---- a session that is settled
 
-goes_then : (a b c : Text) → GoesOn a b → GoesOn b c → GoesOn a c
-goes_then a b c one two = record {
-  more = one.more ++ two.more;
-  has_bytes = two.has_bytes ∙ ap (λ (l : List ℕ). l ++ two.more) one.has_bytes ∙ append_assoc a.bytes one.more two.more;
-  stays_ended = λ e. let same : b ≡ a = one.stays_ended e in two.stays_ended (ap (λ (t : Text). t.ended) same ∙ e) ∙ same;
-}
-
-all_then : (a b c : List Text) → AllZip GoesOn a b → AllZip GoesOn b c → AllZip GoesOn a c
-all_then [] [] [] one two = tt
-all_then [] [] (z ∷ c) one two = absurd two
-all_then [] (y ∷ b) c one two = absurd one
-all_then (x ∷ a) [] c one two = absurd one
-all_then (x ∷ a) (y ∷ b) [] one two = absurd two
-all_then (x ∷ a) (y ∷ b) (z ∷ c) one two = (goes_then x y z one.0 two.0, all_then a b c one.1 two.1)
-
 -- a session that has its verdict represents the streams that go on, with their counts
 pub settled_steps : (given : LoadSettings) (uuid : List ℕ) (texts now : Texts) (s : LoadSession) (counts : Counts)
     → StandsFor given uuid texts s → s.sources ≡ None → s.verdict ≢ Running
@@ -476,28 +373,11 @@ lacking_steps given uuid texts now s counts lacks goes counted = record {
 
 -- ---- a source has ended
 
--- a source that is Whole at round k, and isn't so after its rounds, has more than k rounds
-pub whole_below : (k n : ℕ) (end : Status) → is_whole end ≡ false → is_whole (status_at k n end) ≡ true → k < n
-whole_below k n end other whole = elim (cases_order k n) [
-  | inl same ↦ let f : is_whole (status_at k n end) ≡ false = ap is_whole (status_end k n end same) ∙ other in absurd cc
-  | inr ne ↦ elim ne [
-    | inl lt ↦ lt
-    | inr gt ↦
-        let pending : status_at k n end ≡ Pending =
-        cond-false (nat_lt k n) Whole (cond (k == n) end Pending) (le-ltb k n (omega (arith, gt)))
-        ∙ cond-false (k == n) end Pending (ne_eqb k n (λ e. omega (arith, e, gt))) in
-        let f : is_whole (status_at k n end) ≡ false = ap is_whole pending in absurd cc
-  ]
-]
-
 -- a source that has a round once it has ended had it before
 settled_before : (k n m : ℕ) (old new : Status) → n ≡ m → is_whole new ≡ false → is_whole (status_at k m new) ≡ true → is_pending (status_at k n old) ≡ false
 settled_before k n m old new same other whole =
     let below : k < m = whole_below k m new other whole in
     ap is_pending (status_whole k n old (omega (arith, below, same)))
-
-abbrev pub SameBytes : Text → Text → Type 0
-SameBytes a b = b.bytes ≡ a.bytes
 
 main_tables : (given : LoadSettings) (a b : Text) (x y : StreamReading) → IsPageSize given.page_size → SameBytes a b
     → IsMainReading given a x → IsMainReading given b y → x.table ≡ y.table
@@ -537,17 +417,6 @@ channels_before given k from (text ∷ texts) (t ∷ now) (x ∷ xs) (y ∷ ys) 
     (ap (λ (l : List (List (List ℕ))). length l) rounds) (channel_ends y.state)
     (All-head IsWhole (standing_at k (from, y)) rest whole))
     (channels_before given k (from + 1) texts now xs ys same.1 is_x.1 is_y.1 (All-tail IsWhole (standing_at k (from, y)) rest whole))
-
--- each stream has the same bytes as itself
-pub all_bytes : (texts : List Text) → AllZip SameBytes texts texts
-all_bytes [] = tt
-all_bytes (text ∷ texts) = (refl, all_bytes texts)
-
--- with one channel ended, each channel has the bytes that it had
-pub same_at : (j : ℕ) (texts : List Text) → AllZip SameBytes texts (set texts j (over (get_or texts j no_text)))
-same_at j [] = tt
-same_at zero (text ∷ texts) = (refl, all_bytes texts)
-same_at (suc j) (text ∷ texts) = (refl, same_at j texts)
 
 -- ending a source changes no bytes
 main_bytes : (from : Source) (texts : Texts) → SameBytes texts.main (end_step from texts).main
@@ -825,12 +694,6 @@ places_read given uuid texts s p stands some = subst (λ (o : Option Places). Ha
 -- a session that represents streams has notes
 pub no_places_read : (given : LoadSettings) (uuid : List ℕ) (texts : Texts) (s : LoadSession) → StandsFor given uuid texts s → s.places ≡ None → ⊥
 no_places_read given uuid texts s stands none = subst (λ (o : Option Places). HavePlaces given uuid stands.read o) none stands.have_places
-
-as_many_texts : (a b : List Text) → AllZip GoesOn a b → length a ≡ length b
-as_many_texts [] [] go = refl
-as_many_texts [] (y ∷ b) go = absurd go
-as_many_texts (x ∷ a) [] go = absurd go
-as_many_texts (x ∷ a) (y ∷ b) go = ap suc (as_many_texts a b go.1)
 
 noted_at : (R : Text → Noted → Type 0) (texts : List Text) (ns : List Noted) (j : ℕ) → AllZip R texts ns → j < length texts
     → (n : Noted) × (slice_get ns j ≡ Some n) × R (get_or texts j no_text) n

@@ -1,23 +1,24 @@
 -- How a session advances: it judges the rounds that all sources have, and applies them.
-use Rattle.std.specs.Prelude.{ℕ, ◌≡◌, ◌≢◌, ◌+◌, ◌≤◌, ◌<◌, ◌^◌, ◌⊎◌, ◌↔◌, Bool, List, Option, None, Some, IfSome, IfOk, IsTrue, Result, Ok, Err, ⊤}
+use Rattle.std.specs.Prelude.{ℕ, ◌≡◌, ◌≢◌, ◌+◌, ◌≤◌, ◌<◌, ◌^◌, ◌⊎◌, ◌↔◌, Bool, List, Option, Some, IfSome, IfOk, IsTrue, Result, Ok, Err, ⊤}
 use Rattle.std.specs.Option.{option_map}
 use Rattle.mig_mem.specs.PageSize.{IsPageSize}
-use Rattle.mig_mem.specs.First.{first_some}
 use Rattle.mig_packet.specs.Reading.{Settings as ChannelSettings, ChannelReading, IsReading}
 use Rattle.mig_assemble.specs.Target.{LoadTarget}
-use Rattle.mig_single_load.specs.declared.settings.LoadSettings.{LoadSettings}
-use Rattle.mig_single_load.specs.declared.fault.LoadFault.{LoadFault}
-use Rattle.mig_single_load.specs.declared.fault.Origin.TheVariants as origin
-use Rattle.mig_single_load.specs.declared.fault.Fault.TheVariants as fault
-use Rattle.mig_session.specs.declared.source.Source.{Source}
+use Rattle.mig_load_types.specs.declared.settings.LoadSettings.{LoadSettings}
+use Rattle.mig_load_types.specs.declared.fault.LoadFault.{LoadFault}
+use Rattle.mig_load_types.specs.declared.fault.Origin.TheVariants as origin
+use Rattle.mig_load_types.specs.declared.fault.Fault.TheVariants as fault
+use Rattle.mig_sources.specs.declared.source.Source.{Source}
 use Rattle.mig_answer.specs.declared.verdict.Verdict.{Verdict}
 use Rattle.mig_answer.specs.declared.verdict.Verdict.TheVariants.{Failed}
 use Rattle.mig_answer.specs.Texts.{Text, Texts, Readings, AreReadings}
 use Rattle.mig_answer.specs.Rounds.{memory_at, named_at}
-use Rattle.mig_answer.specs.MultiLoad.{main_at, channels_at, hello_ids, repeated_hello, sources_verdicts, passes, IsFirstStop, failed, verdict_at}
+use Rattle.mig_answer.specs.MultiLoad.{passes, IsFirstStop, failed, verdict_at}
 use Rattle.mig_answer.specs.Putting.{HasLoaded}
 use Rattle.mig_session.specs.Sources.{FedChannel, FedSources, HoldsChannel, Holds}
-use Rattle.mig_session.specs.Session.{rounds_loaded, feed_step, HasOnly, HaveOnly}
+use Rattle.mig_session.specs.Session.{rounds_loaded, HasOnly, HaveOnly}
+use Rattle.mig_sources.specs.Sources.{feed_step}
+use Rattle.mig_sources.specs.Due.{IsDue}
 
 -- a session's settings and UUID, the bytes of each source so far, and what readers read in them
 pub record Feeding : Type 0 where
@@ -65,11 +66,6 @@ abbrev pub HasTaken : {E : Type 0} → Feeding → Source → List ℕ → FedSo
 HasTaken f from piece s target result = (readings : Readings) → AreReadings f.given f.uuid (feed_step from piece f.texts) readings
     → HasRounds readings target
     × IfOk result (λ verdict. Holds f.given f.uuid (rounds_loaded target) (feed_step from piece f.texts) s × TellsVerdict readings target verdict)
-
--- a round is due if the sources have no verdict at it: each source has the round, and no hello's id
--- is repeated
-abbrev pub IsDue : ℕ → Readings → Type 0
-IsDue k readings = first_some (sources_verdicts k (main_at k readings) (channels_at k readings) (repeated_hello (hello_ids readings))) ≡ None
 
 -- All sources have the next round, and it is due.
 pub record RoundIsDue (f : Feeding) (s : FedSources) (t : LoadTarget) : Type 0 where

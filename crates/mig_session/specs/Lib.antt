@@ -7,6 +7,5 @@ pub mod Law
 -- Private: how a session advances
 pub mod Advancing
 -- Pumps, which feed a session what they read
-pub mod Reads
 pub mod Pumping
 pub mod PumpFaultNumber

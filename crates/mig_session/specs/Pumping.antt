@@ -1,26 +1,17 @@
 -- Pumping: pieces that are read of one source, and fed to a session.
-use Rattle.std.specs.Prelude.{ℕ, ◌≡◌, ◌≢◌, ◌+◌, ◌<◌, ◌≤◌, ◌⊎◌, List, [], ◌∷◌, length, Option, Result, Ok, Err, IfOk, All}
+use Rattle.std.specs.Prelude.{ℕ, ◌≡◌, ◌≢◌, ◌+◌, ◌⊎◌, List, [], ◌∷◌, length, Option, Result, Ok, Err, IfOk, All}
 use Rattle.std.specs.List.{concat}
 use Rattle.std.specs.Io.KnownBytes.{Consumes, IsAtEnd}
 use Rattle.mig_session.specs.declared.pumping.PumpFault.{PumpFault}
 use Rattle.mig_session.specs.declared.pumping.PumpFault.TheVariants.{Read, TooManyTurns, NoMemory}
-use Rattle.mig_session.specs.declared.source.Source.{Source}
+use Rattle.mig_sources.specs.declared.source.Source.{Source}
 use Rattle.mig_answer.specs.Texts.{Texts}
-use Rattle.mig_session.specs.Reads.{ReadsSoFar, after_pieces, after_end, after_failure}
-use Rattle.mig_session.specs.Sources.{Counts}
+use Rattle.mig_sources.specs.Reads.{ReadsSoFar, after_pieces, after_end, after_failure, IsPiece}
+use Rattle.mig_sources.specs.Sources.{Counts, feed_step, end_step, with_fed, with_end}
 use Rattle.mig_session.specs.Advancing.{failed_without_memory}
-use Rattle.mig_session.specs.Session.{LoadSession, answer_in, feed_step, end_step, with_fed, with_end, StepsOn, RunsOut, StillLacks}
+use Rattle.mig_session.specs.Session.{LoadSession, answer_in, StepsOn, RunsOut, StillLacks}
 
 -- ---- reads
-
--- the most bytes of one read
-abbrev pub piece_limit : ℕ
-piece_limit = 65536
-
--- the piece of a read that wasn't at the end
-pub record IsPiece (piece : List ℕ) : Type 0 where
-  pub is_some : 0 < length piece
-  pub is_short : length piece ≤ piece_limit
 
 -- The reader's counts for each result. Ok: one read was an end, and none failed. Read: one failed,
 -- and none was an end. TooManyTurns: there were all the reads that were allowed, and each gave

@@ -1,32 +1,31 @@
 -- A load whose streams are fed in pieces: what a session holds, and the streams that it represents.
-use Rattle.std.specs.Prelude.{ℕ, ◌≡◌, ◌≢◌, ◌≤◌, ◌<◌, ◌+◌, ◌^◌, true, false, List, length, map, slice_get, slice_set, get_or, Option, None, Some, IfSome, IsTrue, ⊤, All}
+use Rattle.std.specs.Prelude.{ℕ, ◌≡◌, ◌≢◌, ◌≤◌, ◌<◌, ◌^◌, List, length, slice_get, Option, None, Some, IfSome, IsTrue, All}
 use Rattle.std.specs.List.{AllZip}
 use Rattle.std.specs.Option.{option_map, option_map_or, option_and_then}
 use Rattle.mig_mem.specs.PageSize.{IsPageSize}
 use Rattle.mig_assemble.specs.NamedPlaces.{left_out}
 use Rattle.mig_assemble.specs.Target.{LoadTarget}
-use Rattle.mig_stream.specs.declared.item.StreamState.{StreamState}
 use Rattle.mig_stream.specs.declared.item.StreamState.TheVariants as stream_state
 use Rattle.mig_stream.specs.Reading.{Settings as StreamSettings}
 use Rattle.mig_stream.specs.Reader as stream
-use Rattle.mig_packet.specs.declared.state.ChannelState.{ChannelState}
 use Rattle.mig_packet.specs.Reading.{Settings as ChannelSettings, ChannelReading}
 use Rattle.mig_packet.specs.Reader as channel
-use Rattle.mig_single_load.specs.Settings.{main_of, channel_of}
-use Rattle.mig_single_load.specs.declared.settings.LoadSettings.{LoadSettings}
-use Rattle.mig_single_load.specs.declared.fault.Fault.{Fault}
-use Rattle.mig_session.specs.declared.counts.Count.{Count}
+use Rattle.mig_load_types.specs.Settings.{main_of, channel_of}
+use Rattle.mig_load_types.specs.declared.settings.LoadSettings.{LoadSettings}
+use Rattle.mig_load_types.specs.declared.fault.Fault.{Fault}
 use Rattle.mig_session.specs.declared.places.Noted.{Noted}
-use Rattle.mig_session.specs.declared.source.Source.{Source}
-use Rattle.mig_session.specs.declared.source.Source.TheVariants as source
+use Rattle.mig_sources.specs.declared.source.Source.{Source}
+use Rattle.mig_sources.specs.declared.source.Source.TheVariants as source
 use Rattle.mig_answer.specs.declared.verdict.Verdict.{Verdict}
 use Rattle.mig_answer.specs.declared.verdict.Verdict.TheVariants.{Running}
 use Rattle.mig_answer.specs.Growing.{GoOn}
-use Rattle.mig_answer.specs.Status.{stream_end, channel_end, fault_of}
-use Rattle.mig_answer.specs.Texts.{Text, Texts, Readings, AreReadings, no_text, with_piece, over}
+use Rattle.mig_answer.specs.Status.{channel_end, fault_of}
+use Rattle.mig_answer.specs.Texts.{Text, Texts, Readings, AreReadings}
 use Rattle.mig_answer.specs.Rounds.{base_at, memory_at, named_at, missing_at}
 use Rattle.mig_answer.specs.MultiLoad.{Answer, IsAnswer, IsWithoutMemory, passes}
-use Rattle.mig_session.specs.Sources.{Counts, Places, FedSources, counts_of, Holds}
+use Rattle.mig_session.specs.Sources.{Places, FedSources, counts_of, Holds}
+use Rattle.mig_sources.specs.Sources.{Counts, counts_in}
+use Rattle.mig_sources.specs.Faults.{HasMainFault, HasChannelFault}
 
 -- ---- what a session holds
 
@@ -49,52 +48,7 @@ rounds_loaded target = option_map_or (λ t. t.rounds) target 0
 abbrev pub answer_in : LoadSession → Answer
 answer_in s = record { memory = option_map (λ t. t.memory) s.target; rounds = rounds_loaded s.target; verdict = s.verdict }
 
--- ---- its sources
-
--- the main stream, or one of the channels
-abbrev pub HasSource : Counts → Source → Type 0
-HasSource counts source.Main = ⊤
-HasSource counts (source.Channel j) = j < length counts.channels
-
-abbrev pub no_count : Count
-no_count = record { fed = 0; ended = false }
-
--- the count of a source's bytes
-abbrev pub count_of : Counts → Source → Count
-count_of counts source.Main = counts.main
-count_of counts (source.Channel j) = get_or counts.channels j no_count
-
--- with another count of a source
-abbrev pub with_count : Counts → Source → Count → Counts
-with_count counts source.Main count = record counts { main = count }
-with_count counts (source.Channel j) count = record counts { channels = slice_set counts.channels j count }
-
-abbrev pub with_fed : Counts → Source → ℕ → Counts
-with_fed counts from len = with_count counts from (record (count_of counts from) { fed = (count_of counts from).fed + len })
-
-abbrev pub with_end : Counts → Source → Counts
-with_end counts from = with_count counts from (record (count_of counts from) { ended = true })
-
 -- ---- the streams that it represents
-
-abbrev pub count_in : Text → Count
-count_in text = record { fed = length text.bytes; ended = text.ended }
-
-abbrev pub counts_in : Texts → Counts
-counts_in texts = record { main = count_in texts.main; channels = map count_in texts.channels }
-
--- a source's stream takes a step
-abbrev pub at_source : Source → (Text → Text) → Texts → Texts
-at_source source.Main step texts = record texts { main = step texts.main }
-at_source (source.Channel j) step texts = record texts { channels = slice_set texts.channels j (step (get_or texts.channels j no_text)) }
-
--- a piece of a source was fed
-abbrev pub feed_step : Source → List ℕ → Texts → Texts
-feed_step from piece texts = at_source from (with_piece piece) texts
-
--- a source has ended
-abbrev pub end_step : Source → Texts → Texts
-end_step from texts = at_source from over texts
 
 -- the number that the next round's first packet must have, and the places that the rounds named
 pub record HasBase (given : LoadSettings) (uuid : List ℕ) (texts : Texts) (t : LoadTarget) : Type 0 where
@@ -106,24 +60,6 @@ pub record HasBase (given : LoadSettings) (uuid : List ℕ) (texts : Texts) (t :
 pub record IsRunning (given : LoadSettings) (uuid : List ℕ) (texts : Texts) (target : Option LoadTarget) (sources : FedSources) : Type 0 where
   pub holds : Holds given uuid (rounds_loaded target) texts sources
   pub has_base : IfSome target (HasBase given uuid texts)
-
--- ---- the fault of one source's own bytes, whatever other sources have
-
--- none is there, or the first
-abbrev pub fault_in : Readings → Source → Option Fault
-fault_in readings source.Main = fault_of (stream_end readings.main.state)
-fault_in readings (source.Channel j) = get_or (map (λ c. fault_of (channel_end c.state)) readings.channels) j None
-
--- a source's own bytes have this fault, or none
-abbrev pub HasFault : LoadSettings → List ℕ → Texts → Source → Option Fault → Type 0
-HasFault given uuid texts from found = (readings : Readings) × AreReadings given uuid texts readings × (found ≡ fault_in readings from)
-
--- that of a main stream, and that of a channel, by their bytes alone
-abbrev pub HasMainFault : StreamSettings → Text → Option Fault → Type 0
-HasMainFault given text found = (state : StreamState) × stream.HasState given text.bytes text.ended state × (found ≡ fault_of (stream_end state))
-
-abbrev pub HasChannelFault : ChannelSettings → Text → Option Fault → Type 0
-HasChannelFault given text found = (state : ChannelState) × channel.HasState given text.bytes text.ended state × (found ≡ fault_of (channel_end state))
 
 -- ---- what is noted of the streams: up to which byte they are valid, and their faults
 
@@ -160,13 +96,6 @@ pub record HasPlaces (given : LoadSettings) (uuid : List ℕ) (texts : Texts) (p
 abbrev pub HavePlaces : LoadSettings → List ℕ → Texts → Option Places → Type 0
 HavePlaces given uuid texts None = ⊥
 HavePlaces given uuid texts (Some places) = HasPlaces given uuid texts places
-
--- a source is valid up to there
-abbrev pub IsSourceValidUpTo : LoadSettings → List ℕ → Texts → Source → Option ℕ → Type 0
-IsSourceValidUpTo given uuid texts from None = ⊥
-IsSourceValidUpTo given uuid texts source.Main (Some n) = stream.IsValidUpTo (main_of given) texts.main.bytes n
-IsSourceValidUpTo given uuid texts (source.Channel j) (Some n) =
-    channel.IsValidUpTo (channel_of given uuid (length texts.channels)) (get_or texts.channels j no_text).bytes n
 
 -- ---- the pages that no round named
 

@@ -13,15 +13,16 @@ use Rattle.mig_stream.specs.Reader as stream_reader
 use Rattle.mig_packet.specs.Packet.{Fields, fields_of}
 use Rattle.mig_packet.specs.Reading as channel
 use Rattle.mig_packet.specs.Reader as channel_reader
-use Rattle.mig_single_load.specs.Settings.{main_of, channel_of}
-use Rattle.mig_single_load.specs.declared.settings.LoadSettings.{LoadSettings}
-use Rattle.mig_session.specs.declared.counts.Count.{Count}
+use Rattle.mig_load_types.specs.Settings.{main_of, channel_of}
+use Rattle.mig_load_types.specs.declared.settings.LoadSettings.{LoadSettings}
+use Rattle.mig_sources.specs.declared.counts.Count.{Count}
 use Rattle.mig_session.specs.declared.places.Noted.{Noted}
 use Rattle.mig_answer.specs.declared.status.Status.{Status}
 use Rattle.mig_answer.specs.declared.verdict.Verdict.{Verdict}
 use Rattle.mig_answer.specs.Status.{main_status, channel_status}
 use Rattle.mig_answer.specs.Texts.{Text, Texts, Readings, IsMainReading, AreReadings}
 use Rattle.mig_answer.specs.MultiLoad.{main_at, channels_at, hello_ids, repeated_hello, sources_verdicts}
+use Rattle.mig_sources.specs.Sources.{Counts}
 
 -- ---- the state
 
@@ -37,11 +38,6 @@ pub record FedChannel : Type 0 where
 pub record FedSources : Type 0 where
   pub main : FedMain
   pub channels : List FedChannel
-
--- the counts of each source's bytes
-pub record Counts : Type 0 where
-  pub main : Count
-  pub channels : List Count
 
 -- what is noted of each source, and where the main stream is closed
 pub record Places : Type 0 where

@@ -5,10 +5,10 @@ ghost use Rattle.std.specs.Prelude.{◌≡◌, None, IfOk, replicate, slice_set}
 ghost use Rattle.mig_answer.specs.Status.{fault_of};
 ghost use Rattle.mig_session.specs.Session.{place_of, noted_fault, nothing_noted};
 
-use crate::Source;
 use mig_answer::Status;
+use mig_load_types::Fault;
 use mig_mem::NoMemory;
-use mig_single_load::Fault;
+use mig_sources::Source;
 use std::alloc::{Allocator, Global};
 use std::marker::Model;
 

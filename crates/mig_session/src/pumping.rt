@@ -4,8 +4,10 @@
 ghost use Rattle.std.specs.Prelude.{ℕ, ◌≡◌, ◌≢◌, ◌+◌, ◌*◌, ◌<◌, ◌≤◌, ◌^◌, List, length, IsFalse, IfOk};
 ghost use Rattle.mig_answer.specs.declared.verdict.Verdict.TheVariants.{Running as running};
 ghost use Rattle.mig_session.specs.PumpFaultNumber.{pump_fault_number};
-ghost use Rattle.mig_session.specs.Session.{HasSource, count_of, answer_in, KeepsRounds};
-ghost use Rattle.mig_session.specs.Pumping.{piece_limit, Explains, reads_after, HasRead, FeedsPieces};
+ghost use Rattle.mig_session.specs.Session.{answer_in, KeepsRounds};
+ghost use Rattle.mig_sources.specs.Sources.{HasSource, count_of};
+ghost use Rattle.mig_session.specs.Pumping.{Explains, reads_after, HasRead, FeedsPieces};
+ghost use Rattle.mig_sources.specs.Reads.{piece_limit};
 
 use crate::{PieceReader, ReadFailed, Session, Source};
 use mig_mem::NoMemory;

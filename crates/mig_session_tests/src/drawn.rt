@@ -6,11 +6,12 @@
 use crate::feeding::{LIMIT, is_same};
 use crate::guests::{below, is_written};
 use mig_fixtures::{at, table_of};
+use mig_load_types::Loaded;
 use mig_mem::{Dirty, Memory, PAGE_SIZE_4K, PAGE_SIZE_8K, Table, is_page_size};
 use mig_packet::{OpenGate, page_limit};
 use mig_relay::load_multi;
 use mig_send::{MultiSender, SingleSender};
-use mig_single_load::{Loaded, load_single};
+use mig_single_load::load_single;
 use rand_core::Rng;
 use rand_pcg::Pcg32;
 use std::alloc::AllocGlobal;

@@ -3,10 +3,10 @@
 use crate::feeding::{ends, is_fed, new_session};
 use crate::texts::nines;
 use mig_answer::Verdict;
+use mig_load_types::Fault;
 use mig_packet::ChannelFault;
 use mig_send::Sent;
 use mig_session::{Session, Source};
-use mig_single_load::Fault;
 use std::alloc::AllocGlobal;
 use std::process::Abort;
 

@@ -1,9 +1,9 @@
 //! The bytes that a session holds while it runs, and after its verdict.
 
 use crate::feeding::{are_fed, ends, is_fed, new_session, source_at};
-use crate::texts::{Part, hello_of, main_of, put_all};
+use crate::texts::{channel_of, main_of};
 use mig_answer::Verdict;
-use mig_fixtures::TestHeap;
+use mig_fixtures::{Part, TestHeap, put_all};
 use mig_session::{Session, Source};
 use std::alloc::{AllocGlobal, Allocator};
 use std::process::Abort;
@@ -22,7 +22,7 @@ fn end_of(round: u64) -> usize {
 // packets.
 fn part_of(rt: &(impl AllocGlobal + Abort), channel: u8, round: u64) -> Vec<u8> {
     let mut text = if round == 0 {
-        hello_of(rt, channel)
+        channel_of(rt, channel, &[])
     } else {
         Vec::new(rt.alloc())
     };
@@ -39,7 +39,7 @@ fn part_of(rt: &(impl AllocGlobal + Abort), channel: u8, round: u64) -> Vec<u8> 
         ),
         (number.wrapping_add(2), Part::Sync),
     ];
-    put_all(rt, &mut text, &packets);
+    assert!(rt; put_all(&mut text, &packets).is_some());
     text
 }
 

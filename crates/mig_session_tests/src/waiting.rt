@@ -1,10 +1,11 @@
 //! Up to which byte a channel of complete streams is valid, if few packets may wait in a round.
 
 use crate::feeding::LIMIT;
-use crate::texts::{Part, main_of, one};
+use crate::texts::{main_of, one};
+use mig_fixtures::Part;
+use mig_load_types::LoadSettings;
 use mig_relay::channel_valid_up_to;
 use mig_send::Sent;
-use mig_single_load::LoadSettings;
 use std::alloc::AllocGlobal;
 use std::process::Abort;
 use uuid::Uuid;

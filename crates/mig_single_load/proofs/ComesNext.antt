@@ -31,8 +31,8 @@ use Rattle.mig_assemble.specs.Judging.{places_of}
 use Rattle.mig_assemble.specs.NamedPlaces.{HasPlaces}
 use Rattle.mig_assemble.proofs.Putting.{put_page_more, put_after}
 use Rattle.mig_assemble.proofs.Marked.{place_added}
-use Rattle.mig_single_load.specs.Settings.{for_table}
-use Rattle.mig_single_load.specs.declared.settings.LoadSettings.{LoadSettings}
+use Rattle.mig_load_types.specs.Settings.{for_table}
+use Rattle.mig_load_types.specs.declared.settings.LoadSettings.{LoadSettings}
 use Rattle.mig_single_load.specs.declared.in_place_state.LoadState.{LoadState}
 use Rattle.mig_single_load.specs.declared.in_place_state.LoadState.TheVariants as load_state
 use Rattle.mig_single_load.specs.InPlace.{settings_of, IsOfOwnTable, pages_on, pages_of_all, HasRecordsOnto, HasNamedOnto}

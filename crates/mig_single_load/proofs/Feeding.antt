@@ -17,8 +17,8 @@ use Rattle.mig_mem.specs.Image.{Image, zero_image}
 use Rattle.mig_mem.specs.Round.{with_rounds}
 use Rattle.mig_assemble.specs.NamedPlaces.{named_by}
 use Rattle.mig_assemble.specs.Target.{LoadTarget}
-use Rattle.mig_single_load.specs.Settings.{single_of}
-use Rattle.mig_single_load.specs.declared.settings.LoadSettings.{LoadSettings}
+use Rattle.mig_load_types.specs.Settings.{single_of}
+use Rattle.mig_load_types.specs.declared.settings.LoadSettings.{LoadSettings}
 use Rattle.mig_single_load.specs.Loader.{loader, put_so_far, HasAllSections, Waits, Loads, HasFirst, WasFed, LoadsSome, WasFedSome}
 use Rattle.mig_single_load.proofs.Sections.{pages_in, same_reading, are_given, none_there, fed_of}
 

@@ -26,9 +26,9 @@ use Rattle.mig_assemble.specs.NamedPlaces.{places_in, left_out, missing_of, with
 use Rattle.mig_assemble.specs.Target.{none_named, pages_of_round, FitsTable}
 use Rattle.mig_assemble.proofs.Putting.{put_after}
 use Rattle.mig_assemble.proofs.Naming.{with_places-append, with_places-table, names_more, named_by-nil, missing_is}
-use Rattle.mig_single_load.specs.Settings.{single_of}
-use Rattle.mig_single_load.specs.declared.settings.LoadSettings.{LoadSettings}
-use Rattle.mig_single_load.specs.declared.loaded.Loaded.{Loaded}
+use Rattle.mig_load_types.specs.Settings.{single_of}
+use Rattle.mig_load_types.specs.declared.settings.LoadSettings.{LoadSettings}
+use Rattle.mig_load_types.specs.declared.loaded.Loaded.{Loaded}
 use Rattle.mig_single_load.specs.SingleLoad.{memory_after, missing_after, verdict_of, closed_answer, IsSingleAnswer}
 use Rattle.mig_single_load.proofs.Sections.{pages_in, same_reading, size_is}
 

@@ -41,11 +41,11 @@ use Rattle.mig_assemble.specs.NamedPlaces.{HasPlaces, with_places}
 use Rattle.mig_assemble.specs.Target.{FitsTable, none_named, pages_of_round}
 use Rattle.mig_assemble.proofs.Naming.{names_more, named_by-nil, missing_is}
 use Rattle.mig_assemble.proofs.Putting.{put_after}
-use Rattle.mig_single_load.specs.Settings.{for_table, ram_settings}
-use Rattle.mig_single_load.specs.declared.settings.LoadSettings.{LoadSettings}
+use Rattle.mig_load_types.specs.Settings.{for_table, ram_settings}
+use Rattle.mig_load_types.specs.declared.settings.LoadSettings.{LoadSettings}
 use Rattle.mig_single_load.specs.declared.in_place_state.LoadState.{LoadState}
 use Rattle.mig_single_load.specs.declared.in_place_state.LoadState.TheVariants as load_state
-use Rattle.mig_single_load.specs.declared.fault.LoadFault.{LoadFault}
+use Rattle.mig_load_types.specs.declared.fault.LoadFault.{LoadFault}
 use Rattle.mig_single_load.specs.SingleLoad.{verdict_of}
 use Rattle.mig_single_load.specs.InPlace.{settings_of, IsOfOwnTable, IsOfOtherTable, HasOtherTable, pages_on, pages_of_all, HasRecordsOnto, HasNamedOnto, HasMissingOnto, HasVerdictOnto}
 use Rattle.mig_single_load.specs.LoadInPlace.{InPlaceKeepsOtherPlaces, InPlaceOkIsWhole, SentIsLoadedInPlace, given_pages, given_places, settings_for, IsOfTable, IsEnd, GaveNext, PutsNext, PutsNextSome, GaveAll, GivesAll, PutsAll, NamesAll, NamesAt, Names, PausesOnto, PausesSome, IsInState, StandsOnto, LoadInPlace, load_in_place, LoadsInPlace, HasSomeOnto, PutsSome, LacksMemory, closed_place, valid_place, HasClosedAtOnto, IsValidUpToOnto}

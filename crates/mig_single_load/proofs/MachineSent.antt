@@ -22,10 +22,10 @@ use Rattle.mig_stream.proofs.SpelledMachine.{machine_is_read}
 use Rattle.mig_stream.proofs.LetThrough.{through_law}
 use Rattle.mig_stream.proofs.WrittenText.{written_single}
 use Rattle.mig_stream.proofs.WrittenMachine.{machine_singles}
-use Rattle.mig_single_load.specs.declared.settings.LoadSettings.{LoadSettings}
-use Rattle.mig_single_load.specs.declared.loaded.Loaded.{Loaded}
-use Rattle.mig_single_load.specs.declared.fault.LoadFault.{LoadFault}
-use Rattle.mig_single_load.specs.Settings.{single_of, ram_settings, for_table, LetsThrough}
+use Rattle.mig_load_types.specs.declared.settings.LoadSettings.{LoadSettings}
+use Rattle.mig_load_types.specs.declared.loaded.Loaded.{Loaded}
+use Rattle.mig_load_types.specs.declared.fault.LoadFault.{LoadFault}
+use Rattle.mig_load_types.specs.Settings.{single_of, ram_settings, for_table, LetsThrough}
 use Rattle.mig_single_load.specs.SingleLoad.{IsSingleAnswer, IsSingleWithoutMemory, HasLoadedRounds, unloaded, verdict_of}
 use Rattle.mig_single_load.specs.Loader.{Loader, Answers}
 use Rattle.mig_single_load.specs.InPlace.{settings_of, IsOfOwnTable, HasRecordsOnto, HasSectionsOnto, HasVerdictOnto}

@@ -13,9 +13,9 @@ use Rattle.mig_stream.specs.Written.{written_record, single}
 use Rattle.mig_stream.specs.Law.{closed}
 use Rattle.mig_stream.proofs.SpelledText.{spelled_law}
 use Rattle.mig_stream.proofs.WrittenText.{written_single}
-use Rattle.mig_single_load.specs.Settings.{ram_settings}
-use Rattle.mig_single_load.specs.declared.settings.LoadSettings.{LoadSettings}
-use Rattle.mig_single_load.specs.declared.fault.LoadFault.{LoadFault}
+use Rattle.mig_load_types.specs.Settings.{ram_settings}
+use Rattle.mig_load_types.specs.declared.settings.LoadSettings.{LoadSettings}
+use Rattle.mig_load_types.specs.declared.fault.LoadFault.{LoadFault}
 use Rattle.mig_single_load.specs.SingleLoad.{verdict_of}
 use Rattle.mig_single_load.specs.InPlace.{settings_of, IsOfOtherTable, IsOfOwnTable, HasSectionsOnto, HasVerdictOnto}
 use Rattle.mig_single_load.proofs.Sections.{pages_in, same_reading, empty_ends, pages_sent, counted}

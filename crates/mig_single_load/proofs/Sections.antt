@@ -37,10 +37,10 @@ use Rattle.mig_assemble.specs.Judging.{places_of}
 use Rattle.mig_assemble.specs.NamedPlaces.{places_in, named_by, left_out, missing_of, with_places}
 use Rattle.mig_assemble.specs.Target.{LoadTarget, new_target, pages_of_round, FitsTable}
 use Rattle.mig_assemble.proofs.Naming.{named_by-nil, named_by-push, missing_is}
-use Rattle.mig_single_load.specs.Settings.{single_of, ram_settings}
-use Rattle.mig_single_load.specs.declared.settings.LoadSettings.{LoadSettings}
-use Rattle.mig_single_load.specs.declared.loaded.Loaded.{Loaded}
-use Rattle.mig_single_load.specs.declared.fault.LoadFault.{LoadFault}
+use Rattle.mig_load_types.specs.Settings.{single_of, ram_settings}
+use Rattle.mig_load_types.specs.declared.settings.LoadSettings.{LoadSettings}
+use Rattle.mig_load_types.specs.declared.loaded.Loaded.{Loaded}
+use Rattle.mig_load_types.specs.declared.fault.LoadFault.{LoadFault}
 use Rattle.mig_single_load.specs.SingleLoad.{memory_after, named_after, missing_after, verdict_of, IsSingleAnswer, IsSingleWithoutMemory, HasLoadedRounds, unloaded}
 use Rattle.mig_single_load.specs.Loader.{Loader, loader, memory_of, sections_loaded, HasAllSections, Waits, put_so_far, Loads, HasVerdict, Judges, TellsMissing, Answers, HasFirst, HasPutSections, HasPutAllSections, WasFed}
 

@@ -11,7 +11,7 @@ use Rattle.mig_stream.specs.declared.wanted.Wanted.TheVariants as wanted
 use Rattle.mig_stream.specs.Reading.{StreamReading, IsReading}
 use Rattle.mig_stream.specs.Reader.{IsValidUpTo}
 use Rattle.mig_stream.specs.Wanted.{page_due}
-use Rattle.mig_single_load.specs.declared.settings.LoadSettings.{LoadSettings}
+use Rattle.mig_load_types.specs.declared.settings.LoadSettings.{LoadSettings}
 use Rattle.mig_single_load.specs.InPlace.{settings_of, IsOfOwnTable, HasRecordsOnto}
 use Rattle.mig_single_load.specs.LoadInPlace.{LoadInPlace}
 

@@ -9,10 +9,10 @@ use Rattle.mig_stream.specs.Reading.{Settings, StreamReading, IsReading}
 use Rattle.mig_assemble.specs.Judging.{places_of}
 use Rattle.mig_assemble.specs.NamedPlaces.{HasPlaces, left_out}
 use Rattle.mig_assemble.specs.Target.{none_named}
-use Rattle.mig_single_load.specs.Settings.{single_of, for_table}
-use Rattle.mig_single_load.specs.declared.settings.LoadSettings.{LoadSettings}
-use Rattle.mig_single_load.specs.declared.fault.LoadFault.{LoadFault}
-use Rattle.mig_single_load.specs.declared.fault.Fault.TheVariants.{OtherTable}
+use Rattle.mig_load_types.specs.Settings.{single_of, for_table}
+use Rattle.mig_load_types.specs.declared.settings.LoadSettings.{LoadSettings}
+use Rattle.mig_load_types.specs.declared.fault.LoadFault.{LoadFault}
+use Rattle.mig_load_types.specs.declared.fault.Fault.TheVariants.{OtherTable}
 use Rattle.mig_single_load.specs.SingleLoad.{at_main, verdict_of}
 
 -- the settings for the stream of a memory: those that are given, with its page size

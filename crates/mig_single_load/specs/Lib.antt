@@ -1,8 +1,5 @@
--- Read first, in this order: the arguments of a load, the answer of a load of a single stream, and
--- the numbers of the faults of every load
-pub mod Settings
+-- Read first: the answer of a load of a single stream
 pub mod SingleLoad
-pub mod LoadFaultNumber
 -- Loads that are fed in pieces: into a memory of their own, and into one that exists already, each
 -- page written when its bytes have come
 pub mod Loader

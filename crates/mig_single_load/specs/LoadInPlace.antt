@@ -18,9 +18,9 @@ use Rattle.mig_stream.specs.Written.{single}
 use Rattle.mig_stream.specs.Giving.{Giver, GivenSoFar, with_given, Gives, EndsSo, LeavesNone, HasNoneLeft, HasReading, Paused, PausesAt}
 use Rattle.mig_assemble.specs.Judging.{places_of}
 use Rattle.mig_assemble.specs.NamedPlaces.{HasPlaces}
-use Rattle.mig_single_load.specs.Settings.{single_of, for_table, ram_settings}
-use Rattle.mig_single_load.specs.declared.settings.LoadSettings.{LoadSettings}
-use Rattle.mig_single_load.specs.declared.fault.LoadFault.{LoadFault}
+use Rattle.mig_load_types.specs.Settings.{single_of, for_table, ram_settings}
+use Rattle.mig_load_types.specs.declared.settings.LoadSettings.{LoadSettings}
+use Rattle.mig_load_types.specs.declared.fault.LoadFault.{LoadFault}
 use Rattle.mig_single_load.specs.declared.in_place_state.LoadState.{LoadState}
 use Rattle.mig_single_load.specs.declared.in_place_state.LoadState.TheVariants as load_state
 use Rattle.mig_single_load.specs.InPlace.{settings_of, IsOfOwnTable, IsOfOtherTable, pages_on, HasRecordsOnto, HasSectionsOnto, HasNamedOnto, HasVerdictOnto}

@@ -11,10 +11,10 @@ use Rattle.mig_stream.specs.Reading.{StreamReading, IsReading}
 use Rattle.mig_stream.specs.Reader.{Reader, SoFar, Stands, HasTable}
 use Rattle.mig_assemble.specs.NamedPlaces.{named_by}
 use Rattle.mig_assemble.specs.Target.{LoadTarget}
-use Rattle.mig_single_load.specs.Settings.{single_of}
-use Rattle.mig_single_load.specs.declared.settings.LoadSettings.{LoadSettings}
-use Rattle.mig_single_load.specs.declared.loaded.Loaded.{Loaded}
-use Rattle.mig_single_load.specs.declared.fault.LoadFault.{LoadFault}
+use Rattle.mig_load_types.specs.Settings.{single_of}
+use Rattle.mig_load_types.specs.declared.settings.LoadSettings.{LoadSettings}
+use Rattle.mig_load_types.specs.declared.loaded.Loaded.{Loaded}
+use Rattle.mig_load_types.specs.declared.fault.LoadFault.{LoadFault}
 use Rattle.mig_single_load.specs.SingleLoad.{memory_after, named_after, missing_after, verdict_of, no_memory_at, IsSingleAnswer, unloaded}
 
 -- what a loader holds: the reader of its stream, and the memory that it loads, once that was

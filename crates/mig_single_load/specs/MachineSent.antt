@@ -8,9 +8,9 @@ use Rattle.mig_stream.specs.Format.{most_name_bytes}
 use Rattle.mig_stream.specs.Text.{total_bytes}
 use Rattle.mig_stream.specs.Written.{RoundPart, single}
 use Rattle.mig_stream.specs.MachineWritten.{machine_written}
-use Rattle.mig_single_load.specs.declared.settings.LoadSettings.{LoadSettings}
-use Rattle.mig_single_load.specs.declared.fault.LoadFault.{LoadFault}
-use Rattle.mig_single_load.specs.Settings.{LetsThrough}
+use Rattle.mig_load_types.specs.declared.settings.LoadSettings.{LoadSettings}
+use Rattle.mig_load_types.specs.declared.fault.LoadFault.{LoadFault}
+use Rattle.mig_load_types.specs.Settings.{LetsThrough}
 use Rattle.mig_single_load.specs.InPlace.{HasRecordsOnto, HasVerdictOnto}
 
 -- These bytes begin with the single stream that a sender writes of a table and rounds. The table is

@@ -13,13 +13,13 @@ use Rattle.mig_stream.specs.PageRecord.{PageRecord, page_of}
 use Rattle.mig_stream.specs.Reading.{StreamReading, IsReading}
 use Rattle.mig_stream.specs.Reader.{HasClosedAt, IsValidUpTo}
 use Rattle.mig_assemble.specs.NamedPlaces.{named_by, missing_of}
-use Rattle.mig_single_load.specs.Settings.{single_of}
-use Rattle.mig_single_load.specs.declared.settings.LoadSettings.{LoadSettings}
-use Rattle.mig_single_load.specs.declared.loaded.Loaded.{Loaded}
-use Rattle.mig_single_load.specs.declared.fault.LoadFault.{LoadFault}
-use Rattle.mig_single_load.specs.declared.fault.Origin.TheVariants as origin
-use Rattle.mig_single_load.specs.declared.fault.Fault.{Fault}
-use Rattle.mig_single_load.specs.declared.fault.Fault.TheVariants as fault
+use Rattle.mig_load_types.specs.Settings.{single_of}
+use Rattle.mig_load_types.specs.declared.settings.LoadSettings.{LoadSettings}
+use Rattle.mig_load_types.specs.declared.loaded.Loaded.{Loaded}
+use Rattle.mig_load_types.specs.declared.fault.LoadFault.{LoadFault}
+use Rattle.mig_load_types.specs.declared.fault.Origin.TheVariants as origin
+use Rattle.mig_load_types.specs.declared.fault.Fault.{Fault}
+use Rattle.mig_load_types.specs.declared.fault.Fault.TheVariants as fault
 
 -- the memory after some sections of records, None without a table
 abbrev pub memory_after : ℕ → Option RamTable → List (List PageRecord) → Option Image

@@ -8,8 +8,8 @@ ghost use Rattle.mig_mem.specs.PageSize.{IsPageSize};
 ghost use Rattle.mig_stream.specs.declared.item.StreamState.TheVariants.{Closed};
 ghost use Rattle.mig_single_load.specs.SingleLoad.{IsSingleAnswer, closed_answer};
 
-use crate::{LoadSettings, Loaded};
 use mig_assemble::{name_records, put_records};
+use mig_load_types::{LoadSettings, Loaded};
 use mig_marking::lacking;
 use mig_mem::{Dirty, Memory, NoMemory};
 use mig_stream::{RecordEvent, RecordReader, StreamState};

@@ -4,13 +4,14 @@
 ghost use Rattle.std.specs.Prelude.{◌≡◌, ◌≢◌, ◌+◌, ◌<◌, ◌≤◌, ◌^◌, ◌++◌, ℕ, Bool, List, [], length, true, false, IsFalse, IsOk, OnOk, OnErr, IfOk, IfErr};
 ghost use Rattle.mig_mem.specs.Image.{Image};
 ghost use Rattle.mig_stream.specs.Reader.{IsFinal};
-ghost use Rattle.mig_single_load.specs.declared.settings.LoadSettings.{LoadSettings};
+ghost use Rattle.mig_load_types.specs.declared.settings.LoadSettings.{LoadSettings};
 ghost use Rattle.mig_single_load.specs.SingleLoad.{no_memory_at};
 ghost use Rattle.mig_single_load.specs.InPlace.{settings_of, HasMissingOnto, HasVerdictOnto, HasOtherTable};
 ghost use Rattle.mig_single_load.specs.LoadInPlace.{LoadsOnto, LacksOnto, HasClosedAtOnto, IsValidUpToOnto, SentIsLoadedInPlace};
 ghost use Rattle.mig_single_load.specs.MachineSent.{SentIsLoadedWithin, MachineSentIsLoadedInPlace};
 
-use crate::{InPlaceFault, InPlaceState, LoadFault, LoadSettings};
+use crate::InPlaceState;
+use mig_load_types::{InPlaceFault, LoadFault, LoadSettings};
 use mig_mem::{GuestTarget, Memory, NoMemory};
 use std::alloc::{Allocator, Global};
 use std::fmt::{self, Debug, Formatter};

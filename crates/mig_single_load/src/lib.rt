@@ -10,29 +10,20 @@
 //! exists already, each page when its bytes have come: `InPlaceState`, and `InPlaceLoader`, which
 //! keeps the memory too. Each takes the settings of its stream.
 //!
-//! `LoadFault` and `Loaded` are those of every load, also on several channels: those crates use
-//! this one.
-//!
-//! Definitions, in reading order: `Settings`, `SingleLoad`, `LoadFaultNumber`, `Loader`, `InPlace`,
-//! `LoadInPlace`, `ComesNext` (`specs/`).
+//! Definitions, in reading order: `Settings` of `mig_load_types`, and `SingleLoad`, `Loader`,
+//! `InPlace`, `LoadInPlace`, `ComesNext` (`specs/`).
 #![tactic(auto)]
 
 mod at_once;
-mod fault;
 mod filling;
 mod in_place;
 mod in_place_state;
-mod loaded;
 mod loader;
-mod settings;
 mod settle;
 mod single;
 
-pub use fault::{Fault, FeedFault, InPlaceFault, LoadFault, Origin};
 pub use in_place::{InPlaceLoader, machine_sent_is_loaded_in_place, sent_is_loaded_in_place};
 pub use in_place_state::{InPlaceState, in_place_keeps_other_places, in_place_ok_is_whole};
-pub use loaded::Loaded;
 pub use loader::SingleLoader;
-pub use settings::{LoadSettings, RoundEnd};
 pub use settle::{no_memory, without_memory};
 pub use single::{load_single, load_single_with};

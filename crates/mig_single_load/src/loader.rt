@@ -11,16 +11,16 @@ ghost use Rattle.mig_stream.specs.declared.item.Frame.TheVariants.{Ram, Machine}
 ghost use Rattle.mig_stream.specs.Reader.{IsFinal, HasClosedAt, IsValidUpTo};
 ghost use Rattle.mig_stream.specs.Text.{total_bytes};
 ghost use Rattle.mig_stream.specs.Written.{single};
-ghost use Rattle.mig_single_load.specs.declared.fault.FeedFault.TheVariants.{NoMemory as fault_no_memory, NoGuestMemory as fault_no_guest_memory};
-ghost use Rattle.mig_single_load.specs.declared.settings.LoadSettings.{LoadSettings};
-ghost use Rattle.mig_single_load.specs.Settings.{ram_settings, single_of, LetsThrough};
+ghost use Rattle.mig_load_types.specs.declared.fault.FeedFault.TheVariants.{NoMemory as fault_no_memory, NoGuestMemory as fault_no_guest_memory};
+ghost use Rattle.mig_load_types.specs.declared.settings.LoadSettings.{LoadSettings};
+ghost use Rattle.mig_load_types.specs.Settings.{ram_settings, single_of, LetsThrough};
 ghost use Rattle.mig_single_load.specs.SingleLoad.{HasLoadedRounds, unloaded};
 ghost use Rattle.mig_single_load.specs.MachineSent.{IsSent, IsMachineSent};
 ghost use Rattle.mig_single_load.specs.Loader.{memory_of, sections_loaded, HasAllSections, Waits, Loads, Judges, TellsMissing, Answers};
 
 use crate::filling::Filling;
 use crate::settle::{answer, settle, verdict};
-use crate::{FeedFault, LoadFault, LoadSettings, Loaded};
+use mig_load_types::{FeedFault, LoadFault, LoadSettings, Loaded};
 use mig_marking::lacking;
 use mig_mem::{Memory, NoMemory};
 use mig_stream::{Mode, StreamReader};

@@ -3,14 +3,14 @@
 //! channels take their verdicts from here, and have loops of their own.
 
 ghost use Rattle.std.specs.Prelude.{◌≡◌, ℕ, Bool, List, None, Some, OnOk, OnErr};
-ghost use Rattle.mig_single_load.specs.declared.settings.LoadSettings.{LoadSettings};
-ghost use Rattle.mig_single_load.specs.declared.fault.Fault.TheVariants.{OtherTable};
+ghost use Rattle.mig_load_types.specs.declared.settings.LoadSettings.{LoadSettings};
+ghost use Rattle.mig_load_types.specs.declared.fault.Fault.TheVariants.{OtherTable};
 ghost use Rattle.mig_single_load.specs.SingleLoad.{at_main, no_memory_at, verdict_of, unloaded};
 ghost use Rattle.mig_mem.specs.Image.{Image};
 ghost use Rattle.mig_single_load.specs.Loader.{loader, HasAllSections, Waits, Loads, Judges, Answers, HasPutSections, HasPutSectionsSome, HasPutAllSections, WasFed, WasFedSome};
 
 use crate::filling::Filling;
-use crate::{Fault, LoadFault, Loaded, Origin};
+use mig_load_types::{Fault, LoadFault, Loaded, Origin};
 use mig_marking::lacking;
 use mig_mem::NoMemory;
 use mig_stream::{StreamFault, StreamReader, StreamState};

@@ -8,13 +8,13 @@ ghost use Rattle.mig_mem.specs.Round.{IsRound};
 ghost use Rattle.mig_stream.specs.declared.item.Frame.TheVariants.{Ram, Machine};
 ghost use Rattle.mig_stream.specs.Text.{total_bytes};
 ghost use Rattle.mig_stream.specs.Written.{single};
-ghost use Rattle.mig_single_load.specs.Settings.{ram_settings, LetsThrough};
+ghost use Rattle.mig_load_types.specs.Settings.{ram_settings, LetsThrough};
 ghost use Rattle.mig_single_load.specs.SingleLoad.{IsSingleAnswer, IsSingleWithoutMemory, HasLoadedRounds};
 ghost use Rattle.mig_single_load.specs.MachineSent.{IsSent, IsMachineSent};
 
 use crate::at_once::load_at_once;
 use crate::settle::{answer, settle, without_memory};
-use crate::{LoadSettings, Loaded};
+use mig_load_types::{LoadSettings, Loaded};
 use mig_stream::{Mode, StreamReader};
 use std::alloc::Allocator;
 

@@ -1,17 +1,16 @@
 -- The valid prefix of a stream: its length is one number, which more bytes can only increase.
-use Rattle.std.proofs.Common.{◌≡◌, ◌≢◌, ℕ, ◌≤◌, ◌<◌, ◌+◌, List, [], ◌∷◌, ◌++◌, length, false, inl, inr, refl, sym, ap, subst, ◌∙◌, append_assoc, arith}
+use Rattle.std.proofs.Common.{◌≡◌, ◌≢◌, ℕ, ◌≤◌, ◌+◌, List, [], ◌∷◌, ◌++◌, length, false, inl, inr, refl, sym, ap, subst, ◌∙◌, append_assoc, arith}
 use Rattle.std.specs.List.{concat}
 use Rattle.std.proofs.lemmas.Bool.{cases_lt}
 use Rattle.std.proofs.lemmas.List.{length-append}
 use Rattle.mig_mem.proofs.PageSizes.{page_size_some}
 use Rattle.mig_stream.specs.declared.item.StreamState.{StreamState}
 use Rattle.mig_stream.specs.declared.item.StreamState.TheVariants.{Reading, Closed, Bad}
-use Rattle.mig_stream.specs.declared.fault.StreamFault.{StreamFault}
 use Rattle.mig_stream.specs.Progress.{StreamProgress, start}
 use Rattle.mig_stream.specs.Items.{after}
 use Rattle.mig_stream.specs.Reading.{Settings, AreFaultless, after_all, Ends, Reads, IsReading}
 use Rattle.mig_stream.specs.Reader.{HasState, IsFinal, HasFront, IsValidUpTo, IsClosedAt}
-use Rattle.mig_stream.specs.Law.{IsValidUpToOnePlace, LongerTextsStayValid, ClosedIsValid, HasFaultAt, BadIsValidBefore}
+use Rattle.mig_stream.specs.Law.{IsValidUpToOnePlace, LongerTextsStayValid, ClosedIsValid, BadIsValidBefore}
 use Rattle.mig_stream.proofs.Closing.{closed_by}
 use Rattle.mig_stream.proofs.Exists.{reads_from}
 use Rattle.mig_stream.proofs.Later.{Reads-more}

@@ -3,10 +3,11 @@
 
 use crate::parts::{PIECE, all_of, block_of, send};
 use mig_fixtures::{TestHeap, table, table_of};
+use mig_load_types::{LoadFault, LoadSettings};
 use mig_mem::{
     Dirty, GuestTarget, LentMemory, LentMemoryMut, MAX_TOTAL, PAGE_SIZE_4K, PAGE_SIZE_8K, Table,
 };
-use mig_single_load::{InPlaceLoader, LoadFault, LoadSettings};
+use mig_single_load::InPlaceLoader;
 use std::alloc::{AllocGlobal, Allocator, Global};
 use std::process::Abort;
 

@@ -2,8 +2,9 @@
 //! answer.
 
 use crate::building::two_rounds;
+use mig_load_types::LoadSettings;
 use mig_mem::{MAX_TOTAL, PAGE_SIZE_4K};
-use mig_single_load::{LoadSettings, SingleLoader, load_single};
+use mig_single_load::{SingleLoader, load_single};
 use std::alloc::Global;
 
 // Loads the first `len` bytes of a stream. Returns how many pages are missing then.

@@ -3,8 +3,9 @@
 
 use crate::building::two_rounds;
 use mig_fixtures::{TestHeap, at, has_byte, is_full};
+use mig_load_types::{FeedFault, LoadSettings};
 use mig_mem::{MAX_TOTAL, PAGE_SIZE_4K};
-use mig_single_load::{FeedFault, LoadSettings, SingleLoader};
+use mig_single_load::SingleLoader;
 
 // Returns a loader that was fed a stream with allocation `nth` refused, if that left it without the
 // guest's memory.

@@ -1,10 +1,10 @@
 //! The messages of faults: the number first, then words.
 
 use mig_assemble::RoundFault;
+use mig_load_types::{Fault, FeedFault, LoadFault, Origin};
 use mig_mem::{NoMemory, Place, TableFault};
 use mig_packet::ChannelFault;
 use mig_send::SendFault;
-use mig_single_load::{Fault, FeedFault, LoadFault, Origin};
 use mig_stream::StreamFault;
 use std::alloc::Global;
 use std::fmt::{Display, Write};

@@ -2,8 +2,9 @@
 //! hand, as `docs/FORMATS.md` lists them.
 
 use crate::building::{FRAMES, closed_at, followed};
+use mig_load_types::LoadSettings;
 use mig_mem::{MAX_TOTAL, PAGE_SIZE_4K};
-use mig_single_load::{LoadSettings, load_single_with};
+use mig_single_load::load_single_with;
 use mig_stream::{Frame, Mode, StreamReader};
 use std::alloc::Global;
 

@@ -5,8 +5,9 @@ ghost use Rattle.std.specs.Prelude.{◌≤◌, ◌^◌};
 
 use crate::building::{FRAMES, closed_at, followed, image_with};
 use mig_fixtures::{at, has_byte, is_full};
+use mig_load_types::LoadSettings;
 use mig_mem::{GuestTarget, MAX_TOTAL, Memory, PAGE_SIZE_8K};
-use mig_single_load::{InPlaceState, LoadSettings};
+use mig_single_load::InPlaceState;
 use mig_stream::{Frame, Wanted};
 use std::alloc::Global;
 

@@ -1,5 +1,5 @@
 -- A stream that was loaded into a memory that marks its pages.
-use Rattle.std.proofs.Common.{ℕ, ◌≡◌, List, refl, ap}
+use Rattle.std.proofs.Common.{◌≡◌, List, refl, ap}
 use Rattle.std.specs.Prelude.{All, Result, Ok, Err, MatchResult}
 use Rattle.std.specs.Result.{IsErr, IsErrAnd}
 use Rattle.mig_mem.specs.Image.{Page, Image, IsImage}

@@ -5,8 +5,8 @@ use Rattle.mig_mem.specs.Image.{Page, Image}
 use Rattle.mig_mem.specs.Round.{IsRound, with_rounds}
 use Rattle.mig_stream.specs.Text.{total_bytes}
 use Rattle.mig_stream.specs.Written.{single}
-use Rattle.mig_single_load.specs.declared.fault.LoadFault.{LoadFault}
-use Rattle.mig_single_load.specs.Settings.{ram_settings}
+use Rattle.mig_load_types.specs.declared.fault.LoadFault.{LoadFault}
+use Rattle.mig_load_types.specs.Settings.{ram_settings}
 use Rattle.mig_single_load.specs.InPlace.{HasRecordsOnto, HasVerdictOnto}
 use Rattle.mig_single_load.specs.LoadInPlace.{InPlace, LoadsOnto}
 use Rattle.mig_single_load.proofs.LoadsInPlace.{sent_in_place}

@@ -2,10 +2,11 @@
 use Rattle.std.proofs.Common.{ℕ, ◌≡◌, List, [], ◌∷◌, ◌++◌, sym, ap, subst, ◌∙◌, append-nil, append_assoc, Option, None, Some, Ok, true}
 use Rattle.std.specs.List.{concat}
 use Rattle.std.specs.Io.KnownBytes.{Consumes, IsAtEnd}
-use Rattle.mig_session.specs.declared.source.Source.TheVariants as source
+use Rattle.mig_sources.specs.declared.source.Source.TheVariants as source
 use Rattle.mig_answer.specs.Texts.{Text, Texts, no_text, no_texts, with_piece, ended_texts}
-use Rattle.mig_single_load.specs.Settings.{ram_settings}
-use Rattle.mig_session.specs.Session.{LoadSession, StandsFor, StepsOn, end_step}
+use Rattle.mig_load_types.specs.Settings.{ram_settings}
+use Rattle.mig_session.specs.Session.{LoadSession, StandsFor, StepsOn}
+use Rattle.mig_sources.specs.Sources.{end_step}
 use Rattle.mig_session.specs.Pumping.{piece_steps, pump_step}
 
 -- a main stream and one channel

@@ -7,15 +7,15 @@ use Rattle.std.proofs.lemmas.Bool.{false≢true}
 use Rattle.std.proofs.lemmas.List.{append-nil, get_or-map, get_or-replicate, length-replicate}
 use Rattle.mig_mem.specs.RamTable.{IsTable}
 use Rattle.mig_mem.specs.Image.{Image}
-use Rattle.mig_single_load.specs.declared.settings.LoadSettings.{LoadSettings}
-use Rattle.mig_single_load.specs.Settings.{ram_settings}
+use Rattle.mig_load_types.specs.declared.settings.LoadSettings.{LoadSettings}
+use Rattle.mig_load_types.specs.Settings.{ram_settings}
 use Rattle.mig_answer.specs.declared.verdict.Verdict.{Verdict}
 use Rattle.mig_answer.specs.declared.verdict.Verdict.TheVariants.{Done}
 use Rattle.mig_answer.specs.Texts.{Text, Texts, no_text, no_texts, ended_text, ended_texts}
 use Rattle.mig_answer.specs.Growing.{GoesOn, GoOn}
-use Rattle.mig_session.specs.Reads.{ReadsSoFar, no_reads}
-use Rattle.mig_session.specs.declared.source.Source.{Source}
-use Rattle.mig_session.specs.declared.source.Source.TheVariants as source
+use Rattle.mig_sources.specs.Reads.{ReadsSoFar, no_reads}
+use Rattle.mig_sources.specs.declared.source.Source.{Source}
+use Rattle.mig_sources.specs.declared.source.Source.TheVariants as source
 use Rattle.mig_in_place.specs.Answer.{IsInPlaceAnswer}
 use Rattle.mig_in_place.specs.Session.{InPlaceLoad, text_of, StandsFor}
 use Rattle.mig_in_place.specs.Turns.{KeptSource, new_source, no_source, number_of, source_in, AtTurns, HaveCome, KeepsBytes, Pumps}

@@ -8,10 +8,10 @@ use Rattle.mig_stream.specs.declared.item.StreamState.TheVariants.{Reading, Clos
 use Rattle.mig_stream.specs.declared.fault.StreamFault.TheVariants.{Truncated}
 use Rattle.mig_stream.specs.Reading.{StreamReading}
 use Rattle.mig_stream.specs.Law.{HasOneReading, LongerTextsStay}
-use Rattle.mig_single_load.specs.Settings.{single_of}
-use Rattle.mig_single_load.specs.declared.settings.LoadSettings.{LoadSettings}
-use Rattle.mig_single_load.specs.declared.fault.LoadFault.{LoadFault}
-use Rattle.mig_single_load.specs.declared.fault.Fault.TheVariants.{Stream}
+use Rattle.mig_load_types.specs.Settings.{single_of}
+use Rattle.mig_load_types.specs.declared.settings.LoadSettings.{LoadSettings}
+use Rattle.mig_load_types.specs.declared.fault.LoadFault.{LoadFault}
+use Rattle.mig_load_types.specs.declared.fault.Fault.TheVariants.{Stream}
 use Rattle.mig_single_load.specs.SingleLoad.{memory_after, verdict_of, at_main}
 use Rattle.mig_single_load.specs.Loader.{Loader, memory_of, HasAllSections, Waits, HasVerdict, Judges}
 

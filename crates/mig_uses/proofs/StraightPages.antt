@@ -10,7 +10,7 @@ use Rattle.std.proofs.lemmas.List.FromFn.{length-map-range_with_len, get_or-map-
 use Rattle.mig_mem.specs.declared.place.Place.{Place}
 use Rattle.mig_mem.specs.RamTable.{RamTable}
 use Rattle.mig_mem.specs.Place.{IsPlace, place_eq, has_place}
-use Rattle.mig_mem.specs.Image.{Image, Page, IsImage, content_at, image_of, with_page, zero_page}
+use Rattle.mig_mem.specs.Image.{Image, Page, IsImage, content_at, with_page, zero_page}
 use Rattle.mig_mem.specs.Round.{with_round, last_at}
 use Rattle.mig_mem.specs.Parts.{ChangesPart}
 use Rattle.mig_mem.specs.Lent.{FitTable, lent_image, mut_lent_bytes}

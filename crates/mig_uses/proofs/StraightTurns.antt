@@ -12,12 +12,12 @@ use Rattle.mig_packet.specs.Packet.{normal_count, zero_count, offset_at, fields_
 use Rattle.mig_assemble.specs.HeadPlaces.{LieIn}
 use Rattle.mig_assemble.specs.Judging.{page_in}
 use Rattle.mig_assemble.specs.PacketPages.{LiesIn, zero_pages}
-use Rattle.mig_single_load.specs.declared.settings.LoadSettings.{LoadSettings}
+use Rattle.mig_load_types.specs.declared.settings.LoadSettings.{LoadSettings}
 use Rattle.mig_answer.specs.declared.verdict.Verdict.{Verdict}
 use Rattle.mig_answer.specs.Texts.{Texts}
-use Rattle.mig_session.specs.declared.source.Source.{Source}
-use Rattle.mig_session.specs.declared.source.Source.TheVariants as source
-use Rattle.mig_session.specs.Session.{feed_step, end_step}
+use Rattle.mig_sources.specs.declared.source.Source.{Source}
+use Rattle.mig_sources.specs.declared.source.Source.TheVariants as source
+use Rattle.mig_sources.specs.Sources.{feed_step, end_step}
 use Rattle.mig_in_place.specs.Session.{InPlaceLoad, StandsFor, StepsOn}
 use Rattle.mig_in_place.specs.TakenPackets.{packet_bytes, pages_taken}
 use Rattle.mig_in_place.proofs.Heads.{lies}

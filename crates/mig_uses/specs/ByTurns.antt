@@ -6,7 +6,7 @@ use Rattle.mig_mem.specs.Image.{Image, IsImage}
 use Rattle.mig_mem.specs.Round.{with_rounds}
 use Rattle.mig_stream.specs.Text.{total_bytes}
 use Rattle.mig_send.specs.DealtRounds.{DealtRound}
-use Rattle.mig_single_load.specs.declared.settings.LoadSettings.{LoadSettings}
+use Rattle.mig_load_types.specs.declared.settings.LoadSettings.{LoadSettings}
 use Rattle.mig_answer.specs.declared.verdict.Verdict.{Verdict}
 use Rattle.mig_answer.specs.Texts.{Text, Texts}
 use Rattle.mig_answer.specs.Sent.{IsSentInAnyOrder, sent_rounds}

@@ -1,8 +1,8 @@
 -- The state of a stream that is still being received.
 use Rattle.std.specs.Prelude.{ℕ, ◌++◌, List, Ok, Err}
 use Rattle.mig_stream.specs.declared.fault.StreamFault.TheVariants.{Truncated}
-use Rattle.mig_single_load.specs.declared.fault.Fault.TheVariants.{Stream}
-use Rattle.mig_single_load.specs.declared.settings.LoadSettings.{LoadSettings}
+use Rattle.mig_load_types.specs.declared.fault.Fault.TheVariants.{Stream}
+use Rattle.mig_load_types.specs.declared.settings.LoadSettings.{LoadSettings}
 use Rattle.mig_single_load.specs.SingleLoad.{at_main}
 use Rattle.mig_single_load.specs.Loader.{HasVerdict}
 use Rattle.mig_uses.specs.declared.incoming.Incoming.{Incoming}

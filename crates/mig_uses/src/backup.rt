@@ -9,7 +9,7 @@ ghost use Rattle.mig_mem.specs.Place.{IsPlace, has_place};
 ghost use Rattle.mig_mem.specs.Image.{Image};
 ghost use Rattle.mig_mem.specs.PlaceSet.{IsPlaceSet};
 ghost use Rattle.mig_stream.specs.Text.{total_bytes};
-ghost use Rattle.mig_single_load.specs.declared.fault.Fault.TheVariants.{NoMemory as fault_no_memory};
+ghost use Rattle.mig_load_types.specs.declared.fault.Fault.TheVariants.{NoMemory as fault_no_memory};
 ghost use Rattle.mig_uses.specs.Backup.{BringsMemory};
 
 use std::alloc::Allocator;

@@ -3,8 +3,8 @@
 //! bytes have arrived.
 
 ghost use Rattle.std.specs.Prelude.{ℕ, ◌≡◌, ◌≤◌, ◌^◌, length, map, Ok, IfOk};
-ghost use Rattle.mig_session.specs.Reads.{no_reads};
-ghost use Rattle.mig_single_load.specs.Settings.{ram_settings};
+ghost use Rattle.mig_sources.specs.Reads.{no_reads};
+ghost use Rattle.mig_load_types.specs.Settings.{ram_settings};
 ghost use Rattle.mig_answer.specs.declared.verdict.Verdict.TheVariants.{Done as done};
 ghost use Rattle.mig_in_place.specs.Turns.{new_source};
 ghost use Rattle.mig_uses.specs.ByTurns.{IsReceived, SentIsReceived};

@@ -6,7 +6,7 @@ ghost use Rattle.mig_mem.specs.Round.{IsRound, all_pages, with_rounds};
 ghost use Rattle.mig_marking.specs.Marking.{IsPageOfBytes, missing, none_written, with_written};
 ghost use Rattle.mig_stream.specs.Text.{total_bytes};
 ghost use Rattle.mig_stream.specs.Written.{single};
-ghost use Rattle.mig_single_load.specs.declared.fault.Fault.TheVariants.{NoMemory as fault_no_memory};
+ghost use Rattle.mig_load_types.specs.declared.fault.Fault.TheVariants.{NoMemory as fault_no_memory};
 
 use std::alloc::Allocator;
 use zimgasol::{

@@ -1,9 +1,10 @@
 //! Loads a machine's stream, as QEMU writes it, from bytes that are there already: at once, in
 //! pieces, and over several channels. Finds where RAM's part ends: the devices' bytes follow it.
 
+use mig_load_types::{LoadSettings, Loaded};
 use mig_mem::{MAX_TOTAL, NoMemory, PAGE_SIZE_4K};
 use mig_session::{Session, Source};
-use mig_single_load::{LoadSettings, Loaded, SingleLoader, load_single_with};
+use mig_single_load::{SingleLoader, load_single_with};
 use mig_stream::{Frame, Mode, StreamReader};
 use std::alloc::Global;
 

@@ -7,7 +7,7 @@ ghost use Rattle.mig_mem.specs.Round.{after};
 ghost use Rattle.mig_stream.specs.Text.{total_bytes};
 ghost use Rattle.mig_send.specs.DealtRounds.{DealtRound, IsSending};
 ghost use Rattle.mig_send.specs.MultiSending.{KeepsSetting, KeepsCounts, texts_of};
-ghost use Rattle.mig_single_load.specs.declared.fault.Fault.TheVariants.{NoMemory as fault_no_memory};
+ghost use Rattle.mig_load_types.specs.declared.fault.Fault.TheVariants.{NoMemory as fault_no_memory};
 ghost use Rattle.mig_answer.specs.MultiLoad.{bytes_of};
 ghost use Rattle.mig_answer.specs.Sent.{IsSentInAnyOrder, sent_rounds};
 ghost use Rattle.mig_uses.specs.Migration.{HasArrived, HaveEachAppended};

@@ -1,7 +1,7 @@
 //! Reports a failed load to a user: the fault's number, where it is, and its message.
 
 ghost use Rattle.std.specs.Prelude.{◌≡◌, IfOk};
-ghost use Rattle.mig_single_load.specs.LoadFaultNumber.{fault_number};
+ghost use Rattle.mig_load_types.specs.LoadFaultNumber.{fault_number};
 
 use std::alloc::{AllocError, Allocator, Global};
 use zimgasol::{LoadFault, Origin};

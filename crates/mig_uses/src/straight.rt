@@ -14,11 +14,11 @@ ghost use Rattle.mig_mem.specs.Lent.{lent_bytes, mut_lent_bytes, lent_image, Fit
 ghost use Rattle.mig_packet.specs.Packet.{normal_count, zero_count};
 ghost use Rattle.mig_assemble.specs.HeadPlaces.{LieIn};
 ghost use Rattle.mig_assemble.specs.PacketPages.{LiesIn};
-ghost use Rattle.mig_single_load.specs.declared.settings.LoadSettings.{LoadSettings};
-ghost use Rattle.mig_single_load.specs.Settings.{ram_settings};
+ghost use Rattle.mig_load_types.specs.declared.settings.LoadSettings.{LoadSettings};
+ghost use Rattle.mig_load_types.specs.Settings.{ram_settings};
 ghost use Rattle.mig_answer.specs.Texts.{Texts};
-ghost use Rattle.mig_session.specs.declared.source.Source.TheVariants as source;
-ghost use Rattle.mig_session.specs.Session.{HasSource, count_of};
+ghost use Rattle.mig_sources.specs.declared.source.Source.TheVariants as source;
+ghost use Rattle.mig_sources.specs.Sources.{HasSource, count_of};
 ghost use Rattle.mig_in_place.specs.Answer.{IsInPlaceAnswer};
 ghost use Rattle.mig_in_place.specs.Sources.{counts_of};
 ghost use Rattle.mig_in_place.specs.Turns.{number_of};

@@ -4,7 +4,7 @@
 ghost use Rattle.std.specs.Prelude.{◌≡◌, ◌≤◌, ◌^◌, ℕ, List, [], ◌∷◌, Some, IfOk};
 ghost use Rattle.mig_mem.specs.PageSize.{IsPageSize};
 ghost use Rattle.mig_answer.specs.Texts.{ended_texts};
-ghost use Rattle.mig_single_load.specs.Settings.{ram_settings};
+ghost use Rattle.mig_load_types.specs.Settings.{ram_settings};
 ghost use Rattle.mig_session.specs.Session.{StandsFor};
 
 use std::alloc::Allocator;

@@ -14,6 +14,7 @@
 //! | a main stream and channels, whole | `load_multi` |
 //! | a main stream and channels, in pieces or from readers | `Session`, `pump` |
 //! | a main stream and channels, and the blocks of the guest | `InPlaceSession` |
+//! | the same, and blocks with whole rounds alone at any time | `Staged` around the memory |
 //! | the same from live connections | `SourceReader`, `pump_by_turns` |
 //! | the same, and a thread for each channel that reads pages to their places | `ApartSession` |
 //! | a load in place, to know which pages had a record | `Marking` around the memory |
@@ -384,5 +385,6 @@ pub use mig_mem::{
 pub use mig_send::{
     ChannelWorker, MultiRound, MultiSender, OpenGate, OpenRound, SendFault, Sent, SingleSender,
 };
+pub use mig_staged::Staged;
 pub use mig_stream::{Frame, StreamFault, Wanted};
 pub use uuid::Uuid;

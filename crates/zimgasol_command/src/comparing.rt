@@ -14,9 +14,8 @@ use std::io::{self, ErrorKind, Read, Write};
 use std::rt::Clock;
 use zimgasol_files::{
     CompareWords, ExtractWords, Folder, FolderBlock, PIECE_PAGES, Packed, Pages, Reading,
-    StreamWords, Trouble, Unfit, open, read_folder, unfit, unwritten,
+    StreamWords, Trouble, Unfit, open, path_in, read_folder, shown, shown_name, unfit, unwritten,
 };
-use zimgasol_names::{path_in, shown, shown_name};
 use zimgasol_output::put_wrongs;
 use zimgasol_reading::Survey;
 

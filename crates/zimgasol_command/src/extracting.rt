@@ -14,10 +14,9 @@ use std::rt::Clock;
 use std::str;
 use zimgasol_files::{
     BlockFile, BlockNames, ChannelWords, ExtractWords, Folder, LIST_NAME, PARTIAL, StreamWords,
-    Trouble, Unfit, block_value, complete_file, create, is_free, names_in, open, piece_buffer,
-    read_folder, rename, unfit, unwritten, write_at, write_text,
+    Trouble, Unfit, block_value, complete_file, create, is_free, names_in, open, path_in,
+    piece_buffer, read_folder, rename, shown, shown_name, unfit, unwritten, write_at, write_text,
 };
-use zimgasol_names::{path_in, shown, shown_name};
 use zimgasol_output::{put_judgement, put_several_judgement};
 use zimgasol_reading::{PageSink, Several, Survey, is_complete, read_several, read_stream};
 

@@ -10,8 +10,9 @@ use std::alloc::{AllocGlobal, Global};
 use std::fs::{Files, OpenFile};
 use std::io::{self, Read, Write};
 use std::rt::Clock;
-use zimgasol_files::{ChannelWords, Packed, Request, StreamWords, Trouble, Unfit, asked};
-use zimgasol_names::shown_name;
+use zimgasol_files::{
+    ChannelWords, Packed, Request, StreamWords, Trouble, Unfit, asked, shown_name,
+};
 use zimgasol_output::{
     put_all_wrongs, put_json, put_lines, put_several_all_wrongs, put_several_json,
     put_several_lines, put_several_verdict, put_verdict,

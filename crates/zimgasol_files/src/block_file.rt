@@ -1,17 +1,17 @@
 //! Writes the file that a block is extracted into, and computes its digest.
 
 ghost use Rattle.std.specs.Prelude.{◌≡◌, ◌++◌, IfOk, codes, string_bytes};
-ghost use Rattle.zimgasol_names.specs.Naming.{name_of};
+ghost use Rattle.zimgasol_files.specs.Naming.{name_of};
 
 use crate::input::read_piece;
 use crate::target::{PARTIAL, sync};
 use crate::trouble::Trouble;
+use crate::{file_name, id_text, path_in};
 use serde_json::{Map, Value, put};
 use sha2::{Digest, Sha256};
 use std::alloc::{AllocError, Global};
 use std::fs::OpenFile;
 use std::io::{self, Read, Seek, SeekFrom, Write};
-use zimgasol_names::{file_name, id_text, path_in};
 
 /// A file that a block is written into.
 #[derive(Drop)]

@@ -1,6 +1,7 @@
 //! Reads `blocks.json`, the list of blocks in a folder that `extract` made.
 
 use crate::opened::{open, unfit};
+use crate::path_in;
 use crate::target::unwritten;
 use crate::trouble::{Trouble, Unfit};
 use mig_mem::is_page_size;
@@ -8,7 +9,6 @@ use serde_json::{Category, Value};
 use std::alloc::{AllocError, AllocGlobal, Global};
 use std::fs::Files;
 use std::str;
-use zimgasol_names::path_in;
 
 /// The name of the list of blocks.
 pub const LIST_NAME: &str = "blocks.json";

@@ -1,5 +1,5 @@
 //! What the words of the program `zimgasol` share: its words, the files and folders that they name,
-//! and what ends a command before its work is done.
+//! the names of extracted files, and what ends a command before its work is done.
 //!
 //! | Modules | What they do |
 //! |---|---|
@@ -9,8 +9,13 @@
 //! | `pages` | reads a file and an older one side by side, for the pages that differ |
 //! | `target`, `block_file`, `folder` | write files under temporary names, and list a folder |
 //! | `watch` | prints how much was read |
+//! | `naming`, `showing` | names of files, and printable forms of ids and names |
 //!
-//! The definition of the pages that differ is `Differing` (`specs/`).
+//! The name of the file that a block is extracted into stays within its folder, and differs from
+//! the names of other blocks' files. Ids and names are printed as printable ASCII, so they can't
+//! control a terminal.
+//!
+//! Definitions: `Shown`, `Naming`; `Differing`, of the pages that differ (`specs/`).
 #![tactic(auto)]
 
 mod block_file;
@@ -18,9 +23,11 @@ mod block_words;
 mod channel_words;
 mod folder;
 mod input;
+mod naming;
 mod opened;
 mod pages;
 mod pieces;
+mod showing;
 mod target;
 mod trouble;
 mod watch;
@@ -33,9 +40,11 @@ pub use block_words::{BlockWord, block_word};
 pub use channel_words::{count_word, uuid_word, wanted_uuid};
 pub use folder::{Folder, FolderBlock, LIST_NAME, read_folder};
 pub use input::{piece_buffer, read_piece};
+pub use naming::{file_name, names_are_distinct, names_are_plain, path_in};
 pub use opened::{Opened, open, unfit};
 pub use pages::{PIECE_PAGES, Pages, Reading};
 pub use pieces::Pieces;
+pub use showing::{id_text, shown, shown_name};
 pub use target::{Outlet, PARTIAL, create, is_free, remove_old, rename, sync, unwritten};
 pub use trouble::{Packed, Trouble, Unfit, wrong};
 pub use watch::Watch;

@@ -4,12 +4,12 @@ ghost use Rattle.std.specs.Prelude.{◌≡◌, ◌≤◌, length, IfOk};
 
 use crate::input::read_piece;
 use crate::pieces::Pieces;
+use crate::shown_name;
 use crate::target::unwritten;
 use crate::trouble::{Trouble, Unfit};
 use std::alloc::Global;
 use std::fs::{File, Files, OpenFile};
 use std::io::Read;
-use zimgasol_names::shown_name;
 
 /// A file that is read.
 #[derive(Drop)]

@@ -1,11 +1,11 @@
 //! Writes files under another name until they are complete.
 
 use crate::opened::unfit;
+use crate::shown_name;
 use crate::trouble::{Trouble, Unfit};
 use std::alloc::Global;
 use std::fs::{File, Files, OpenFile};
 use std::io::{self, ErrorKind, Write};
-use zimgasol_names::shown_name;
 
 /// The suffix of the name of an incomplete file.
 pub const PARTIAL: &str = ".partial";

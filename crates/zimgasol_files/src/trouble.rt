@@ -1,9 +1,9 @@
 //! Errors that end a command, other than a fault of the stream.
 
+use crate::shown;
 use mig_mem::NoMemory;
 use std::alloc::{AllocError, AllocFailed, Global};
 use std::io;
-use zimgasol_names::shown;
 
 /// An error other than a fault of the stream. Names are as they are printed.
 #[derive(Drop)]

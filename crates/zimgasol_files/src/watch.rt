@@ -2,12 +2,12 @@
 
 ghost use Rattle.std.specs.Prelude.{◌≡◌, ◌-◌, ◌*◌, ◌/◌, ◌^◌, ◌≤◌, ◌<◌};
 
+use crate::shown_name;
 use crate::words::Talk;
 use std::alloc::{AllocError, Global};
 use std::io::{self, Write};
 use std::rt::Clock;
 use std::time::Instant;
-use zimgasol_names::shown_name;
 
 /// The time at which reading began, the number of bytes to read, and the time of the last line.
 #[derive(Drop)]

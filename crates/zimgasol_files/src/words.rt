@@ -3,13 +3,13 @@
 ghost use Rattle.std.specs.Prelude.{◌≤◌, ◌^◌};
 ghost use Rattle.mig_mem.specs.PageSize.{IsPageSize};
 
+use crate::shown;
 use clap::builder::ValueParser;
 use clap::error::ErrorKind;
 use clap::{Arg, ArgAction, ArgMatches, Command, Error};
 use mig_mem::{MAX_TOTAL, PAGE_SIZE_4K, PAGE_SIZE_8K};
 use mig_stream::Frame;
 use std::alloc::{AllocError, Global};
-use zimgasol_names::shown;
 
 /// The program's version (CHANGELOG.md).
 const VERSION: &str = "0.3.0";

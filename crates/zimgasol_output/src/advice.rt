@@ -2,7 +2,7 @@
 
 use mig_stream::{Frame, StreamFault};
 use std::alloc::{AllocError, Global};
-use zimgasol_names::shown;
+use zimgasol_files::shown;
 use zimgasol_reading::{Note, Noted, section_id, section_name};
 
 /// Type bytes of sections and other items (`migration/savevm.h` of QEMU).

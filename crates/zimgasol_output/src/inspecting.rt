@@ -6,8 +6,7 @@ use mig_stream::StreamFault;
 use serde_json::{Map, Value, json, put};
 use std::alloc::{AllocError, Global};
 use std::io::{self, Write};
-use zimgasol_files::Trouble;
-use zimgasol_names::{id_text, shown};
+use zimgasol_files::{Trouble, id_text, shown};
 use zimgasol_reading::{
     Blocks, Device, Ending, FaultPlace, Note, Noted, SectionKind, Survey, TailFault, block_at,
     fault_of, is_complete, kind_name,

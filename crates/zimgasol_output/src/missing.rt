@@ -8,8 +8,7 @@ use mig_stream::Frame;
 use std::alloc::Global;
 use std::fs::OpenFile;
 use std::io::{Read, Write};
-use zimgasol_files::Trouble;
-use zimgasol_names::shown;
+use zimgasol_files::{Trouble, shown};
 use zimgasol_reading::{Blocks, Coverage, Several, Survey};
 
 /// The sections of a stream without a PART: START and END.

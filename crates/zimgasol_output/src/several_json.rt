@@ -3,7 +3,7 @@
 ghost use Rattle.std.specs.Prelude.{◌≤◌};
 
 use crate::inspecting::{Object, blocks_value, note_value, number_value, put_file, put_tail};
-use mig_single_load::{Fault, LoadFault, Origin};
+use mig_load_types::{Fault, LoadFault, Origin};
 use serde_json::{Map, Value, json, put};
 use std::alloc::{AllocError, Global};
 use std::fs::OpenFile;

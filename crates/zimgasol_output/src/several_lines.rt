@@ -7,7 +7,7 @@ use crate::inspecting::{put_blocks, put_devices, put_file_line, put_note};
 use crate::missing::{coverage_word, put_several_missing};
 use crate::several_fault::{put_spotted, several_advice};
 use crate::verifying::{end_name, put_after, put_tail_wrong};
-use mig_single_load::{LoadFault, Origin};
+use mig_load_types::{LoadFault, Origin};
 use std::alloc::Global;
 use std::fs::OpenFile;
 use std::io::{self, Read, Write};

@@ -9,8 +9,7 @@ use std::alloc::{AllocGlobal, Global};
 use std::fs::{Files, OpenFile};
 use std::io::Read;
 use uuid::Uuid;
-use zimgasol_files::{Opened, PageSize, Pieces, Trouble, open};
-use zimgasol_names::shown_name;
+use zimgasol_files::{Opened, PageSize, Pieces, Trouble, open, shown_name};
 
 /// A file that a channel is read from.
 #[derive(Drop)]

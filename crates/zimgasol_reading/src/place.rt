@@ -10,7 +10,7 @@ use crate::notes::SectionKind;
 use crate::survey::Survey;
 use mig_stream::{StreamFault, StreamState};
 use std::alloc::{AllocError, Global};
-use zimgasol_names::shown;
+use zimgasol_files::shown;
 
 /// A fault of a stream, and where in the file it is.
 #[derive(Clone, Copy)]

@@ -6,7 +6,7 @@
 //! a complete round that of `Arrivals::judge` (`mig_assemble`).
 
 ghost use Rattle.std.specs.Prelude.{◌≡◌, ◌↔◌, ◌≤◌, Some, IsNone, IfSome, IsTrue};
-ghost use Rattle.mig_single_load.specs.declared.fault.LoadFault.{LoadFault};
+ghost use Rattle.mig_load_types.specs.declared.fault.LoadFault.{LoadFault};
 ghost use Rattle.mig_answer.specs.declared.verdict.Verdict.TheVariants as verdict;
 ghost use Rattle.zimgasol_reading.specs.Coverage.{IsWhole, HasItsPages, AreComplete};
 
@@ -16,7 +16,7 @@ use crate::guest::Guest;
 use crate::main_stream::MainStream;
 use crate::sink::PageSink;
 use mig_answer::{Verdict, repeated_id, sources_verdict};
-use mig_single_load::{Fault, LoadFault, Origin};
+use mig_load_types::{Fault, LoadFault, Origin};
 use mig_stream::Frame;
 use std::alloc::{AllocGlobal, Global};
 use std::fs::{File, Files, Metadata, OpenFile};

@@ -5,14 +5,13 @@ ghost use Rattle.std.specs.Prelude.{◌≤◌};
 use crate::notes::SectionKind;
 use crate::several::Several;
 use mig_assemble::RoundFault;
+use mig_load_types::{Fault, LoadFault, Origin};
 use mig_packet::ChannelFault;
-use mig_single_load::{Fault, LoadFault, Origin};
 use mig_stream::StreamFault;
 use std::alloc::Global;
 use std::fs::OpenFile;
 use std::io::Read;
-use zimgasol_files::Trouble;
-use zimgasol_names::shown;
+use zimgasol_files::{Trouble, shown};
 
 /// The source that a fault is in, and where in it.
 #[derive(Clone, Copy)]

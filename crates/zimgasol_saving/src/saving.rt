@@ -11,10 +11,9 @@ use std::fs::{Files, OpenFile};
 use std::io::{self, Read, Write};
 use std::rt::Clock;
 use zimgasol_files::{
-    PARTIAL, Pages, Reading, SaveWords, Trouble, Unfit, Watch, create, is_free, open, rename, sync,
-    unwritten,
+    PARTIAL, Pages, Reading, SaveWords, Trouble, Unfit, Watch, create, is_free, open, rename,
+    shown_name, sync, unwritten,
 };
-use zimgasol_names::shown_name;
 
 /// The totals of a save.
 #[derive(Clone, Copy)]

@@ -1,7 +1,7 @@
 use Rattle.std.proofs.Common.{◌∙◌, sym, ap}
 use Rattle.std.specs.Option.{option_map}
-use Rattle.mig_single_load.specs.declared.fault.Fault.TheVariants as fault
-use Rattle.mig_single_load.specs.declared.fault.Origin.TheVariants as origin
+use Rattle.mig_load_types.specs.declared.fault.Fault.TheVariants as fault
+use Rattle.mig_load_types.specs.declared.fault.Origin.TheVariants as origin
 use Rattle.mig_answer.specs.Status.{is_clean, is_whole}
 use Rattle.mig_answer.specs.MultiLoad.{failed, failed_at_first}
 use Rattle.mig_answer.specs.Told.{standings}

@@ -1,8 +1,8 @@
 use Rattle.std.proofs.Common.{◌≡◌, ap, refl, arith}
 use Rattle.std.specs.Prelude.{Result, Err, IsOk, ⊤}
 use Rattle.std.specs.Result.{is_ok}
-use Rattle.mig_single_load.specs.declared.fault.InPlaceFault.{InPlaceFault}
-use Rattle.mig_single_load.specs.declared.fault.InPlaceFault.TheVariants.{OtherTable, NoMemory}
+use Rattle.mig_load_types.specs.declared.fault.InPlaceFault.{InPlaceFault}
+use Rattle.mig_load_types.specs.declared.fault.InPlaceFault.TheVariants.{OtherTable, NoMemory}
 use Rattle.mig_c_loads.proofs.held_load.feed_memory.Goals as goal
 
 -- there are two ways in which a piece is refused

@@ -1,6 +1,6 @@
 use Rattle.std.proofs.Common.{◌≡◌, ℕ, Option, None, refl, subst}
-use Rattle.mig_single_load.specs.Settings.{for_table}
-use Rattle.mig_session.specs.Session.{IsSourceValidUpTo}
+use Rattle.mig_load_types.specs.Settings.{for_table}
+use Rattle.mig_sources.specs.Faults.{IsSourceValidUpTo}
 use Rattle.mig_c_loads.proofs.held_session.valid_up_to.Goals as goal
 
 pub returns-in-Some : goal.returns-in-Some

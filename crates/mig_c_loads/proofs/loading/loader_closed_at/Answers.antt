@@ -1,6 +1,6 @@
 use Rattle.std.proofs.Common.{ℕ, Option, refl, subst, arith}
 use Rattle.mig_stream.specs.Reader.{HasClosedAt}
-use Rattle.mig_single_load.specs.Settings.{single_of}
+use Rattle.mig_load_types.specs.Settings.{single_of}
 use Rattle.mig_c_loads.proofs.loading.loader_closed_at.Goals as goal
 
 pub returns-in-Some : goal.returns-in-Some

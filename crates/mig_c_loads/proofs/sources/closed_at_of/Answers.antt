@@ -1,8 +1,8 @@
 use Rattle.std.proofs.Common.{◌≡◌, ℕ, List, Option, None, refl, subst, arith}
 use Rattle.std.specs.Prelude.{IfSome}
 use Rattle.mig_stream.specs.Reader.{IsClosedAt, HasClosedAt}
-use Rattle.mig_single_load.specs.declared.settings.LoadSettings.{LoadSettings}
-use Rattle.mig_single_load.specs.Settings.{main_of}
+use Rattle.mig_load_types.specs.declared.settings.LoadSettings.{LoadSettings}
+use Rattle.mig_load_types.specs.Settings.{main_of}
 use Rattle.mig_answer.specs.Texts.{Texts}
 use Rattle.mig_session.specs.Session.{StandsFor, AsRead}
 use Rattle.mig_c_loads.proofs.sources.closed_at_of.Goals as goal

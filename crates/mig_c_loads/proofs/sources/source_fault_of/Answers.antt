@@ -1,6 +1,6 @@
 use Rattle.std.proofs.Common.{◌≡◌, ℕ, None, refl, ap, ◌∙◌}
 use Rattle.std.specs.Prelude.{Option}
-use Rattle.mig_single_load.specs.declared.fault.Fault.{Fault}
+use Rattle.mig_load_types.specs.declared.fault.Fault.{Fault}
 use Rattle.mig_c_loads.specs.Found.{seen_of_source}
 use Rattle.mig_c_loads.proofs.sources.source_fault_of.Goals as goal
 

@@ -1,5 +1,6 @@
 use Rattle.std.proofs.Common.{◌≡◌, ℕ, Option, None, refl, subst}
-use Rattle.mig_session.specs.Session.{AsRead, IsSourceValidUpTo}
+use Rattle.mig_session.specs.Session.{AsRead}
+use Rattle.mig_sources.specs.Faults.{IsSourceValidUpTo}
 use Rattle.mig_c_loads.proofs.sources.valid_up_to_of.Goals as goal
 
 pub returns-in-Some : goal.returns-in-Some

@@ -1,5 +1,5 @@
 use Rattle.std.proofs.Common.{ℕ, ◌≡◌, ◌≤◌, ◌<◌, length, get_or}
-use Rattle.mig_session.specs.Session.{no_count}
+use Rattle.mig_sources.specs.Sources.{no_count}
 use Rattle.mig_command.proofs.loading.feed_files.Given as goal
 
 abbrev pub invariant-loop-channel : goal.invariant-loop-channel

@@ -1,5 +1,5 @@
 use Rattle.std.proofs.Common.{◌≡◌, ◌∙◌, arith, refl, sym, subst, inl, inr}
-use Rattle.mig_session.specs.declared.source.Source.{Source}
+use Rattle.mig_sources.specs.declared.source.Source.{Source}
 use Rattle.mig_in_place.specs.Turns.{HasRoom, TakesNone}
 use Rattle.mig_in_place.proofs.Turning.{same_number, if_some, if_none}
 use Rattle.mig_in_place.proofs.pumping.whose_turn.Goals as goal

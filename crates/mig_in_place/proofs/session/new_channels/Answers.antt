@@ -2,11 +2,11 @@ use Rattle.std.proofs.Common.{ℕ, ◌≡◌, ◌∙◌, ◌++◌, ◌∷◌, []
 use Rattle.std.specs.List.{AllZip}
 use Rattle.std.proofs.lemmas.List.{map-append, replicate_more}
 use Rattle.mig_packet.specs.Paging.{none_given}
-use Rattle.mig_single_load.specs.Settings.{channel_of}
-use Rattle.mig_session.specs.declared.counts.Count.{Count}
-use Rattle.mig_session.specs.Session.{no_count}
+use Rattle.mig_load_types.specs.Settings.{channel_of}
+use Rattle.mig_sources.specs.declared.counts.Count.{Count}
+use Rattle.mig_sources.specs.Sources.{no_count}
 use Rattle.mig_answer.specs.Texts.{Text, no_text}
-use Rattle.mig_session.proofs.KeptSources.{zip_replicate}
+use Rattle.mig_sources.proofs.Zips.{zip_replicate}
 use Rattle.mig_in_place.specs.Sources.{KeptChannel, HoldsChannel, channel_count}
 use Rattle.mig_in_place.proofs.session.new_channels.Goals as goal
 

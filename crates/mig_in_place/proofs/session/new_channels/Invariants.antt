@@ -2,9 +2,9 @@ use Rattle.std.proofs.Common.{◌≡◌, ◌≤◌, map, replicate, vec_len, vec
 use Rattle.std.specs.List.{AllZip}
 use Rattle.mig_mem.specs.RamTable.{RamTable}
 use Rattle.mig_packet.specs.Paging.{none_given}
-use Rattle.mig_single_load.specs.Settings.{channel_of}
+use Rattle.mig_load_types.specs.Settings.{channel_of}
 use Rattle.mig_answer.specs.Texts.{Text, no_text}
-use Rattle.mig_session.specs.Session.{no_count}
+use Rattle.mig_sources.specs.Sources.{no_count}
 use Rattle.mig_in_place.specs.Sources.{KeptChannel, HoldsChannel, channel_count}
 use Rattle.mig_in_place.proofs.session.new_channels.Given as goal
 

@@ -1,6 +1,6 @@
 use Rattle.std.proofs.Common.{ℕ, ◌≡◌, ◌∙◌, length, replicate, arith, ap, subst}
 use Rattle.std.proofs.lemmas.Result.{IfOk-weaker, IfErr-weaker}
-use Rattle.mig_single_load.specs.Settings.{mode_of}
+use Rattle.mig_load_types.specs.Settings.{mode_of}
 use Rattle.mig_stream.specs.Reading.{Settings, settings, in_frame, with_waiting}
 use Rattle.mig_stream.specs.declared.item.Mode.{Mode}
 use Rattle.mig_stream.specs.Reader.{nothing_yet, with_piece, over, Stands}

@@ -3,7 +3,7 @@ use Rattle.std.specs.Prelude.{Result, ⊤}
 use Rattle.mig_packet.specs.Lent.{fields}
 use Rattle.mig_assemble.specs.Judging.{refusal}
 use Rattle.mig_assemble.specs.Target.{pages_of_round}
-use Rattle.mig_single_load.specs.declared.fault.LoadFault.{LoadFault}
+use Rattle.mig_load_types.specs.declared.fault.LoadFault.{LoadFault}
 use Rattle.mig_answer.specs.Putting.{IsRoundError}
 use Rattle.mig_relay.proofs.GoingThrough.{all_go_on, all_go_further}
 use Rattle.mig_relay.proofs.MainStream.{ends_here}

@@ -3,7 +3,7 @@ use Rattle.std.specs.Prelude.{Ok}
 use Rattle.mig_packet.specs.Lent.{fields}
 use Rattle.mig_stream.specs.declared.round.StreamRound.{StreamRound}
 use Rattle.mig_stream.specs.Reader.{Stands, waiting}
-use Rattle.mig_single_load.specs.Settings.{main_of}
+use Rattle.mig_load_types.specs.Settings.{main_of}
 use Rattle.mig_single_load.specs.SingleLoad.{no_memory_at}
 use Rattle.mig_single_load.proofs.Sections.{of_some, of_none}
 use Rattle.mig_answer.specs.declared.status.Status.TheVariants.{Whole}

@@ -1,5 +1,5 @@
 use Rattle.mig_packet.specs.Reader.{nothing_yet, with_piece}
-use Rattle.mig_single_load.specs.Settings.{channel_of}
+use Rattle.mig_load_types.specs.Settings.{channel_of}
 use Rattle.mig_relay.proofs.valid.channel_valid_up_to.Goals as goal
 
 pub returns : goal.returns

@@ -1,8 +1,7 @@
 use Rattle.std.proofs.Common.{ℕ, ◌≡◌, ◌≤◌, [], length, take, Result, Ok, arith, sym, ap, subst, ◌∙◌}
 use Rattle.std.specs.Io.KnownBytes.{Consumes}
 use Rattle.mig_session.specs.declared.pumping.PumpFault.{PumpFault}
-use Rattle.mig_session.specs.Reads.{after_end, after_read}
-use Rattle.mig_session.specs.Pumping.{piece_limit}
+use Rattle.mig_sources.specs.Reads.{after_end, after_read, piece_limit}
 use Rattle.mig_session.proofs.Pumped.{ReadsPiece, Feeds, Ends, Pumps, begins, goes_on, no_buffer, finds_end, runs_out, is_no_memory, is_small, has_room, front_len, end_read, reads_piece}
 use Rattle.mig_session.proofs.pumping.pump.Goals as goal
 

@@ -1,5 +1,5 @@
 use Rattle.std.proofs.Common.{◌≡◌, vec_len}
-use Rattle.mig_session.specs.Pumping.{piece_limit}
+use Rattle.mig_sources.specs.Reads.{piece_limit}
 use Rattle.mig_session.proofs.Pumped.{SoFar}
 use Rattle.mig_session.proofs.pumping.pump.Given as goal
 

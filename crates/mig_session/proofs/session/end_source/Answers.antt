@@ -1,7 +1,7 @@
 use Rattle.std.proofs.Common.{sym, subst}
 use Rattle.mig_answer.specs.Texts.{over}
-use Rattle.mig_session.specs.Sources.{Counts, FedSources, Holds, TellsAll, counts_of}
-use Rattle.mig_session.specs.Session.{HasSource, end_step}
+use Rattle.mig_session.specs.Sources.{FedSources, Holds, TellsAll, counts_of}
+use Rattle.mig_sources.specs.Sources.{Counts, HasSource, end_step}
 use Rattle.mig_session.proofs.Sessions.{there_ended}
 use Rattle.mig_session.proofs.session.end_source.Goals as goal
 

@@ -1,7 +1,7 @@
 use Rattle.std.proofs.Common.{◌∙◌, Option, Some, ap, arith, subst, sym, true}
 use Rattle.std.specs.Prelude.{Result, ⊤}
 use Rattle.mig_assemble.specs.Target.{LoadTarget}
-use Rattle.mig_single_load.specs.declared.fault.LoadFault.{LoadFault}
+use Rattle.mig_load_types.specs.declared.fault.LoadFault.{LoadFault}
 use Rattle.mig_answer.specs.declared.verdict.Verdict.{Verdict}
 use Rattle.mig_session.specs.Sources.{FedSources, counts_of, TellsAll, main_waiting}
 use Rattle.mig_session.specs.Advancing.{Feeding, Advances, PutsOrRefuses}

@@ -1,4 +1,4 @@
-use Rattle.std.proofs.Common.{Option, Some, None, subst}
+use Rattle.std.proofs.Common.{Option, subst}
 use Rattle.mig_session.specs.Sources.{Places}
 use Rattle.mig_session.specs.Session.{HavePlaces}
 use Rattle.mig_session.proofs.session.note.Goals as goal

@@ -1,8 +1,9 @@
 use Rattle.std.proofs.Common.{length, subst, sym}
-use Rattle.mig_session.specs.Session.{HasSource, rounds_loaded, feed_step}
+use Rattle.mig_session.specs.Session.{rounds_loaded}
+use Rattle.mig_sources.specs.Sources.{HasSource, feed_step, Counts}
 use Rattle.mig_session.specs.Advancing.{Feeding}
 use Rattle.mig_answer.specs.Texts.{with_piece}
-use Rattle.mig_session.specs.Sources.{Counts, counts_of}
+use Rattle.mig_session.specs.Sources.{counts_of}
 use Rattle.mig_session.proofs.Sessions.{any_ok, further, goes_fed, next_feeding, rounds_further, advances_further, taken_of}
 use Rattle.mig_session.proofs.session.take.Goals as goal
 use Rattle.mig_session.proofs.Pumped.{source_stays}

@@ -1,7 +1,8 @@
 use Rattle.std.proofs.Common.{◌∙◌, ◌+◌, ◌++◌, ◌∷◌, [], Bool, sym, take}
 use Rattle.std.specs.List.{AllZip}
 use Rattle.mig_session.specs.Advancing.{TellsOnly}
-use Rattle.mig_session.proofs.KeptSources.{zip_more, more_true, more_false}
+use Rattle.mig_session.proofs.KeptSources.{more_true, more_false}
+use Rattle.mig_sources.proofs.Zips.{zip_more}
 use Rattle.mig_session.proofs.sources.have_only.Goals as goal
 use Rattle.mig_session.proofs.sources.have_only.Goals.{then-not-has_only, else-not-has_only}
 

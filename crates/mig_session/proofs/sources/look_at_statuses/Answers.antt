@@ -1,6 +1,6 @@
 use Rattle.std.proofs.Common.{arith, sym}
 use Rattle.mig_session.specs.Sources.{TellsChannelStatus}
-use Rattle.mig_session.proofs.KeptSources.{zip_more}
+use Rattle.mig_sources.proofs.Zips.{zip_more}
 use Rattle.mig_session.proofs.sources.look_at_statuses.Goals as goal
 
 pub loop-channel-preserved : goal.loop-channel-preserved

@@ -1,13 +1,13 @@
 use Rattle.std.proofs.Common.{ℕ, ◌≡◌, ◌∙◌, ◌+◌, ◌++◌, ◌∷◌, [], List, arith, ap, map, replicate, subst}
 use Rattle.std.specs.List.{AllZip}
 use Rattle.std.proofs.lemmas.List.{map-append, replicate_more}
-use Rattle.mig_session.specs.declared.counts.Count.{Count}
+use Rattle.mig_sources.specs.declared.counts.Count.{Count}
 use Rattle.mig_answer.specs.Texts.{no_text}
 use Rattle.mig_session.specs.Sources.{FedChannel, HoldsChannel, channel_count}
-use Rattle.mig_session.specs.Session.{no_count}
-use Rattle.mig_session.proofs.KeptSources.{zip_replicate}
+use Rattle.mig_sources.specs.Sources.{no_count}
+use Rattle.mig_sources.proofs.Zips.{zip_replicate}
 use Rattle.mig_session.proofs.sources.no_channels.Goals as goal
-use Rattle.mig_single_load.specs.Settings.{channel_of}
+use Rattle.mig_load_types.specs.Settings.{channel_of}
 
 pub loop-preserved : goal.loop-preserved
 loop-preserved g c =

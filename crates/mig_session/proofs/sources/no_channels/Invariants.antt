@@ -2,9 +2,9 @@ use Rattle.std.proofs.Common.{◌≡◌, ◌≤◌, map, replicate, vec_len, vec
 use Rattle.std.specs.List.{AllZip}
 use Rattle.mig_answer.specs.Texts.{no_text}
 use Rattle.mig_session.specs.Sources.{HoldsChannel, channel_count}
-use Rattle.mig_session.specs.Session.{no_count}
+use Rattle.mig_sources.specs.Sources.{no_count}
 use Rattle.mig_session.proofs.sources.no_channels.Given as goal
-use Rattle.mig_single_load.specs.Settings.{channel_of}
+use Rattle.mig_load_types.specs.Settings.{channel_of}
 
 abbrev pub invariant-loop : goal.invariant-loop
 invariant-loop g l = record {

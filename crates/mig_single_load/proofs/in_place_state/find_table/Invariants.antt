@@ -1,7 +1,7 @@
 use Rattle.std.proofs.Common.{ℕ, ◌≡◌, List}
 use Rattle.mig_mem.specs.RamTable.{RamTable}
 use Rattle.mig_stream.specs.Giving.{GivenSoFar, Gives, left}
-use Rattle.mig_single_load.specs.declared.settings.LoadSettings.{LoadSettings}
+use Rattle.mig_load_types.specs.declared.settings.LoadSettings.{LoadSettings}
 use Rattle.mig_single_load.specs.LoadInPlace.{settings_for, GaveNext}
 use Rattle.mig_single_load.proofs.in_place_state.find_table.Given as goal
 

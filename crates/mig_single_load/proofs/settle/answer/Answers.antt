@@ -2,7 +2,7 @@ use Rattle.std.proofs.Common.{◌∙◌, ap, refl, inr, length, not, Some}
 use Rattle.mig_mem.specs.Place.{has_place}
 use Rattle.mig_mem.specs.PlaceSet.{PlaceSet, places_where}
 use Rattle.mig_mem.specs.Image.{Image}
-use Rattle.mig_single_load.specs.Settings.{single_of}
+use Rattle.mig_load_types.specs.Settings.{single_of}
 use Rattle.mig_single_load.specs.Loader.{loader, put_so_far, sections_loaded}
 use Rattle.mig_single_load.proofs.Sections.{answered_there, answered_without_table}
 use Rattle.mig_single_load.proofs.settle.answer.Goals as goal

@@ -1,7 +1,7 @@
 use Rattle.std.proofs.Common.{◌≡◌, ◌∙◌, Some, arith, rules, subst, sym}
 use Rattle.std.specs.Prelude.{Ok}
 use Rattle.mig_stream.specs.declared.round.StreamRound.{StreamRound}
-use Rattle.mig_single_load.specs.Settings.{single_of}
+use Rattle.mig_load_types.specs.Settings.{single_of}
 use Rattle.mig_single_load.specs.Loader.{put_so_far, HasPutSections}
 use Rattle.mig_single_load.proofs.Sections.{is_few, fits_is, put_more, all_put, of_some, of_none}
 use Rattle.mig_single_load.proofs.settle.put_sections.Goals as goal

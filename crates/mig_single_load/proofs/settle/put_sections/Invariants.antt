@@ -1,7 +1,7 @@
 use Rattle.std.proofs.Common.{ℕ, ◌≡◌, Bool, List}
 use Rattle.mig_stream.specs.Reader.{waiting}
 use Rattle.mig_mem.specs.Image.{Image}
-use Rattle.mig_single_load.specs.declared.settings.LoadSettings.{LoadSettings}
+use Rattle.mig_load_types.specs.declared.settings.LoadSettings.{LoadSettings}
 use Rattle.mig_single_load.specs.Loader.{HasPutSections}
 use Rattle.mig_single_load.proofs.settle.put_sections.Given as goal
 

@@ -1,6 +1,6 @@
 use Rattle.std.proofs.Common.{None, subst, sym}
 use Rattle.mig_stream.proofs.Writing.{on_err}
-use Rattle.mig_single_load.specs.Settings.{single_of}
+use Rattle.mig_load_types.specs.Settings.{single_of}
 use Rattle.mig_single_load.specs.Loader.{loader, put_so_far, Loads, HasAllSections, WasFed}
 use Rattle.mig_mem.specs.Image.{zero_image}
 use Rattle.mig_single_load.proofs.Sections.{put_new, put_of, none_there, loads_put, loads_all}

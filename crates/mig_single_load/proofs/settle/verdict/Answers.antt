@@ -1,5 +1,5 @@
 use Rattle.std.proofs.Common.{inr, ap, subst, sym, ◌∙◌}
-use Rattle.mig_single_load.specs.Settings.{single_of}
+use Rattle.mig_load_types.specs.Settings.{single_of}
 use Rattle.mig_single_load.specs.SingleLoad.{verdict_of}
 use Rattle.mig_single_load.specs.Loader.{loader, put_so_far, sections_loaded, HasAllSections}
 use Rattle.mig_single_load.proofs.Sections.{all_there, none_there, judged}

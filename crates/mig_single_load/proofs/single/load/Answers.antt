@@ -1,8 +1,8 @@
 use Rattle.std.proofs.Common.{ℕ, List, None, true, inr, arith}
 use Rattle.mig_stream.specs.Reader.{Reader, nothing_yet, with_piece, Stands}
 use Rattle.mig_mem.specs.PageSize.{IsPageSize}
-use Rattle.mig_single_load.specs.Settings.{single_of}
-use Rattle.mig_single_load.specs.declared.settings.LoadSettings.{LoadSettings}
+use Rattle.mig_load_types.specs.Settings.{single_of}
+use Rattle.mig_load_types.specs.declared.settings.LoadSettings.{LoadSettings}
 use Rattle.mig_single_load.specs.Loader.{loader, put_so_far, WasFed}
 use Rattle.mig_single_load.proofs.Sections.{none_put, load_answers}
 use Rattle.mig_single_load.proofs.single.load.Goals as goal

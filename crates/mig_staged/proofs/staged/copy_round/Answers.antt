@@ -1,7 +1,6 @@
-use Rattle.std.proofs.Common.{ℕ, ◌≡◌, ◌∙◌, sym, ap, subst, arith}
+use Rattle.std.proofs.Common.{◌≡◌, ◌∙◌, sym, subst, arith}
 use Rattle.mig_mem.specs.RamTable.{RamTable}
 use Rattle.mig_mem.specs.Place.{IsPlace}
-use Rattle.mig_mem.specs.Image.{Image}
 use Rattle.mig_mem.proofs.Walks.{found_page}
 use Rattle.mig_staged.proofs.Staging.{copied_none, copied_next, copied_all, copied_table, found_there}
 use Rattle.mig_staged.proofs.staged.copy_round.Goals as goal

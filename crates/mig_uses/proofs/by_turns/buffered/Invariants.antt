@@ -1,6 +1,6 @@
 use Rattle.std.proofs.Common.{◌≡◌, ◌≤◌, ◌++◌, length, map, vec_capacity}
 use Rattle.std.specs.Vec.Iter.{into_iter_items}
-use Rattle.mig_session.specs.Reads.{no_reads}
+use Rattle.mig_sources.specs.Reads.{no_reads}
 use Rattle.mig_in_place.specs.Turns.{new_source}
 use Rattle.mig_uses.proofs.by_turns.buffered.Given as goal
 

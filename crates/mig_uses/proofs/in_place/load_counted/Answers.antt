@@ -1,10 +1,10 @@
-use Rattle.std.proofs.Common.{ℕ, ◌≡◌, ◌≤◌, All, MatchResult, sym, subst, ◌∙◌}
+use Rattle.std.proofs.Common.{◌≡◌, ◌≤◌, All, MatchResult, sym, subst, ◌∙◌}
 use Rattle.mig_mem.specs.Round.{IsRound, with_rounds}
 use Rattle.mig_marking.specs.Marking.{Marked, seen, none_written}
 use Rattle.mig_stream.specs.Text.{total_bytes}
 use Rattle.mig_stream.specs.Written.{single}
-use Rattle.mig_single_load.specs.declared.fault.Fault.TheVariants.{NoMemory as fault_no_memory}
-use Rattle.mig_single_load.specs.declared.fault.LoadFault.{LoadFault}
+use Rattle.mig_load_types.specs.declared.fault.Fault.TheVariants.{NoMemory as fault_no_memory}
+use Rattle.mig_load_types.specs.declared.fault.LoadFault.{LoadFault}
 use Rattle.mig_uses.proofs.Counting.{counted, told_err}
 use Rattle.mig_uses.proofs.in_place.load_counted.Goals as goal
 

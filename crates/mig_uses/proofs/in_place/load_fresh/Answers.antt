@@ -4,8 +4,8 @@ use Rattle.mig_mem.specs.Image.{Image, zero_image}
 use Rattle.mig_mem.specs.Round.{IsRound, with_rounds}
 use Rattle.mig_stream.specs.Text.{total_bytes}
 use Rattle.mig_stream.specs.Written.{single}
-use Rattle.mig_single_load.specs.declared.fault.Fault.TheVariants.{NoMemory as fault_no_memory}
-use Rattle.mig_single_load.specs.declared.fault.LoadFault.{LoadFault}
+use Rattle.mig_load_types.specs.declared.fault.Fault.TheVariants.{NoMemory as fault_no_memory}
+use Rattle.mig_load_types.specs.declared.fault.LoadFault.{LoadFault}
 use Rattle.mig_uses.proofs.Counting.{told_err}
 use Rattle.mig_uses.proofs.in_place.load_fresh.Goals as goal
 

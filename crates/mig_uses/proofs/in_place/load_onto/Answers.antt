@@ -1,7 +1,7 @@
 use Rattle.std.proofs.Common.{ℕ, ◌≡◌, ◌∙◌, [], true, false, ap, subst}
 use Rattle.mig_mem.specs.RamTable.{RamTable}
-use Rattle.mig_single_load.specs.declared.settings.LoadSettings.{LoadSettings}
-use Rattle.mig_single_load.specs.Settings.{ram_settings}
+use Rattle.mig_load_types.specs.declared.settings.LoadSettings.{LoadSettings}
+use Rattle.mig_load_types.specs.Settings.{ram_settings}
 use Rattle.mig_single_load.specs.LoadInPlace.{LoadsOnto}
 use Rattle.mig_uses.proofs.Onto.{loaded_onto, never_err}
 use Rattle.mig_uses.proofs.in_place.load_onto.Goals as goal

@@ -2,7 +2,7 @@ use Rattle.std.proofs.Common.{◌≡◌, subst, ◌++◌, List, ℕ, Result, tru
 use Rattle.std.specs.Prelude.{⊤}
 use Rattle.mig_stream.proofs.Exists.{one_reading_law}
 use Rattle.mig_stream.proofs.Longer.{longer_law}
-use Rattle.mig_single_load.specs.declared.fault.LoadFault.{LoadFault}
+use Rattle.mig_load_types.specs.declared.fault.LoadFault.{LoadFault}
 use Rattle.mig_single_load.specs.Loader.{HasVerdict}
 use Rattle.mig_uses.proofs.Settling.{own_verdict, whole_stays, refused_stays, coming}
 use Rattle.mig_uses.proofs.incoming.take_piece.Goals as goal

@@ -1,4 +1,4 @@
-use Rattle.std.proofs.Common.{ℕ, ◌≡◌, ◌*◌, length, refl, ◌∙◌, arith}
+use Rattle.std.proofs.Common.{◌≡◌, ◌*◌, length, refl, ◌∙◌, arith}
 use Rattle.mig_mem.proofs.PartWrites.{changes_part}
 use Rattle.mig_uses.proofs.StraightPages.{part_length}
 use Rattle.mig_uses.proofs.straight.read_part.Goals as goal

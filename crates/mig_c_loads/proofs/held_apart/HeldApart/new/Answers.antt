@@ -4,8 +4,7 @@ use Rattle.mig_mem.specs.Image.{Image}
 use Rattle.mig_mem.specs.Lent.{lent_image}
 use Rattle.mig_mem.proofs.Lents.{lent_is_image}
 use Rattle.mig_answer.specs.Texts.{no_texts}
-use Rattle.mig_session.specs.Sources.{Counts}
-use Rattle.mig_session.specs.Session.{no_count}
+use Rattle.mig_sources.specs.Sources.{Counts, no_count}
 use Rattle.mig_in_place.specs.Session.{StandsFor}
 use Rattle.mig_c_loads.specs.Frames.{load_settings, with_round_end}
 use Rattle.mig_c_loads.proofs.held_apart.HeldApart.new.Goals as goal

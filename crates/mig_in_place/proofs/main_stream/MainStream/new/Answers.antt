@@ -2,7 +2,7 @@ use Rattle.std.proofs.Common.{subst}
 use Rattle.mig_stream.specs.declared.item.Mode.{Mode}
 use Rattle.mig_stream.specs.Reading.{settings, in_frame, with_waiting}
 use Rattle.mig_stream.specs.Reader.{Stands, nothing_yet}
-use Rattle.mig_single_load.specs.Settings.{main_of}
+use Rattle.mig_load_types.specs.Settings.{main_of}
 use Rattle.mig_in_place.proofs.Mains.{begins}
 use Rattle.mig_in_place.proofs.main_stream.MainStream.new.Goals as goal
 

@@ -5,8 +5,8 @@ use Rattle.std.specs.Vec.{with_items}
 use Rattle.std.proofs.lemmas.List.{with_items_is, length-map}
 use Rattle.mig_mem.specs.RamTable.{RamTable}
 use Rattle.mig_mem.specs.Image.{Image}
-use Rattle.mig_single_load.specs.Settings.{main_of, for_table}
-use Rattle.mig_session.specs.declared.counts.Count.{Count}
+use Rattle.mig_load_types.specs.Settings.{main_of, for_table}
+use Rattle.mig_sources.specs.declared.counts.Count.{Count}
 use Rattle.mig_in_place.specs.Round.{KeepsSome}
 use Rattle.mig_in_place.specs.Sources.{KeptMain, KeptChannel, IsChannelOf, StandsAt, HasTakenRecords, at_next_round, channel_count, main_count, counts_of}
 use Rattle.mig_in_place.specs.Session.{InPlaceLoad, Loads, IsDue, PassesAt, IsMainOf}

@@ -1,5 +1,5 @@
 use Rattle.std.proofs.Common.{◌≡◌, ◌∙◌, true, false, sym, subst}
-use Rattle.mig_single_load.specs.Settings.{main_of, for_table}
+use Rattle.mig_load_types.specs.Settings.{main_of, for_table}
 use Rattle.mig_in_place.specs.Session.{InPlaceLoad, Loading, HaveTaken}
 use Rattle.mig_in_place.proofs.Refused.{stands_found}
 use Rattle.mig_in_place.proofs.session.InPlaceSession.closed_at.Goals as goal

@@ -1,8 +1,8 @@
 use Rattle.std.proofs.Common.{◌≡◌, ◌≢◌, ◌∙◌, ap, sym, inl, inr, rules}
 use Rattle.std.proofs.lemmas.Bool.{cases_Bool}
-use Rattle.mig_single_load.specs.Settings.{for_table}
+use Rattle.mig_load_types.specs.Settings.{for_table}
 use Rattle.mig_answer.specs.declared.verdict.Verdict.TheVariants.{Running}
-use Rattle.mig_session.specs.Session.{end_step}
+use Rattle.mig_sources.specs.Sources.{end_step}
 use Rattle.mig_in_place.specs.Session.{InPlaceLoad, Loading, Loads, with_over}
 use Rattle.mig_in_place.proofs.Ended.{never_due, end_bytes}
 use Rattle.mig_in_place.proofs.Over.{end_stands, end_lacks}

@@ -2,12 +2,12 @@ use Rattle.std.proofs.Common.{ℕ, ◌≡◌, ◌<◌, ◌∙◌, List, length, 
 use Rattle.std.specs.Prelude.{slice_get}
 use Rattle.std.proofs.lemmas.List.{length-map, length-set}
 use Rattle.std.proofs.lemmas.Option.{slice_get_read}
-use Rattle.mig_single_load.specs.Settings.{main_of, for_table}
+use Rattle.mig_load_types.specs.Settings.{main_of, for_table}
 use Rattle.mig_answer.specs.Texts.{over}
-use Rattle.mig_session.specs.declared.counts.Count.{Count}
-use Rattle.mig_session.specs.declared.source.Source.{Source}
-use Rattle.mig_session.specs.declared.source.Source.TheVariants as source
-use Rattle.mig_session.specs.Session.{HasSource, with_end, end_step}
+use Rattle.mig_sources.specs.declared.counts.Count.{Count}
+use Rattle.mig_sources.specs.declared.source.Source.{Source}
+use Rattle.mig_sources.specs.declared.source.Source.TheVariants as source
+use Rattle.mig_sources.specs.Sources.{HasSource, with_end, end_step}
 use Rattle.mig_in_place.specs.Sources.{KeptMain, KeptChannel, IsChannelOf, channel_count, main_count, counts_of}
 use Rattle.mig_in_place.specs.Session.{InPlaceLoad, HaveTaken, Loads, with_over}
 use Rattle.mig_in_place.proofs.ChannelComes.{all_set, all_there}

@@ -3,12 +3,13 @@ use Rattle.std.specs.Prelude.{slice_get}
 use Rattle.std.proofs.lemmas.List.{length-map}
 use Rattle.std.proofs.lemmas.Option.{slice_get_read}
 use Rattle.mig_mem.specs.PageSize.{IsPageSize}
-use Rattle.mig_single_load.specs.Settings.{channel_of, for_table}
-use Rattle.mig_single_load.specs.declared.settings.LoadSettings.{LoadSettings}
+use Rattle.mig_load_types.specs.Settings.{channel_of, for_table}
+use Rattle.mig_load_types.specs.declared.settings.LoadSettings.{LoadSettings}
 use Rattle.mig_answer.proofs.OneAnswer.{some_readings}
-use Rattle.mig_session.specs.declared.source.Source.{Source}
-use Rattle.mig_session.specs.declared.source.Source.TheVariants as source
-use Rattle.mig_session.specs.Session.{HasSource, HasFault}
+use Rattle.mig_sources.specs.declared.source.Source.{Source}
+use Rattle.mig_sources.specs.declared.source.Source.TheVariants as source
+use Rattle.mig_sources.specs.Sources.{HasSource}
+use Rattle.mig_sources.specs.Faults.{HasFault}
 use Rattle.mig_in_place.specs.Sources.{KeptChannel, channel_count, counts_of}
 use Rattle.mig_in_place.specs.Session.{InPlaceLoad, Loading, HaveTaken}
 use Rattle.mig_in_place.proofs.Faults.{fault_at}

@@ -3,7 +3,7 @@ use Rattle.mig_mem.specs.Image.{Image}
 use Rattle.mig_answer.specs.declared.verdict.Verdict.TheVariants.{Running}
 use Rattle.mig_answer.specs.Texts.{Texts}
 use Rattle.mig_in_place.specs.Sources.{counts_of}
-use Rattle.mig_in_place.specs.Session.{InPlaceLoad, Loading, Loads, Stands, StandsFor, LacksBehind}
+use Rattle.mig_in_place.specs.Session.{InPlaceLoad, Loading, Loads, StandsFor, LacksBehind}
 use Rattle.mig_in_place.proofs.Feeding.{fed_none, counted_none}
 use Rattle.mig_in_place.proofs.Takes.{loads_of}
 use Rattle.mig_in_place.proofs.Turns.{lacks_failed}

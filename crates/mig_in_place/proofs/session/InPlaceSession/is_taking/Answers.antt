@@ -2,10 +2,10 @@ use Rattle.std.proofs.Common.{ℕ, ◌≡◌, ◌<◌, length, Some, refl, sym, 
 use Rattle.std.specs.Prelude.{◌↔◌, IsTrue, slice_get}
 use Rattle.std.proofs.lemmas.List.{length-map}
 use Rattle.std.proofs.lemmas.Option.{slice_get_read}
-use Rattle.mig_single_load.specs.Settings.{for_table}
-use Rattle.mig_session.specs.declared.source.Source.{Source}
-use Rattle.mig_session.specs.declared.source.Source.TheVariants as source
-use Rattle.mig_session.specs.Session.{HasSource}
+use Rattle.mig_load_types.specs.Settings.{for_table}
+use Rattle.mig_sources.specs.declared.source.Source.{Source}
+use Rattle.mig_sources.specs.declared.source.Source.TheVariants as source
+use Rattle.mig_sources.specs.Sources.{HasSource}
 use Rattle.mig_in_place.specs.Sources.{KeptChannel, channel_count, counts_of}
 use Rattle.mig_in_place.specs.Session.{InPlaceLoad, Loading, Loads, TakesBytes}
 use Rattle.mig_in_place.proofs.Takes.{loads_of, main_takes, channel_takes}

@@ -1,5 +1,4 @@
 use Rattle.std.proofs.Common.{ℕ, ◌≡◌, ◌≢◌, ◌∙◌, sym, ap, subst, refl, rules}
-use Rattle.mig_mem.specs.Image.{Image}
 use Rattle.mig_answer.specs.declared.verdict.Verdict.TheVariants.{Running}
 use Rattle.mig_in_place.specs.Session.{InPlaceLoad, Loads, Stands, IsDue, PassesAt, Lacks}
 use Rattle.mig_in_place.proofs.Feeding.{if_ok, on_err}

@@ -1,4 +1,3 @@
-use Rattle.mig_mem.specs.Image.{Image}
 use Rattle.mig_in_place.proofs.Midway.{any_err}
 use Rattle.mig_in_place.proofs.session.InPlaceSession.judge_so_far.Goals as goal
 

@@ -1,5 +1,5 @@
 use Rattle.std.proofs.Common.{◌∙◌, sym, subst}
-use Rattle.mig_single_load.specs.Settings.{for_table}
+use Rattle.mig_load_types.specs.Settings.{for_table}
 use Rattle.mig_in_place.specs.Session.{InPlaceLoad, Loads, HasAllRounds, MoreMayCome}
 use Rattle.mig_in_place.proofs.AllIn.{all_in, packets_come, main_goes_on}
 use Rattle.mig_in_place.proofs.session.InPlaceSession.lacks_ends.Goals as goal

@@ -6,9 +6,9 @@ use Rattle.mig_mem.specs.RamTable.{RamTable, IsTable}
 use Rattle.mig_mem.specs.PlaceSet.{PlaceSet}
 use Rattle.mig_packet.specs.Reading.{Settings}
 use Rattle.mig_packet.specs.Paging.{none_given}
-use Rattle.mig_single_load.specs.declared.settings.LoadSettings.{LoadSettings}
-use Rattle.mig_single_load.specs.Settings.{main_of, channel_of}
-use Rattle.mig_session.specs.declared.counts.Count.{Count}
+use Rattle.mig_load_types.specs.declared.settings.LoadSettings.{LoadSettings}
+use Rattle.mig_load_types.specs.Settings.{main_of, channel_of}
+use Rattle.mig_sources.specs.declared.counts.Count.{Count}
 use Rattle.mig_answer.specs.declared.verdict.Verdict.TheVariants.{Running}
 use Rattle.mig_answer.specs.Texts.{Text, no_text}
 use Rattle.mig_in_place.specs.Round.{Keeps}

@@ -1,6 +1,6 @@
 use Rattle.std.proofs.Common.{sym, subst}
 use Rattle.mig_mem.specs.Image.{Image}
-use Rattle.mig_session.specs.declared.source.Source.{Source}
+use Rattle.mig_sources.specs.declared.source.Source.{Source}
 use Rattle.mig_in_place.specs.Session.{InPlaceLoad, Loads, LacksBehind}
 use Rattle.mig_in_place.proofs.Feeding.{none_behind, on_err}
 use Rattle.mig_in_place.proofs.Midway.{any_err}

@@ -3,13 +3,13 @@ use Rattle.std.specs.Prelude.{IsFalse, ◌⊎◌, None, Some}
 use Rattle.mig_stream.specs.Reader.{HasTable}
 use Rattle.mig_mem.specs.RamTable.{RamTable}
 use Rattle.mig_mem.specs.Image.{Image}
-use Rattle.mig_single_load.specs.Settings.{main_of, for_table}
-use Rattle.mig_single_load.specs.declared.fault.Origin.TheVariants as origin
-use Rattle.mig_single_load.specs.declared.fault.Fault.TheVariants as fault
+use Rattle.mig_load_types.specs.Settings.{main_of, for_table}
+use Rattle.mig_load_types.specs.declared.fault.Origin.TheVariants as origin
+use Rattle.mig_load_types.specs.declared.fault.Fault.TheVariants as fault
 use Rattle.mig_answer.specs.declared.verdict.Verdict.{Verdict}
 use Rattle.mig_answer.specs.Texts.{Text, with_piece}
 use Rattle.mig_answer.specs.MultiLoad.{failed}
-use Rattle.mig_session.specs.declared.source.Source.TheVariants as source
+use Rattle.mig_sources.specs.declared.source.Source.TheVariants as source
 use Rattle.mig_in_place.specs.Sources.{StandsAt}
 use Rattle.mig_in_place.specs.Session.{InPlaceLoad, Loads, Stands, IsMainOf, IsUnsettled, with_bytes}
 use Rattle.mig_in_place.proofs.MainComes.{of_other, main_read, piece_goes}

@@ -1,5 +1,4 @@
-use Rattle.std.proofs.Common.{ℕ, ◌≡◌, ◌∙◌, List, take, ap, arith}
-use Rattle.mig_mem.specs.Image.{Image}
+use Rattle.std.proofs.Common.{◌∙◌, take, ap, arith}
 use Rattle.mig_in_place.specs.Sources.{counts_of}
 use Rattle.mig_in_place.specs.Session.{InPlaceLoad, with_bytes}
 use Rattle.mig_in_place.proofs.Midway.{any_err}

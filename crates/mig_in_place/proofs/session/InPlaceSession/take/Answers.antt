@@ -4,7 +4,7 @@ use Rattle.std.proofs.lemmas.List.{length-drop}
 use Rattle.mig_mem.specs.Image.{Image}
 use Rattle.mig_stream.proofs.ZeroRecords.{tail_from}
 use Rattle.mig_answer.specs.declared.verdict.Verdict.TheVariants.{Running}
-use Rattle.mig_session.specs.Session.{HasSource}
+use Rattle.mig_sources.specs.Sources.{HasSource}
 use Rattle.mig_in_place.specs.Sources.{KeptSources, counts_of}
 use Rattle.mig_in_place.specs.Session.{InPlaceLoad, Loading, Loads, IsUnsettled, LacksBehind, TakesNoMore, with_bytes}
 use Rattle.mig_in_place.proofs.Midway.{any_err}

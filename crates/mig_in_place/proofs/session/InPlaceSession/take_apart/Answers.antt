@@ -5,9 +5,9 @@ use Rattle.std.proofs.lemmas.List.{length-set}
 use Rattle.std.proofs.lemmas.Option.{slice_get_read}
 use Rattle.mig_mem.specs.RamTable.{RamTable}
 use Rattle.mig_mem.specs.Lent.{lent_bytes}
-use Rattle.mig_session.specs.declared.counts.Count.{Count}
-use Rattle.mig_session.specs.declared.source.Source.TheVariants as source
-use Rattle.mig_session.specs.Session.{with_fed}
+use Rattle.mig_sources.specs.declared.counts.Count.{Count}
+use Rattle.mig_sources.specs.declared.source.Source.TheVariants as source
+use Rattle.mig_sources.specs.Sources.{with_fed}
 use Rattle.mig_in_place.specs.Round.{KeepsSome}
 use Rattle.mig_in_place.specs.Sources.{KeptChannel, IsChannelOf, main_count, counts_of}
 use Rattle.mig_in_place.specs.Session.{InPlaceLoad, Loads}

@@ -5,7 +5,7 @@ use Rattle.mig_mem.specs.Image.{Image}
 use Rattle.mig_mem.specs.Round.{with_round}
 use Rattle.mig_mem.specs.Lent.{lent_bytes}
 use Rattle.mig_answer.specs.declared.verdict.Verdict.TheVariants.{Running}
-use Rattle.mig_session.specs.declared.source.Source.TheVariants as source
+use Rattle.mig_sources.specs.declared.source.Source.TheVariants as source
 use Rattle.mig_in_place.specs.Sources.{KeptChannel}
 use Rattle.mig_in_place.specs.Session.{Loading, Loads, with_bytes}
 use Rattle.mig_in_place.specs.TakenPackets.{packet_bytes, pages_taken}

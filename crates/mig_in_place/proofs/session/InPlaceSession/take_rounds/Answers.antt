@@ -2,7 +2,7 @@ use Rattle.std.proofs.Common.{ℕ, ◌≡◌, ◌+◌, ◌-◌, ◌≤◌, ◌�
 use Rattle.std.proofs.lemmas.Option.{same_Some}
 use Rattle.mig_mem.specs.Image.{Image}
 use Rattle.mig_stream.proofs.ZeroRecords.{tail_from}
-use Rattle.mig_session.specs.Session.{feed_step}
+use Rattle.mig_sources.specs.Sources.{feed_step}
 use Rattle.mig_staged.specs.Staged.{staged}
 use Rattle.mig_in_place.specs.Session.{StepsOn, JudgesOn, IsJudged}
 use Rattle.mig_in_place.proofs.WholeRounds.{WholeSoFar, whole_none, whole_more, whole_judged, whole_source, whole_open}

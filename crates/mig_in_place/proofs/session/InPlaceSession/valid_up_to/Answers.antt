@@ -2,12 +2,13 @@ use Rattle.std.proofs.Common.{ℕ, ◌≡◌, ◌<◌, ◌∙◌, true, false, l
 use Rattle.std.specs.Prelude.{slice_get}
 use Rattle.std.proofs.lemmas.List.{length-map}
 use Rattle.std.proofs.lemmas.Option.{slice_get_read}
-use Rattle.mig_single_load.specs.Settings.{main_of, channel_of, for_table}
-use Rattle.mig_single_load.specs.declared.settings.LoadSettings.{LoadSettings}
+use Rattle.mig_load_types.specs.Settings.{main_of, channel_of, for_table}
+use Rattle.mig_load_types.specs.declared.settings.LoadSettings.{LoadSettings}
 use Rattle.mig_answer.specs.Texts.{no_text}
-use Rattle.mig_session.specs.declared.source.Source.{Source}
-use Rattle.mig_session.specs.declared.source.Source.TheVariants as source
-use Rattle.mig_session.specs.Session.{HasSource, IsSourceValidUpTo}
+use Rattle.mig_sources.specs.declared.source.Source.{Source}
+use Rattle.mig_sources.specs.declared.source.Source.TheVariants as source
+use Rattle.mig_sources.specs.Sources.{HasSource}
+use Rattle.mig_sources.specs.Faults.{IsSourceValidUpTo}
 use Rattle.mig_in_place.specs.Sources.{KeptChannel, channel_count, counts_of}
 use Rattle.mig_in_place.specs.Session.{InPlaceLoad, Loading, HaveTaken}
 use Rattle.mig_in_place.proofs.Places.{given_at}

@@ -1,7 +1,7 @@
 use Rattle.std.proofs.Common.{ℕ, ◌≡◌, ◌-◌, List, length, take, drop, sym, ap, ◌∙◌, arith}
 use Rattle.mig_stream.specs.Reading.{Settings}
 use Rattle.mig_stream.specs.Reader.{IsClosedAt}
-use Rattle.mig_single_load.specs.Settings.{main_of, for_table}
+use Rattle.mig_load_types.specs.Settings.{main_of, for_table}
 use Rattle.mig_in_place.specs.Turns.{KeptSource}
 use Rattle.mig_in_place.proofs.Behind.{behind_before, as_long, some_behind}
 use Rattle.mig_in_place.proofs.source_reader.SourceReader.unread.Goals as goal

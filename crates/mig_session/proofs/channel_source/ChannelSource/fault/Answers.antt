@@ -3,7 +3,7 @@ use Rattle.mig_packet.specs.Reading.{Settings}
 use Rattle.mig_answer.specs.Status.{fault_of}
 use Rattle.mig_answer.specs.Texts.{Text}
 use Rattle.mig_session.specs.Sources.{FedChannel, HoldsChannel, channel_so_far, with_one}
-use Rattle.mig_session.specs.Session.{HasChannelFault}
+use Rattle.mig_sources.specs.Faults.{HasChannelFault}
 use Rattle.mig_session.proofs.channel_source.ChannelSource.fault.Goals as goal
 
 pub returns : goal.returns

@@ -3,7 +3,7 @@ use Rattle.mig_stream.specs.Reading.{Settings}
 use Rattle.mig_answer.specs.Status.{fault_of}
 use Rattle.mig_answer.specs.Texts.{Text}
 use Rattle.mig_session.specs.Sources.{FedMain, HoldsMain, main_so_far, with_one}
-use Rattle.mig_session.specs.Session.{HasMainFault}
+use Rattle.mig_sources.specs.Faults.{HasMainFault}
 use Rattle.mig_session.proofs.main_source.MainSource.fault.Goals as goal
 
 pub returns : goal.returns

@@ -1,6 +1,6 @@
 use Rattle.std.proofs.Common.{◌≡◌, ◌∙◌, ℕ, Option, Some, None, ap, subst, sym}
 use Rattle.mig_stream.specs.Reader.{HasClosedAt}
-use Rattle.mig_single_load.specs.Settings.{main_of}
+use Rattle.mig_load_types.specs.Settings.{main_of}
 use Rattle.mig_session.specs.Session.{LoadSession}
 use Rattle.mig_session.proofs.Sessions.{as_read, closed_still, places_read, no_places_read}
 use Rattle.mig_session.proofs.session.Session.closed_at.Goals as goal

@@ -1,7 +1,8 @@
 use Rattle.std.proofs.Common.{◌≡◌, ◌∙◌, Option, Some, None, ap, subst, sym}
 use Rattle.std.specs.Prelude.{IfSome}
-use Rattle.mig_session.specs.Sources.{Counts, FedSources, counts_of}
-use Rattle.mig_session.specs.Session.{LoadSession, end_step, with_end, StandsFor, LacksMemory}
+use Rattle.mig_session.specs.Sources.{FedSources, counts_of}
+use Rattle.mig_sources.specs.Sources.{Counts, end_step, with_end}
+use Rattle.mig_session.specs.Session.{LoadSession, StandsFor, LacksMemory}
 use Rattle.mig_session.proofs.Sessions.{Keeps, end_counts, end_lacks, end_steps, is_session_still}
 use Rattle.mig_session.proofs.session.Session.end.Goals as goal
 

@@ -1,6 +1,7 @@
 use Rattle.std.proofs.Common.{◌≡◌, ◌∙◌, Option, Some, None, ap, subst, sym}
-use Rattle.mig_single_load.specs.declared.fault.Fault.{Fault}
-use Rattle.mig_session.specs.Session.{LoadSession, HasFault}
+use Rattle.mig_load_types.specs.declared.fault.Fault.{Fault}
+use Rattle.mig_session.specs.Session.{LoadSession}
+use Rattle.mig_sources.specs.Faults.{HasFault}
 use Rattle.mig_session.proofs.Sessions.{as_read, fault_read, no_places_read}
 use Rattle.mig_session.proofs.session.Session.fault_of.Goals as goal
 

@@ -1,7 +1,8 @@
 use Rattle.std.proofs.Common.{◌≡◌, ◌∙◌, Option, Some, None, ap, length, subst, sym}
 use Rattle.std.specs.Prelude.{IfSome}
-use Rattle.mig_session.specs.Sources.{Counts, FedSources, counts_of}
-use Rattle.mig_session.specs.Session.{LoadSession, feed_step, with_fed, StandsFor, LacksMemory}
+use Rattle.mig_session.specs.Sources.{FedSources, counts_of}
+use Rattle.mig_sources.specs.Sources.{Counts, feed_step, with_fed}
+use Rattle.mig_session.specs.Session.{LoadSession, StandsFor, LacksMemory}
 use Rattle.mig_session.specs.Advancing.{failed_without_memory}
 use Rattle.mig_answer.specs.declared.verdict.Verdict.{Verdict}
 use Rattle.mig_session.proofs.Sessions.{Keeps, feeding_of, feed_steps, feed_runs_out, feed_counts, feed_lacks, is_session_still, has_source_of, open_of}

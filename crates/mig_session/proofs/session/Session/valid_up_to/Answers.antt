@@ -1,5 +1,6 @@
 use Rattle.std.proofs.Common.{◌≡◌, ◌∙◌, ℕ, Option, Some, None, ap, subst, sym}
-use Rattle.mig_session.specs.Session.{LoadSession, IsSourceValidUpTo}
+use Rattle.mig_session.specs.Session.{LoadSession}
+use Rattle.mig_sources.specs.Faults.{IsSourceValidUpTo}
 use Rattle.mig_session.proofs.Sessions.{as_read, source_read, no_places_read}
 use Rattle.mig_session.proofs.session.Session.valid_up_to.Goals as goal
 

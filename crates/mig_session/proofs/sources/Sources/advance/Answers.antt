@@ -1,5 +1,5 @@
 use Rattle.std.proofs.Common.{ℕ, ◌∙◌, List, map, ◌+◌, ap, subst, sym, arith}
-use Rattle.mig_session.specs.declared.counts.Count.{Count}
+use Rattle.mig_sources.specs.declared.counts.Count.{Count}
 use Rattle.mig_session.specs.Sources.{FedSources, counts_of, main_count, channel_count, Holds, HaveRound, main_waiting}
 use Rattle.mig_session.proofs.KeptSources.{holds_next, waits_one}
 use Rattle.mig_session.proofs.sources.Sources.advance.Goals as goal

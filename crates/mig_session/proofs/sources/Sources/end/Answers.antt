@@ -1,12 +1,13 @@
 use Rattle.std.proofs.Common.{ℕ, ◌≡◌, ◌∙◌, true, List, length, ap, subst, sym, get_or, slice_get, slice_set, Some}
-use Rattle.mig_single_load.specs.Settings.{main_of, channel_of}
-use Rattle.mig_session.specs.declared.counts.Count.{Count}
-use Rattle.mig_session.specs.declared.source.Source.{Source}
-use Rattle.mig_session.specs.declared.source.Source.TheVariants as source
+use Rattle.mig_load_types.specs.Settings.{main_of, channel_of}
+use Rattle.mig_sources.specs.declared.counts.Count.{Count}
+use Rattle.mig_sources.specs.declared.source.Source.{Source}
+use Rattle.mig_sources.specs.declared.source.Source.TheVariants as source
 use Rattle.mig_answer.specs.Texts.{no_text, over}
 use Rattle.mig_session.specs.Sources.{FedChannel, FedSources, counts_of, main_count, Holds, HoldsChannel}
-use Rattle.mig_session.specs.Session.{end_step, with_end, HasSource}
-use Rattle.mig_session.proofs.KeptSources.{main_steps, channel_steps, channel_counts_step, zip_at, there_of}
+use Rattle.mig_sources.specs.Sources.{end_step, with_end, HasSource}
+use Rattle.mig_session.proofs.KeptSources.{main_steps, channel_steps, channel_counts_step, there_of}
+use Rattle.mig_sources.proofs.Zips.{zip_at}
 use Rattle.mig_session.proofs.sources.Sources.end.Goals as goal
 
 pub returns-in-Main-clause-holds : goal.returns-in-Main-clause-holds

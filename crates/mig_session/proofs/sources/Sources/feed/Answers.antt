@@ -1,12 +1,13 @@
 use Rattle.std.proofs.Common.{ℕ, ◌≡◌, ◌∙◌, ◌+◌, Bool, List, length, ap, subst, sym, get_or, slice_get, slice_set, Some}
-use Rattle.mig_single_load.specs.Settings.{main_of, channel_of}
-use Rattle.mig_session.specs.declared.counts.Count.{Count}
-use Rattle.mig_session.specs.declared.source.Source.{Source}
-use Rattle.mig_session.specs.declared.source.Source.TheVariants as source
+use Rattle.mig_load_types.specs.Settings.{main_of, channel_of}
+use Rattle.mig_sources.specs.declared.counts.Count.{Count}
+use Rattle.mig_sources.specs.declared.source.Source.{Source}
+use Rattle.mig_sources.specs.declared.source.Source.TheVariants as source
 use Rattle.mig_answer.specs.Texts.{no_text, with_piece}
 use Rattle.mig_session.specs.Sources.{FedChannel, FedSources, counts_of, channel_count, main_count, Holds, HoldsChannel}
-use Rattle.mig_session.specs.Session.{feed_step, with_fed, HasSource}
-use Rattle.mig_session.proofs.KeptSources.{main_steps, channel_steps, channel_counts_step, zip_at, there_of, on_ok}
+use Rattle.mig_sources.specs.Sources.{feed_step, with_fed, HasSource}
+use Rattle.mig_session.proofs.KeptSources.{main_steps, channel_steps, channel_counts_step, there_of, on_ok}
+use Rattle.mig_sources.proofs.Zips.{zip_at}
 use Rattle.mig_session.proofs.sources.Sources.feed.Goals as goal
 
 pub returns-in-Main-clause-ok : goal.returns-in-Main-clause-ok

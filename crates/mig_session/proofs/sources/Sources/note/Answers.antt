@@ -1,10 +1,11 @@
 use Rattle.std.proofs.Common.{ℕ, ◌≡◌, List, length, subst, sym, get_or, slice_get, Some, slice_set}
-use Rattle.mig_single_load.specs.Settings.{main_of, channel_of}
-use Rattle.mig_session.specs.declared.source.Source.{Source}
-use Rattle.mig_session.specs.declared.source.Source.TheVariants as source
+use Rattle.mig_load_types.specs.Settings.{main_of, channel_of}
+use Rattle.mig_sources.specs.declared.source.Source.{Source}
+use Rattle.mig_sources.specs.declared.source.Source.TheVariants as source
 use Rattle.mig_answer.specs.Texts.{no_text}
 use Rattle.mig_session.specs.Sources.{Places, FedChannel, FedSources, counts_of, Holds}
-use Rattle.mig_session.specs.Session.{at_source, HasPlaces, HasSource}
+use Rattle.mig_session.specs.Session.{HasPlaces}
+use Rattle.mig_sources.specs.Sources.{at_source, HasSource}
 use Rattle.mig_session.proofs.KeptSources.{main_noted, channel_noted, channel_stands, there_of}
 use Rattle.mig_session.proofs.sources.Sources.note.Goals as goal
 

@@ -1,6 +1,6 @@
 use Rattle.std.proofs.Common.{false, refl, subst, sym, ap, ◌∙◌}
 use Rattle.std.specs.Prelude.{Err}
-use Rattle.mig_single_load.specs.declared.fault.InPlaceFault.{InPlaceFault}
+use Rattle.mig_load_types.specs.declared.fault.InPlaceFault.{InPlaceFault}
 use Rattle.mig_single_load.specs.LoadInPlace.{InPlace, LoadsOnto, LacksOnto}
 use Rattle.mig_single_load.proofs.Feeding.{not_err}
 use Rattle.mig_single_load.proofs.in_place.InPlaceLoader.feed.Goals as goal

@@ -4,7 +4,7 @@ use Rattle.std.specs.Prelude.{Option, IfSome}
 use Rattle.mig_mem.specs.RamTable.{RamTable}
 use Rattle.mig_mem.specs.Image.{Image}
 use Rattle.mig_stream.specs.Giving.{Paused}
-use Rattle.mig_single_load.specs.declared.settings.LoadSettings.{LoadSettings}
+use Rattle.mig_load_types.specs.declared.settings.LoadSettings.{LoadSettings}
 use Rattle.mig_single_load.specs.declared.in_place_state.LoadState.TheVariants as load_state
 use Rattle.mig_single_load.specs.LoadInPlace.{LoadInPlace, load_in_place, LoadsInPlace, StandsOnto, PausesOnto, NamesAt, PausesSome, LacksMemory, HasSomeOnto}
 use Rattle.mig_single_load.proofs.LoadsInPlace.{some_each, in_place_on, in_place_past, settled_ends, other_ends, lacks_now, lacks_more}

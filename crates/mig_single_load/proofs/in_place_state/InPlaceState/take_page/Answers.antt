@@ -10,7 +10,7 @@ use Rattle.mig_stream.specs.declared.item.StreamState.TheVariants.{Reading}
 use Rattle.mig_single_load.specs.declared.in_place_state.LoadState.TheVariants as load_state
 use Rattle.mig_stream.specs.Giving.{Paused}
 use Rattle.mig_stream.specs.Wanted.{page_due}
-use Rattle.mig_single_load.specs.declared.settings.LoadSettings.{LoadSettings}
+use Rattle.mig_load_types.specs.declared.settings.LoadSettings.{LoadSettings}
 use Rattle.mig_single_load.specs.LoadInPlace.{LoadInPlace, load_in_place, LoadsInPlace, PausesSome}
 use Rattle.mig_single_load.specs.ComesNext.{page_wanted}
 use Rattle.mig_single_load.proofs.LoadsInPlace.{gave_of}

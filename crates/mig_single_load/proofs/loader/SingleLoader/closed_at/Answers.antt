@@ -1,5 +1,5 @@
 use Rattle.std.proofs.Common.{subst, sym}
-use Rattle.mig_single_load.specs.Settings.{single_of}
+use Rattle.mig_load_types.specs.Settings.{single_of}
 use Rattle.mig_single_load.specs.Loader.{Loader, loader, put_so_far, sections_loaded, Loads}
 use Rattle.mig_single_load.proofs.loader.SingleLoader.closed_at.Goals as goal
 

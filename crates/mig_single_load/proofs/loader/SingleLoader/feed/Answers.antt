@@ -1,5 +1,5 @@
 use Rattle.std.proofs.Common.{◌++◌, ap, arith, false, subst, sym}
-use Rattle.mig_single_load.specs.Settings.{single_of}
+use Rattle.mig_load_types.specs.Settings.{single_of}
 use Rattle.mig_single_load.specs.Loader.{Loader, loader, sections_loaded, put_so_far, Loads}
 use Rattle.mig_single_load.proofs.Sections.{fed_of}
 use Rattle.mig_single_load.proofs.Feeding.{fed_longer, fed_piece, settled_some, waits_now, not_err}

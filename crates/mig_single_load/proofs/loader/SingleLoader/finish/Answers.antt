@@ -1,5 +1,5 @@
 use Rattle.std.proofs.Common.{subst, sym}
-use Rattle.mig_single_load.specs.Settings.{ram_settings}
+use Rattle.mig_load_types.specs.Settings.{ram_settings}
 use Rattle.mig_single_load.specs.Loader.{Loader, Loads, Answers}
 use Rattle.mig_stream.specs.Written.{single}
 use Rattle.mig_single_load.proofs.MachineSent.{sent_is_finished, ram_is_finished, machine_is_finished}

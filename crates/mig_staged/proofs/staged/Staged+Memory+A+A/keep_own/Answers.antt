@@ -1,6 +1,6 @@
 use Rattle.std.proofs.Common.{◌≡◌, false, sym, ap, subst, ◌∙◌}
 use Rattle.std.proofs.lemmas.List.{nil_from_length}
-use Rattle.mig_mem.specs.Image.{Image, IsImage}
+use Rattle.mig_mem.specs.Image.{IsImage}
 use Rattle.mig_mem.specs.PlaceSet.{PlaceSet}
 use Rattle.mig_staged.specs.Staged.{Staging, staged}
 use Rattle.mig_staged.proofs.Staging.{none_staged, fresh_shows}

@@ -1,4 +1,4 @@
-use Rattle.std.proofs.Common.{sym, ap, subst, ◌∙◌}
+use Rattle.std.proofs.Common.{subst}
 use Rattle.mig_mem.specs.Image.{IsImage}
 use Rattle.mig_staged.specs.Staged.{Staging, staged}
 use Rattle.mig_staged.proofs.Staging.{staged_image}

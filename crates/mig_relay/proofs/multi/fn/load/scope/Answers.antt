@@ -1,5 +1,5 @@
 use Rattle.std.proofs.Common.{sym, subst}
-use Rattle.mig_single_load.specs.declared.loaded.Loaded.{Loaded}
+use Rattle.mig_load_types.specs.declared.loaded.Loaded.{Loaded}
 use Rattle.mig_relay.specs.Multi.{AnswersRelay}
 use Rattle.mig_relay.proofs.Relaying.{refused_answers}
 use Rattle.mig_relay.proofs.multi.fn.load.scope.Goals as goal

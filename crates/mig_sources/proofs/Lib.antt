@@ -1,0 +1,4 @@
+pub mod Zips
+pub mod Steps
+pub mod Due
+pub mod First

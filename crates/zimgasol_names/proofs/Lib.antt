@@ -1,2 +1,0 @@
-mod FileNames
-mod Printable

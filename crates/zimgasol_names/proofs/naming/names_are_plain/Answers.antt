@@ -1,5 +1,0 @@
-use Rattle.zimgasol_names.proofs.FileNames.{name_is_plain}
-use Rattle.zimgasol_names.proofs.naming.names_are_plain.Goals as goal
-
-pub returns : goal.returns
-returns c = name_is_plain

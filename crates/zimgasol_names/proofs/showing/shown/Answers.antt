@@ -1,6 +1,0 @@
-use Rattle.zimgasol_names.proofs.Printable.{shown_is_printable}
-use Rattle.zimgasol_names.proofs.showing.shown.Goals as goal
-
-pub returns-clause-printable : goal.returns-clause-printable
-returns-clause-printable c =
-    rw (c.in_ok-append_to.ensures.ok, c.new-text.ensures.bytes, c.percent_encode.ensures.text) (shown_is_printable c.args.bytes.now)

@@ -1,3 +1,0 @@
--- Printable ids and names, and the names of files.
-pub mod Shown
-pub mod Naming
