@@ -25,7 +25,7 @@ from crates import CRATES, TOP, uses
 from rattle_source import WORD
 
 # The crates of crates.txt that are no part of the product.
-BESIDE = """mig_fixtures mig_cases mig_rows mig_uses mig_bench mig_low_tests mig_deal_tests mig_tests mig_load_tests mig_session_tests
+BESIDE = """mig_fixtures mig_cases mig_rows mig_uses mig_bench mig_mem_tests mig_send_tests mig_stream_tests mig_relay_tests mig_session_tests
     mig_in_place_tests mig_tool_tests""".split()
 PAGES = TOP / "docs" / "contracts"
 INDEX = TOP / "docs" / "CONTRACTS.md"

@@ -1,16 +1,15 @@
 -- The rows of marks that bitmaps give.
-use Rattle.std.proofs.Common.{ℕ, ◌≡◌, ◌≢◌, ◌<◌, ◌≤◌, ◌+◌, ◌-◌, ◌*◌, ◌/◌, ◌%◌, ◌^◌, ◌==◌, List, [], ◌∷◌, ◌++◌, length, take, get_or, set, refl, sym, ap, ◌∙◌, inl, inr, arith, Bool, true, false, get_or-set_same, get_or-set_other}
+use Rattle.std.proofs.Common.{ℕ, ◌≡◌, ◌≢◌, ◌<◌, ◌≤◌, ◌+◌, ◌-◌, ◌*◌, ◌/◌, ◌%◌, ◌^◌, List, [], ◌∷◌, ◌++◌, length, take, get_or, set, refl, sym, ap, ◌∙◌, inl, inr, arith, Bool, true, false, get_or-set_same, get_or-set_other}
 use Rattle.std.specs.Prelude.{bit_and, ◌&&◌, nat_lt}
 use Rattle.std.specs.Int.{bit_at}
 use Rattle.std.specs.declared.vec.Vec.{Vec}
 use Rattle.std.proofs.Math.Pow.{pow-lt}
 use Rattle.std.proofs.Math.Nat.{mod-eq_of_lt}
-use Rattle.std.proofs.lemmas.Bool.{cases_Bool, cases_eq, cases_lt, lt-ltb, le-ltb, ne_eqb}
+use Rattle.std.proofs.lemmas.Bool.{cases_eq, cases_lt, lt-ltb, le-ltb, ne_eqb}
 use Rattle.std.proofs.lemmas.List.{get_or_push, get_or_append_left, length_push, length-take-le, get_or-take}
 use Rattle.std.proofs.lemmas.Nat.Bits.{bit_at_and, bit_at-lt, bit_at_ones, bit_at_ones_above}
 use Rattle.mig_mem.specs.RamTable.{RamTable, block, IsTable}
 use Rattle.mig_mem.specs.declared.place.Place.{Place}
-use Rattle.mig_mem.specs.PlaceSet.{places_where}
 use Rattle.mig_mem.specs.Buffers.{buffers_of}
 use Rattle.mig_mem.specs.Marks.{is_set, is_marked, set_in, AreMarks}
 use Rattle.mig_mem.specs.Bitmaps.{has_bit, in_bitmaps, bitmap_of, bitmap_set, IsRowOf}

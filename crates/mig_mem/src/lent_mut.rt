@@ -26,7 +26,7 @@ use std::thread::Threads;
 ///
 /// The pages of a round are written into blocks, by up to `threads` threads:
 ///
-/// <!-- quoted from crates/mig_low_tests/src/threaded.rt -->
+/// <!-- quoted from crates/mig_mem_tests/src/threaded.rt -->
 /// ```rust
 /// let mut memory = LentMemoryMut::new(table, blocks)
 ///     .ok()

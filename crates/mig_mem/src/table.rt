@@ -45,7 +45,7 @@ struct Entry {
 ///
 /// A table of two blocks, of one page and of two:
 ///
-/// <!-- quoted from crates/mig_tests/src/lent.rt -->
+/// <!-- quoted from crates/mig_stream_tests/src/lent.rt -->
 /// ```rust
 /// let first = Vec::from_slice(alloc, b"a").ok()?;
 /// let second = Vec::from_slice(alloc, b"b").ok()?;

@@ -25,7 +25,7 @@ use std::marker::Model;
 ///
 /// A round of all pages is sent, and the stream ended:
 ///
-/// <!-- quoted from crates/mig_tests/src/lent.rt -->
+/// <!-- quoted from crates/mig_stream_tests/src/lent.rt -->
 /// ```rust
 /// let mut sender = SingleSender::new(alloc, &table).ok()?;
 /// sender.round(&lent, &all(alloc, &table)?).ok()?;

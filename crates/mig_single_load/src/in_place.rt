@@ -31,7 +31,7 @@ use std::marker::Model;
 ///
 /// A guest is loaded into a memory. `send` feeds what a sender drains:
 ///
-/// <!-- quoted from crates/mig_tests/src/in_place.rt -->
+/// <!-- quoted from crates/mig_stream_tests/src/in_place.rt -->
 /// ```rust
 /// let settings = LoadSettings::new(memory.table().page_size(), MAX_TOTAL);
 /// let mut loader = InPlaceLoader::new(alloc, settings, memory).ok()?;

@@ -57,7 +57,7 @@ pub(crate) enum LoadState {
 /// A stream is fed in pieces of `len` bytes. After each piece the memory has the page records so
 /// far. `feed` tests what the contract of `InPlaceState::feed` requires:
 ///
-/// <!-- quoted from crates/mig_load_tests/src/in_place.rt -->
+/// <!-- quoted from crates/mig_relay_tests/src/in_place.rt -->
 /// ```rust
 /// let settings = LoadSettings::new(4096, LIMIT);
 /// let mut state = InPlaceState::new(rt.alloc(), settings, memory.table()).expect(rt, "a load");

@@ -50,7 +50,7 @@ const CLOSING: [u8; 19] = [
 ///
 /// A stream with one round is written. The contract of `part` requires that the tables are equal:
 ///
-/// <!-- quoted from crates/mig_low_tests/src/rounds.rt -->
+/// <!-- quoted from crates/mig_mem_tests/src/rounds.rt -->
 /// ```rust
 /// let mut writer = StreamWriter::new(rt.alloc(), image.table()).expect(rt, "a writer");
 /// assert!(rt; image.table().same(writer.table()));

@@ -83,7 +83,7 @@
 //! Take a `LentMemory` to send a guest from blocks that are mapped: one slice for each block, in
 //! the table's order. Nobody may write these bytes while they are lent. Here `all` marks each page:
 //!
-//! <!-- quoted from crates/mig_tests/src/lent.rt -->
+//! <!-- quoted from crates/mig_stream_tests/src/lent.rt -->
 //! ```rust
 //! let table = table(alloc)?;
 //! let lent = LentMemory::new(&table, blocks)?;
@@ -193,7 +193,7 @@
 //! calls `begin_round`, `worker`, `give_back` and `end_round`, each after the tests that it asks
 //! for. `run_both` steps two workers, each on a thread, until they have ended:
 //!
-//! <!-- quoted from crates/mig_deal_tests/src/stepped.rt -->
+//! <!-- quoted from crates/mig_send_tests/src/stepped.rt -->
 //! ```rust
 //! assert!(rt; given.memory.table().same(sender.table()));
 //! let mut round = begin(rt, sender, &given.dirty);
@@ -254,7 +254,7 @@
 //!
 //! An `InPlaceState` does so to memory that is passed to each call:
 //!
-//! <!-- quoted from crates/mig_load_tests/src/in_place.rt -->
+//! <!-- quoted from crates/mig_relay_tests/src/in_place.rt -->
 //! ```rust
 //! assert!(rt; !state.ended() && state.fed() <= LIMIT && piece.len() as u64 <= LIMIT);
 //! state.feed(memory, piece)
@@ -263,7 +263,7 @@
 //! Before each read of a socket it says what comes next, so that a page is read straight to where
 //! it belongs (`docs/EMBEDDING.md`, "Copies of a page"):
 //!
-//! <!-- quoted from crates/mig_tests/src/wanted_in_place.rt -->
+//! <!-- quoted from crates/mig_stream_tests/src/wanted_in_place.rt -->
 //! ```rust
 //! let Some(Wanted::Page(place)) = state.wanted() else {
 //!     return false;

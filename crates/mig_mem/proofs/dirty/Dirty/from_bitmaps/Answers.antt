@@ -4,7 +4,7 @@ use Rattle.std.specs.Borrow.{Bor}
 use Rattle.std.proofs.lemmas.List.{map_push, get_or-map, length-map}
 use Rattle.mig_mem.specs.RamTable.{RamTable, block}
 use Rattle.mig_mem.specs.Buffers.{buffers_of}
-use Rattle.mig_mem.specs.Bitmaps.{IsRowOf, bitmap_of, bitmap_set, lent_words}
+use Rattle.mig_mem.specs.Bitmaps.{IsRowOf, bitmap_of, lent_words}
 use Rattle.mig_mem.specs.Marks.{set_in, AreMarks}
 use Rattle.mig_mem.proofs.BitmapRows.{AreRowsOf, one_row_more, rows_are_marks, rows_make_set}
 use Rattle.mig_mem.proofs.dirty.Dirty.from_bitmaps.Goals as goal
