@@ -55,7 +55,8 @@ main_kept k before now stays settled = elim (at_round k (length before.rounds) (
   | inr end ↦ ap (main_status k) (stays.same_once_over (stream_over before.state end.1))
 ]
 
-channel_kept : (k : ℕ) (before now : channel.ChannelReading) → ChannelStays before now
+-- so does a channel's
+pub channel_kept : (k : ℕ) (before now : channel.ChannelReading) → ChannelStays before now
     → is_pending (channel_status k before) ≡ false → channel_status k now ≡ channel_status k before
 channel_kept k before now stays settled = elim (at_round k (length before.rounds) (channel_end before.state) settled) [
   | inl lt ↦

@@ -55,7 +55,7 @@ given_counted given (text ∷ texts) (c ∷ channels) taken =
     ap (λ (x : Count). x ∷ map channel_count channels) here ∙ ap (λ (l : List Count). count_in text ∷ l) (given_counted given texts channels taken.1)
 
 -- the counts of a load's readers are those of the streams that it took
-taken_counts : (given : LoadSettings) (uuid : List ℕ) (texts : Texts) (s : KeptSources) → HaveTaken given uuid texts s → counts_of s ≡ counts_in texts
+pub taken_counts : (given : LoadSettings) (uuid : List ℕ) (texts : Texts) (s : KeptSources) → HaveTaken given uuid texts s → counts_of s ≡ counts_in texts
 taken_counts given uuid texts s taken =
     let m : main_count s.main ≡ count_in texts.main =
     ap (λ (n : ℕ). record { fed = n; ended = s.main.reader.ended }) taken.main.has_fed
@@ -65,7 +65,7 @@ taken_counts given uuid texts s taken =
     (given_counted (channel_of given uuid (length texts.channels)) texts.channels s.channels taken.channels)
 
 -- the streams of a load go on with bytes of a source that exists and hasn't ended
-fed_goes : (f : Loading) (memory : Image) (s : InPlaceLoad) (from : Source) (piece : List ℕ) → Stands f memory s
+pub fed_goes : (f : Loading) (memory : Image) (s : InPlaceLoad) (from : Source) (piece : List ℕ) → Stands f memory s
     → HasSource (counts_of s.sources) from → IsFalse (count_of (counts_of s.sources) from).ended → GoOn f.texts (feed_step from piece f.texts)
 fed_goes f memory s from piece stands there open_ =
     let same : counts_of s.sources ≡ counts_in f.texts = taken_counts (for_table f.first.table f.given) f.uuid f.texts s.sources stands.have_taken in

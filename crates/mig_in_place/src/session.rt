@@ -30,6 +30,7 @@ ghost use Rattle.mig_packet.specs.Packet.{normal_count};
 ghost use Rattle.mig_in_place.specs.TakenPackets.{packet_bytes, pages_taken};
 ghost use Rattle.mig_in_place.specs.Apart.{TakesApart};
 ghost use Rattle.mig_assemble.specs.HeadPlaces.{LieIn};
+ghost use Rattle.mig_assemble.specs.NamedPlaces.{left_out};
 ghost use Rattle.mig_in_place.specs.Round.{KeepsSome};
 ghost use Rattle.mig_in_place.specs.Sources.{counts_of, main_count, channel_count, at_next_round, StandsAt, HoldsChannel, TellsChannelStatus, TellsHello, HasTakenRecords};
 ghost use Rattle.mig_in_place.specs.Session.{TakesBytes, StandsFor, LacksMemory, StepsOn, StillLacks, RunsOut, Tells, HasAllRounds, MoreMayCome, HaveTaken, Loading, Loads, Stands, IsDue, TellsVerdict, PassesAt, IsUnsettled, Lacks, LacksBehind, with_bytes, with_over, TakesNoMore, IsOpenAt, IsMainOf, IsJudged, HasNextRound, JudgesOn};
@@ -713,6 +714,7 @@ impl<A: Allocator> InPlaceSession<A> {
         ensures settled { self.old.verdict ≢ running → (self.new.verdict ≡ self.old.verdict) × (self.new.rounds ≡ self.old.rounds) }
         ensures counts { counts_of self.new.sources ≡ with_end (counts_of self.old.sources) source }
         ensures table { self.new.table ≡ self.old.table }
+        ensures others { self.new ≡ record self.old { sources = self.new.sources; verdict = self.new.verdict } }
     {
         self.end_source(source);
         if self.verdict == Verdict::Running {
@@ -903,7 +905,8 @@ impl<A: Allocator> InPlaceSession<A> {
     /// also 0 or more while the load runs, and nothing is promised of it after a refused
     /// allocation.
     pub fn missing(&self) -> u64
-        ensures { (memory : Image) → Tells memory self.now (λ given uuid first texts. HasMissing (for_table first.table given) uuid first texts self.now.rounds result) }
+        ensures told { (memory : Image) → Tells memory self.now (λ given uuid first texts. HasMissing (for_table first.table given) uuid first texts self.now.rounds result) }
+        ensures value { result ≡ left_out self.now.named.table self.now.named.marked }
     {
         lacking(&self.named)
     }
@@ -937,7 +940,8 @@ impl<A: Allocator> InPlaceSession<A> {
 
     /// Returns how many rounds were judged lawful. The memory has all of them.
     pub fn rounds(&self) -> u64
-        ensures { result ≡ self.now.rounds }
+        ensures value { result ≡ self.now.rounds }
+        ensures few { result ≤ 2 ^ 63 }
     {
         self.rounds
     }

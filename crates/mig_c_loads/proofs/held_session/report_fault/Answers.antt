@@ -10,7 +10,7 @@ returns c = record {
     c.fault_of.result,
     c.fault_of.ensures.stands memory given uuid first texts stands,
     c.of_source-fault.ensures
-        ∙ ap (λ (n : ℕ). seen_of_source n c.args.source c.fault_of.result) c.rounds.ensures,
+        ∙ ap (λ (n : ℕ). seen_of_source n c.args.source c.fault_of.result) c.rounds.ensures.value,
   );
   lacking = λ memory given uuid first texts lacks _.
       let none : c.fault_of.result ≡ None = c.fault_of.ensures.lacking memory given uuid first texts lacks in
