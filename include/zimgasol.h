@@ -302,12 +302,12 @@ ZIMGASOL_ASSERT(sizeof(zimgasol_round_end) == sizeof(uint32_t), "an enum has the
  *  - `waiting`: the most page records of one section of a single stream, or of one round of a main
  *    stream. One more is the fault STREAM_WAITING. Each channel may have as many packets and pages
  *    together in a round; one more is CHANNEL_WAITING. 0 sets no limit. A loader keeps the pages of
- *    a section until its footer has come, and a session the packets of a round, so this bounds what
- *    they keep of an open section or round: some `waiting` pages, and 48 bytes for each. It doesn't
- *    bound the complete rounds that a session keeps until the other sources have them, nor the
- *    sections that one piece completes. So pieces are short, and a sender whose `_fed` rises far
- *    without `_rounds` is given up. Each load tests `waiting`, so that all have one result.
- *    2 * pages + 1 suffices if each page is sent at most once in a section or round.
+ *    a section until its footer has come, and a session the pages of the open round, so this
+ *    bounds what they keep of an open section or round: some `waiting` pages, and 48 bytes for
+ *    each. It doesn't bound what a session keeps behind the open round until the other sources
+ *    have that, nor the sections that one piece completes. So pieces are short, and a sender whose
+ *    `_fed` rises far without `_rounds` is given up. Each load tests `waiting`, so that all have
+ *    one result. 2 * pages + 1 suffices if each page is sent at most once in a section or round.
  *  - `zero_blocks`: any number but 0 says that the blocks of a load into the caller's own hold
  *    zeros when it begins, as a fresh mapping does. The load keeps a bit for each page that may
  *    hold something else. Any other page that comes as zeros it leaves alone: it neither reads nor

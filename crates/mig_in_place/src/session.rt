@@ -84,7 +84,6 @@ const ROUND_LIMIT: u64 = 1 << 63;
 /// };
 /// pump_by_turns(&mut sources, order, &mut load, memory, TURNS)
 /// ```
-#[derive(Drop)]
 pub struct InPlaceSession<A: Allocator = Global> {
     table: Table<A>,
     main: MainStream<A>,
@@ -125,6 +124,25 @@ impl<A: Allocator> Model for InPlaceSession<A> {
       named = s.named;
       verdict = s.verdict;
     }) (vec_capacity s.statuses) (vec_capacity s.hellos) };
+}
+
+// Written out, and not derived: a caller's proof then passes a call where a load is dropped, and not
+// each of its fields.
+impl<A: Allocator> Drop for InPlaceSession<A> {
+    fn drop(self) {
+        let InPlaceSession {
+            table: _,
+            main: _,
+            channels: _,
+            round: _,
+            statuses: _,
+            hellos: _,
+            rounds: _,
+            base: _,
+            named: _,
+            verdict: _,
+        } = self;
+    }
 }
 
 /// Prints an opaque value: it holds guest memory.

@@ -1,14 +1,14 @@
 -- The pages of a block in regions: where they lie, one that is written, and blocks of zeros.
 use Rattle.std.proofs.Common.{ℕ, ◌≡◌, ◌≢◌, ◌<◌, ◌≤◌, ◌+◌, ◌-◌, ◌*◌, ◌/◌, ◌%◌, ◌^◌, List, [], length, min, map, get_or, set, replicate, get_or-set_same, get_or-set_other, refl, sym, ap, ◌∙◌, arith, inl, inr}
 use Rattle.std.proofs.lemmas.Bool.{cases_eq}
-use Rattle.std.proofs.lemmas.List.{length-map, length-set, length-replicate, get_or-replicate, get_or_default, ext_get_or}
+use Rattle.std.proofs.lemmas.List.{length-map, length-set, length-replicate, get_or-map, get_or-replicate, get_or_default, ext_get_or}
 use Rattle.std.proofs.lemmas.List.Elements.{All-set}
 use Rattle.std.proofs.lemmas.List.FromFn.{length-range_with_len, get_or-map-range_with_len, length-map-range_with_len}
 use Rattle.std.proofs.lemmas.Nat.{div-add-mod'}
 use Rattle.std.specs.List.{range_with_len}
 use Rattle.mig_mem.specs.PageSize.{IsPageSize}
 use Rattle.mig_mem.specs.Image.{zero_page}
-use Rattle.mig_mem.specs.BlockPages.{BlockPages, no_pages, page_at, with_content}
+use Rattle.mig_mem.specs.BlockPages.{BlockPages, no_pages, page_at, with_content, cleared}
 use Rattle.mig_mem.specs.Regions.{region_of, IsRegion, AreRegions, in_regions, zero_region}
 use Rattle.mig_mem.proofs.PageSizes.{page_of_offset}
 
@@ -212,3 +212,47 @@ zeros_in_regions per size count n rs made some enough =
     ∙ get_or-replicate (min (count - k / per * per) per) (k % per) (zero_page size) [] (zero_inside per count k some lt)
     ∙ sym (get_or-replicate count k (zero_page size) [] lt)) in
     rw made (ap (λ (l : List (List ℕ)). record { size = size; pages = l }) pages)
+
+-- ---- all pages are set to zeros
+
+cleared_at : (rs : List BlockPages) (i : ℕ) → i < length rs → region_of (map cleared rs) i ≡ cleared (region_of rs i)
+cleared_at rs i lt = get_or-map cleared rs i no_pages no_pages lt
+
+-- regions stay regions of the block if all their pages are set to zeros
+pub cleared_are : (per size count : ℕ) (rs : List BlockPages) → AreRegions per size count rs → AreRegions per size count (map cleared rs)
+cleared_are per size count rs are =
+    let long : length (map cleared rs) ≡ length rs = length-map rs cleared in
+    record {
+      is_some = are.is_some;
+      has_room = rw long are.has_room;
+      are_each = λ i d lt.
+          let low : i < length rs = omega (arith, long, lt) in
+          let x : BlockPages = region_of rs i in
+          let was : IsRegion per size x = are.are_each i no_pages low in
+          let is : get_or (map cleared rs) i d ≡ cleared x = get_or-map cleared rs i no_pages d low in
+          rw is (record { same_size = was.same_size; at_most = rw (length-replicate (length x.pages) (zero_page x.size)) was.at_most });
+      has_regions = λ k lt. rw long (are.has_regions k lt);
+      has_pages = λ k lt.
+          let x : BlockPages = region_of rs (k / per) in
+          rw (cleared_at rs (k / per) (are.has_regions k lt), length-replicate (length x.pages) (zero_page x.size)) (are.has_pages k lt);
+    }
+
+-- and the block has zeros in all its pages
+pub cleared_is : (per size count : ℕ) (rs : List BlockPages) → AreRegions per size count rs
+    → in_regions per size count (map cleared rs) ≡ cleared (in_regions per size count rs)
+unfolding in_regions
+cleared_is per size count rs are =
+    let old : List (List ℕ) = map (placed per rs) (range_with_len 0 count) in
+    let now : List (List ℕ) = map (placed per (map cleared rs)) (range_with_len 0 count) in
+    let many : length now ≡ count = length-map-range_with_len (placed per (map cleared rs)) 0 count in
+    let was : length old ≡ count = length-map-range_with_len (placed per rs) 0 count in
+    ap (λ (l : List (List ℕ)). record { size = size; pages = l })
+    (ext_get_or [] now (replicate (length old) (zero_page size)) (many ∙ sym was ∙ sym (length-replicate (length old) (zero_page size))) (λ k lk.
+    let lt : k < count = omega (arith, many, lk) in
+    let there : k / per < length rs = are.has_regions k lt in
+    let x : BlockPages = region_of rs (k / per) in
+    get_or-map-range_with_len (placed per (map cleared rs)) 0 count k k [] lt (omega arith)
+    ∙ ap (λ (b : BlockPages). page_at b (k % per)) (cleared_at rs (k / per) there)
+    ∙ get_or-replicate (length x.pages) (k % per) (zero_page x.size) [] (are.has_pages k lt)
+    ∙ ap (λ (s : ℕ). zero_page s) (are.are_each (k / per) no_pages there).same_size
+    ∙ sym (get_or-replicate (length old) k (zero_page size) [] (omega (arith, was, lt)))))

@@ -1,6 +1,6 @@
 -- What the blocks of a memory hold.
 use Rattle.std.proofs.Common.{ℕ, ◌≡◌, ◌<◌, List, [], inl, inr, get_or-set_same, get_or-set_other, length, map, get_or, set, replicate, refl, sym, ap, subst, ◌∙◌, arith}
-use Rattle.std.proofs.lemmas.List.{get_or_default, get_or-replicate, length-replicate}
+use Rattle.std.proofs.lemmas.List.{ext_get_or, get_or-map, get_or_default, get_or-replicate, length-map, length-replicate}
 use Rattle.std.proofs.lemmas.List.Elements.{All-from_get_or}
 use Rattle.std.specs.List.{range_with_len}
 use Rattle.std.proofs.lemmas.List.FromFn.{get_or-map-range_with_len, length-map-range_with_len}
@@ -9,7 +9,7 @@ use Rattle.mig_mem.specs.declared.place.Place.{Place}
 use Rattle.mig_mem.specs.RamTable.{RamTable, block, IsTable}
 use Rattle.mig_mem.specs.Place.{IsPlace}
 use Rattle.mig_mem.specs.Image.{IsImage, zero_image, zero_page, content_at, with_page}
-use Rattle.mig_mem.specs.BlockPages.{BlockPages, page_at, with_content}
+use Rattle.mig_mem.specs.BlockPages.{BlockPages, no_pages, page_at, with_content, cleared}
 use Rattle.mig_mem.specs.Buffers.{pages_of_block, held_at, HasPages, IsHeld, image_in}
 use Rattle.mig_mem.proofs.Images.{with_page-image_of, image_agree, image_from, content_at-image_of}
 use Rattle.mig_mem.proofs.PlaceOrder.{same_place}
@@ -111,3 +111,19 @@ pub zeros_image : (table : RamTable) (blocks : List BlockPages)
 zeros_image table blocks e = image_agree table (held_at blocks) (λ _. zero_page table.page_size) (λ p is.
     ap (λ (b : BlockPages). page_at b p.page) (zero_block_at table blocks p.block e is.has_block)
     ∙ get_or-replicate (block table.blocks p.block).pages p.page (zero_page table.page_size) [] is.has_page)
+
+-- blocks whose pages are all set to zeros are blocks of zeros
+pub cleared_blocks : (table : RamTable) (blocks : List BlockPages) → IsHeld table blocks
+    → map cleared blocks ≡ map (zero_block table) (range_with_len 0 (length table.blocks))
+cleared_blocks table blocks held =
+    let n : ℕ = length table.blocks in
+    let many : length (map cleared blocks) ≡ n = length-map blocks cleared ∙ held.same_count in
+    ext_get_or no_pages (map cleared blocks) (map (zero_block table) (range_with_len 0 n))
+    (many ∙ sym (length-map-range_with_len (zero_block table) 0 n)) (λ i li.
+    let lt : i < n = omega (arith, many, li) in
+    let b : BlockPages = pages_of_block blocks i in
+    let pages = held.has_pages i lt in
+    get_or-map cleared blocks i no_pages no_pages (omega (arith, held.same_count, lt))
+    ∙ ap (λ (s : ℕ). record { size = s; pages = replicate (length b.pages) (zero_page s) }) pages.same_size
+    ∙ ap (λ (m : ℕ). record { size = table.page_size; pages = replicate m (zero_page table.page_size) }) pages.same_count
+    ∙ sym (get_or-map-range_with_len (zero_block table) 0 n i i no_pages lt (omega arith)))

@@ -1,10 +1,11 @@
 -- Lemmas on lists and tests that std lacks, for all crates above.
-use Rattle.std.proofs.Common.{ℕ, ◌≡◌, ◌<◌, ◌≤◌, ◌+◌, List, [], ◌∷◌, length, get_or, map, refl, sym, ap, ◌∙◌, inl, inr, arith, zero, suc, Option, Some, None, Bool, true, false, cond}
+use Rattle.std.proofs.Common.{ℕ, ◌≡◌, ◌<◌, ◌≤◌, ◌+◌, ◌++◌, List, [], ◌∷◌, length, get_or, map, take, drop, refl, sym, ap, ◌∙◌, inl, inr, arith, zero, suc, Option, Some, None, Bool, true, false, cond}
 use Rattle.std.specs.Prelude.{position, nat_lt}
 use Rattle.std.specs.Bool.{then_some}
 use Rattle.std.specs.List.{range_with_len, position_or_len, list_any, AllPairs}
 use Rattle.std.specs.Option.{option_or, option_map}
 use Rattle.std.proofs.lemmas.Bool.{cond-true, cond-false, lt-ltb, le-ltb, cases_eq, or_parts}
+use Rattle.std.proofs.lemmas.List.{append-nil, take_all, drop_all}
 use Rattle.std.proofs.lemmas.List.Sums.{position_or_len_is}
 use Rattle.mig_mem.specs.First.{first_some}
 
@@ -79,3 +80,12 @@ any_false p (x ∷ xs) (suc k) d h lt = any_false p xs k d (or_parts (p x) (list
 -- what holds of each pair of a list holds of each pair of its tail
 pub pairs_tail : {X : Type 0} (R : X → X → Type 0) (x : X) (xs : List X) → AllPairs R (x ∷ xs) → AllPairs R xs
 pairs_tail R x xs all = λ i j d lt h. all (suc i) (suc j) d (omega arith) (omega arith)
+
+-- ---- a function of each element
+
+-- after a loop that puts f of each element in its place, all are put
+pub mapped_all : {X : Type 0} (f : X → X) (xs ys : List X) (i : ℕ) → length xs ≤ i → ys ≡ map f (take i xs) ++ drop i xs → ys ≡ map f xs
+mapped_all {X} f xs ys i end is = is
+    ∙ ap (λ (l : List X). map f l ++ drop i xs) (take_all i xs end)
+    ∙ ap (λ (l : List X). map f xs ++ l) (drop_all i xs end)
+    ∙ append-nil (map f xs)

@@ -160,6 +160,17 @@ impl<A: Allocator> Memory<A> {
         let size = self.table.page_size();
         self.blocks[block].set(offset / size, offset % size, byte);
     }
+
+    /// Sets all pages to zeros, as `zeroed` makes them: no page counts as written (`is_blank`). It
+    /// allocates nothing and touches no page, but writes 8 bytes for each 512 of them. Pages that
+    /// are written later take the room of those that were.
+    pub fn clear(&mut self)
+        ensures { self.new ≡ zero_image self.old.table }
+    {
+        for pages in self.blocks.iter_mut() {
+            pages.clear();
+        }
+    }
 }
 
 impl<A: Allocator + Send> Memory<A> {

@@ -4,7 +4,7 @@
 ghost use Rattle.std.specs.Prelude.{◌≡◌, ◌+◌, ◌*◌, ◌^◌, ◌<◌, ◌≤◌, length, replicate, slice_set, IfOk, IsTrue, vec_capacity};
 ghost use Rattle.mig_mem.specs.PageSize.{IsPageSize};
 ghost use Rattle.mig_mem.specs.Image.{zero_page};
-ghost use Rattle.mig_mem.specs.BlockPages.{page_at, with_content};
+ghost use Rattle.mig_mem.specs.BlockPages.{page_at, with_content, cleared};
 ghost use Rattle.mig_mem.specs.Parts.{ChangesPart};
 
 use crate::NoMemory;
@@ -163,5 +163,14 @@ impl<A: Allocator> Pages<A> {
         } else {
             write_in_part(&mut self.bytes, self.size, slot - 1, offset, byte);
         }
+    }
+
+    /// Sets all pages to zeros, as if none was ever written. It allocates nothing and touches no
+    /// page. Pages that are written later take the room of those that were.
+    pub(crate) fn clear(&mut self)
+        ensures { self.new ≡ cleared self.old }
+    {
+        self.slots.clear();
+        self.bytes.clear();
     }
 }

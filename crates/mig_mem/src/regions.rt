@@ -5,7 +5,7 @@ ghost use Rattle.std.specs.Prelude.{ℕ, ◌≡◌, ◌+◌, ◌*◌, ◌/◌, �
 ghost use Rattle.std.specs.List.{range_with_len};
 ghost use Rattle.mig_mem.specs.PageSize.{IsPageSize};
 ghost use Rattle.mig_mem.specs.Image.{zero_page};
-ghost use Rattle.mig_mem.specs.BlockPages.{page_at, with_content};
+ghost use Rattle.mig_mem.specs.BlockPages.{page_at, with_content, cleared};
 ghost use Rattle.mig_mem.specs.Buffers.{pages_of_block};
 ghost use Rattle.mig_mem.specs.Regions.{zero_region};
 ghost use Rattle.mig_mem.specs.Puts.{HasPageSize, PutsPages};
@@ -157,6 +157,16 @@ impl<A: Allocator> Regions<A> {
     {
         let at = (i / self.per) as usize;
         self.regions[at].set(i % self.per, offset, byte);
+    }
+
+    /// Sets all pages to zeros, as if none was ever written. It allocates nothing and touches no
+    /// page.
+    pub(crate) fn clear(&mut self)
+        ensures { self.new ≡ cleared self.old }
+    {
+        for region in self.regions.iter_mut() {
+            region.clear();
+        }
     }
 }
 

@@ -114,4 +114,13 @@ impl<A: Allocator> Slots<A> {
             write_in_part(&mut self.numbers, LEAF, leaf - 1, i % LEAF, number);
         }
     }
+
+    /// Sets all numbers to 0. It allocates nothing, and leaves that are written later take the room
+    /// of those that were.
+    pub(crate) fn clear(&mut self)
+        ensures { self.new ≡ replicate (length self.old) 0 }
+    {
+        self.leaves.fill(0);
+        self.numbers.clear();
+    }
 }

@@ -17,9 +17,8 @@ use Rattle.mig_session.specs.declared.pumping.PumpFault.TheVariants as pump
 use Rattle.mig_answer.specs.Texts.{Texts}
 use Rattle.mig_sources.specs.Sources.{Counts, HasSource, no_count, count_of, with_fed, with_end, feed_step, end_step}
 use Rattle.mig_answer.specs.MultiLoad.{Answer}
-use Rattle.mig_assemble.specs.Target.{LoadTarget}
 use Rattle.mig_session.specs.Advancing.{failed_without_memory}
-use Rattle.mig_session.specs.Session.{LoadSession, answer_in, rounds_loaded, StandsFor, LacksMemory, StepsOn, RunsOut, StillLacks, KeepsRounds}
+use Rattle.mig_session.specs.Session.{Held, LoadSession, answer_in, rounds_loaded, StandsFor, LacksMemory, StepsOn, RunsOut, StillLacks, KeepsRounds}
 use Rattle.mig_sources.specs.Reads.{ReadsSoFar, after_pieces, after_end, after_read, piece_limit, IsPiece}
 use Rattle.mig_session.specs.Pumping.{Explains, reads_after, HasRead, piece_steps, pump_step, FeedsPieces}
 
@@ -307,7 +306,7 @@ pub record Ends (from : Source) (old new : LoadSession) : Type 0 where
 -- a session whose target is unchanged keeps its rounds, and its memory
 pub end_keeps : (old new : LoadSession) → new.target ≡ old.target → KeepsRounds old new
 end_keeps old new same = record {
-  more_rounds = subst (λ (target : Option LoadTarget). rounds_loaded old.target ≤ rounds_loaded target) (sym same) (omega arith);
+  more_rounds = subst (λ (target : Option Held). rounds_loaded old.target ≤ rounds_loaded target) (sym same) (omega arith);
   has_memory = λ some none. some (sym same ∙ none);
 }
 

@@ -20,12 +20,16 @@ SentIsLoadedInPieces = (s : LoadSession) (table : RamTable) (uuid : List ℕ) (l
 
 -- So they are whatever follows the end byte, and within a limit that lets the rounds through.
 abbrev pub SentIsLoadedWithin : Type 0
-SentIsLoadedWithin = (s : LoadSession) (given : LoadSettings) (table : RamTable) (uuid : List ℕ) (rounds : List DealtRound) (main : List ℕ) (channels : List (List ℕ))
-    → given.frame ≡ Ram → LetsChannelsThrough given.waiting (length channels) rounds → given.round_end ≡ by_flush → table.page_size ≡ given.page_size → total_bytes table ≤ given.limit
+SentIsLoadedWithin = (s : LoadSession) (given : LoadSettings) (table : RamTable) (uuid : List ℕ) (rounds : List DealtRound) (main : List ℕ)
+    (channels : List (List ℕ))
+    → given.frame ≡ Ram → LetsChannelsThrough given.waiting (length channels) rounds → given.round_end ≡ by_flush → table.page_size ≡ given.page_size
+    → total_bytes table ≤ given.limit
     → IsSentBefore table uuid rounds main channels → StandsFor given uuid (ended_texts main channels) s → answer_in s ≡ sent_answer table rounds
 
 -- The sender's streams with a machine's main stream are loaded, too, whatever follows RAM's END.
 abbrev pub MachineSentIsLoadedInPieces : Type 0
-MachineSentIsLoadedInPieces = (s : LoadSession) (given : LoadSettings) (table : RamTable) (uuid : List ℕ) (rounds : List DealtRound) (main : List ℕ) (channels : List (List ℕ))
-    → given.frame ≡ Machine → LetsChannelsThrough given.waiting (length channels) rounds → given.round_end ≡ by_flush → table.page_size ≡ given.page_size → total_bytes table ≤ given.limit → IsMachineSentInAnyOrder table uuid rounds main channels
+MachineSentIsLoadedInPieces = (s : LoadSession) (given : LoadSettings) (table : RamTable) (uuid : List ℕ) (rounds : List DealtRound) (main : List ℕ)
+    (channels : List (List ℕ))
+    → given.frame ≡ Machine → LetsChannelsThrough given.waiting (length channels) rounds → given.round_end ≡ by_flush
+    → table.page_size ≡ given.page_size → total_bytes table ≤ given.limit → IsMachineSentInAnyOrder table uuid rounds main channels
     → StandsFor given uuid (ended_texts main channels) s → answer_in s ≡ sent_answer table rounds

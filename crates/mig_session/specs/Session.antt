@@ -1,14 +1,15 @@
 -- A load whose streams are fed in pieces: what a session holds, and the streams that it represents.
-use Rattle.std.specs.Prelude.{ℕ, ◌≡◌, ◌≢◌, ◌≤◌, ◌<◌, ◌^◌, List, length, slice_get, Option, None, Some, IfSome, IsTrue, All}
+use Rattle.std.specs.Prelude.{ℕ, ◌≡◌, ◌≢◌, ◌≤◌, ◌<◌, ◌^◌, ◌↔◌, Bool, List, length, slice_get, Option, None, Some, IfSome, IsTrue, All}
 use Rattle.std.specs.List.{AllZip}
 use Rattle.std.specs.Option.{option_map, option_map_or, option_and_then}
 use Rattle.mig_mem.specs.PageSize.{IsPageSize}
 use Rattle.mig_assemble.specs.NamedPlaces.{left_out}
-use Rattle.mig_assemble.specs.Target.{LoadTarget}
+use Rattle.mig_mem.specs.Image.{Image}
 use Rattle.mig_stream.specs.declared.item.StreamState.TheVariants as stream_state
 use Rattle.mig_stream.specs.Reading.{Settings as StreamSettings}
 use Rattle.mig_stream.specs.Reader as stream
-use Rattle.mig_packet.specs.Reading.{Settings as ChannelSettings, ChannelReading}
+use Rattle.mig_stream.specs.Reader.{HasTable}
+use Rattle.mig_packet.specs.Reading.{Settings as ChannelSettings}
 use Rattle.mig_packet.specs.Reader as channel
 use Rattle.mig_load_types.specs.Settings.{main_of, channel_of}
 use Rattle.mig_load_types.specs.declared.settings.LoadSettings.{LoadSettings}
@@ -19,29 +20,57 @@ use Rattle.mig_sources.specs.declared.source.Source.TheVariants as source
 use Rattle.mig_answer.specs.declared.verdict.Verdict.{Verdict}
 use Rattle.mig_answer.specs.declared.verdict.Verdict.TheVariants.{Running}
 use Rattle.mig_answer.specs.Growing.{GoOn}
-use Rattle.mig_answer.specs.Status.{channel_end, fault_of}
 use Rattle.mig_answer.specs.Texts.{Text, Texts, Readings, AreReadings}
-use Rattle.mig_answer.specs.Rounds.{base_at, memory_at, named_at, missing_at}
+use Rattle.mig_answer.specs.Rounds.{memory_at, missing_at}
 use Rattle.mig_answer.specs.MultiLoad.{Answer, IsAnswer, IsWithoutMemory, passes}
-use Rattle.mig_session.specs.Sources.{Places, FedSources, counts_of, Holds}
+use Rattle.mig_session.specs.Scan.{HasOnly}
+use Rattle.mig_session.specs.Sources.{Places, FedSources, Waits, Holds}
+use Rattle.mig_session.specs.Loading.{RoundLoad, Feeding, AllWait, Settles}
 use Rattle.mig_sources.specs.Sources.{Counts, counts_in}
 use Rattle.mig_sources.specs.Faults.{HasMainFault, HasChannelFault}
 
 -- ---- what a session holds
 
+-- the state of each source, and its bytes that wait
+pub record Fed : Type 0 where
+  pub read : FedSources
+  pub waiting : Waits
+
+-- the memory, how many rounds are in it, and how many pages these don't name
+pub record Held : Type 0 where
+  pub memory : Image
+  pub rounds : ℕ
+  pub missing : ℕ
+
+-- what a load holds
+abbrev pub held_of : RoundLoad → Held
+held_of l = record { memory = l.memory.kept; rounds = l.load.rounds; missing = left_out l.load.named.table l.load.named.marked }
+
+-- what a session holds: that of its load, or what is left of it once it is over
+abbrev pub target_in : Option RoundLoad → Option Held → Option Held
+target_in None over = over
+target_in (Some l) over = Some (held_of l)
+
 pub record LoadSession : Type 0 where
+  -- what it was made with
+  pub settings : LoadSettings
+  pub uuid : List ℕ
   -- the counts of each stream's bytes
   pub counts : Counts
   -- what is noted of each, as far as it was read; None after a refused allocation
   pub places : Option Places
   -- the state of each source, while the load runs
-  pub sources : Option FedSources
+  pub sources : Option Fed
+  -- while it runs, and the table is known
+  pub load : Option RoundLoad
+  -- after that, if it had a memory
+  pub over : Option Held
   -- None before the size list is complete, or if the memory couldn't be allocated
-  pub target : Option LoadTarget
+  pub target : Option Held
   pub verdict : Verdict
 
 -- how many rounds are in the memory
-abbrev pub rounds_loaded : Option LoadTarget → ℕ
+abbrev pub rounds_loaded : Option Held → ℕ
 rounds_loaded target = option_map_or (λ t. t.rounds) target 0
 
 -- the answer of a session
@@ -50,16 +79,26 @@ answer_in s = record { memory = option_map (λ t. t.memory) s.target; rounds = r
 
 -- ---- the streams that it represents
 
--- the number that the next round's first packet must have, and the places that the rounds named
-pub record HasBase (given : LoadSettings) (uuid : List ℕ) (texts : Texts) (t : LoadTarget) : Type 0 where
-  pub has_base : (readings : Readings) → AreReadings given uuid texts readings → t.base ≡ base_at t.rounds readings
-  pub has_named : (readings : Readings) → AreReadings given uuid texts readings → named_at t.rounds readings ≡ Some t.named
-  pub is_few : t.base ≤ 2 ^ 63
+-- the streams that a session was fed
+abbrev pub feeding : LoadSettings → List ℕ → Texts → Feeding
+feeding given uuid texts = record { given = given; uuid = uuid; texts = texts }
 
--- While a load runs, all of the streams was read, and the rounds that it counts were judged.
-pub record IsRunning (given : LoadSettings) (uuid : List ℕ) (texts : Texts) (target : Option LoadTarget) (sources : FedSources) : Type 0 where
-  pub holds : Holds given uuid (rounds_loaded target) texts sources
-  pub has_base : IfSome target (HasBase given uuid texts)
+-- Before the table is known all bytes wait. Then the load takes what it can, and has the verdict.
+abbrev pub LoadsWith : Feeding → Waits → Option RoundLoad → Verdict → Type 0
+LoadsWith f w None verdict = AllWait w f.texts × HasTable (main_of f.given) f.texts.main.bytes None
+LoadsWith f w (Some l) verdict = Settles f w l × (verdict ≡ l.load.verdict)
+
+-- While a load runs, all of the streams was read, and taken as far as it can be.
+pub record IsRunning (f : Feeding) (load : Option RoundLoad) (verdict : Verdict) (fed : Fed) : Type 0 where
+  pub holds : Holds f.given f.uuid f.texts fed.read
+  pub loads : LoadsWith f fed.waiting load verdict
+
+-- Streams of sources that a load may have.
+pub record IsOfSession (given : LoadSettings) (texts : Texts) : Type 0 where
+  pub is_page_size : IsPageSize given.page_size
+  pub has_limit : given.limit ≤ 2 ^ 40
+  pub has_channel : 1 ≤ length texts.channels
+  pub has_few : length texts.channels ≤ 255
 
 -- ---- what is noted of the streams: up to which byte they are valid, and their faults
 
@@ -99,15 +138,9 @@ HavePlaces given uuid texts (Some places) = HasPlaces given uuid texts places
 
 -- ---- the pages that no round named
 
--- the target knows the places that its rounds of the streams named
-pub record HasNamed (given : LoadSettings) (uuid : List ℕ) (texts : Texts) (target : Option LoadTarget) : Type 0 where
-  pub readings : Readings
-  pub are_readings : AreReadings given uuid texts readings
-  pub are_named : option_map (λ t. t.named) target ≡ named_at (rounds_loaded target) readings
-
 -- how many pages a target's rounds don't name, if there is a target
-abbrev pub missing_in : Option LoadTarget → Option ℕ
-missing_in target = option_map (λ t. left_out t.named.table t.named.marked) target
+abbrev pub missing_in : Option Held → Option ℕ
+missing_in target = option_map (λ t. t.missing) target
 
 -- how many pages of the table the first k rounds of the streams don't name; None, if the size list
 -- isn't complete
@@ -123,15 +156,18 @@ pub record HasMissing (given : LoadSettings) (uuid : List ℕ) (texts : Texts) (
 -- answer depends on.
 pub record StandsFor (given : LoadSettings) (uuid : List ℕ) (texts : Texts) (s : LoadSession) : Type 0 where
   pub is_page_size : IsPageSize given.page_size
+  pub has_settings : s.settings ≡ given
+  pub has_uuid : s.uuid ≡ uuid
+  pub is_of_session : IsOfSession given texts
   pub has_counts : s.counts ≡ counts_in texts
   pub is_answer : IsAnswer given uuid texts (answer_in s)
-  pub runs : IfSome s.sources (IsRunning given uuid texts s.target)
+  pub runs : IfSome s.sources (IsRunning (feeding given uuid texts) s.load s.verdict)
   pub read : Texts
   pub goes_on : GoOn read texts
   pub has_read_all : s.sources ≢ None → read ≡ texts
   pub is_answer_there : IsAnswer given uuid read (answer_in s)
   pub have_places : HavePlaces given uuid read s.places
-  pub has_named : HasNamed given uuid read s.target
+  pub has_missing : HasMissing given uuid read (rounds_loaded s.target) (missing_in s.target)
 
 -- The session read these bytes of the streams: all of them while it runs, and later as much as its
 -- answer rests on.
@@ -144,16 +180,16 @@ pub record HasRead (given : LoadSettings) (uuid : List ℕ) (texts : Texts) (s :
 abbrev pub AsRead : LoadSettings → List ℕ → Texts → LoadSession → (Texts → Type 0) → Type 0
 AsRead given uuid texts s IsSo = (read : Texts) × HasRead given uuid texts s read × IsSo read
 
--- A channel has k rounds, and no fault.
-pub record HasOnly (k : ℕ) (c : ChannelReading) : Type 0 where
-  pub has_rounds : length c.rounds ≡ k
-  pub has_no_fault : fault_of (channel_end c.state) ≡ None
-
 -- The main stream is closed after k rounds. Each channel has as many, and no fault.
 pub record HaveOnly (k : ℕ) (readings : Readings) : Type 0 where
   pub is_closed : readings.main.state ≡ stream_state.Closed
   pub has_all : length readings.main.rounds ≡ k
   pub channels : All (HasOnly k) readings.channels
+
+-- whether this is so of sources
+abbrev pub TellAllIn : ℕ → FedSources → Bool → Type 0
+TellAllIn k s told = (given : LoadSettings) (uuid : List ℕ) (texts : Texts) (readings : Readings) → IsPageSize given.page_size
+    → Holds given uuid texts s → AreReadings given uuid texts readings → IsTrue told ↔ HaveOnly k readings
 
 -- All rounds are in: the main stream is closed, each of its rounds was judged lawful, and the
 -- memory is that after them. No channel has a further round, or a fault. The channels may not have
@@ -199,10 +235,23 @@ pub record StandsForSome (s : LoadSession) : Type 0 where
   pub texts : Texts
   pub stands : StandsFor given uuid texts s
 
--- It keeps its sources while it runs. Their readers were fed the bytes that it counts, and it
--- represents some streams.
+-- a session with these parts
+abbrev pub session : LoadSettings → List ℕ → Counts → Option Places → Option Fed → Option RoundLoad → Option Held → Verdict → LoadSession
+session given uuid counts places sources load over verdict = record {
+  settings = given;
+  uuid = uuid;
+  counts = counts;
+  places = places;
+  sources = sources;
+  load = load;
+  over = over;
+  target = target_in load over;
+  verdict = verdict;
+}
+
+-- It keeps its sources while it runs, and then represents some streams.
 pub record IsSession (s : LoadSession) : Type 0 where
   pub is_open : s.verdict ≡ Running → s.sources ≢ None
   pub is_settled : s.verdict ≢ Running → s.sources ≡ None
-  pub has_counts : IfSome s.sources (λ sources. counts_of sources ≡ s.counts)
+  pub is_not_over : s.sources ≢ None → s.over ≡ None
   pub stands : s.sources ≢ None → StandsForSome s

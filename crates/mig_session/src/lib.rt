@@ -5,20 +5,27 @@
 //! `PieceReader`, in most cases a `Counted` over a reader of the caller's. Both, and `Source`, are
 //! those of `mig_sources`.
 //!
-//! Definitions, in reading order: `Session`; the laws of `Law`; for pumps `Pumping` and
-//! `PumpFaultNumber` (`specs/`). `Advancing` and `Sources` are private: only contracts of private
-//! functions name them.
+//! A session is the load in place of `mig_in_place` into a memory that keeps the open round apart.
+//! Bytes of a source that has this round wait until the others have it. Beside that each source is
+//! scanned to its last byte, for its fault and its place.
+//!
+//! Definitions, in reading order: `Session`; the laws of `Law` and `Ahead`; for pumps `Pumping` and
+//! `PumpFaultNumber` (`specs/`). `Scan`, `Sources`, `Loading` and `Advancing` are private: only
+//! contracts of private functions name them.
 #![tactic(auto)]
 
-mod channel_source;
 mod laws;
-mod main_source;
+mod loading;
+mod main_scan;
 mod places;
 mod pumping;
+mod scan;
 mod session;
 mod sources;
+mod taking;
+mod waiting;
 
-pub use laws::{machine_sent_is_loaded_in_pieces, sent_is_loaded_in_pieces};
+pub use laws::{answers_are_ahead, machine_sent_is_loaded_in_pieces, sent_is_loaded_in_pieces};
 pub use mig_sources::{Counted, PieceReader, ReadFailed, Source};
 pub use pumping::{PumpFault, pump};
 pub use session::Session;

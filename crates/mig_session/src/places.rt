@@ -77,7 +77,7 @@ impl<A: Allocator> SourcePlaces<A> {
     }
 
     /// Notes channel `j`, if there is one.
-    #[tactic(auto, using(crate::proofs::KeptSources::set_beyond))]
+    #[tactic(auto, using(crate::proofs::FedSources::set_beyond))]
     pub(crate) fn set_channel(&mut self, j: usize, noted: Noted)
         ensures { self.new ≡ record self.old { channels = slice_set self.old.channels j noted } }
     {

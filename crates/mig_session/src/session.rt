@@ -2,27 +2,28 @@
 //! read from connections, and for `pump`.
 
 ghost use Rattle.std.specs.Prelude.{ℕ, ◌≡◌, ◌≢◌, ◌+◌, ◌<◌, ◌≤◌, ◌^◌, ◌↔◌, ◌⊎◌, IsTrue, List, Option, None, Some, IsOk, IsFalse, IfOk, IfSome, OnOk, OnErr, length, map, replicate};
-ghost use Rattle.std.specs.Option.{option_copied, unwrap_or};
+ghost use Rattle.std.specs.Option.{option_copied, option_map};
 ghost use Rattle.mig_mem.specs.PageSize.{IsPageSize};
-ghost use Rattle.mig_load_types.specs.declared.fault.Fault.TheVariants.{NoMemory as fault_no_memory};
 ghost use Rattle.mig_load_types.specs.declared.settings.LoadSettings.{LoadSettings};
 ghost use Rattle.mig_load_types.specs.Settings.{ram_settings, main_of};
-ghost use Rattle.mig_answer.specs.declared.verdict.Verdict.TheVariants.{Running as running, Done as done, Failed as failed_with};
+ghost use Rattle.mig_answer.specs.declared.verdict.Verdict.TheVariants.{Running as running, Done as done};
 ghost use Rattle.mig_answer.specs.declared.verdict.Verdict.{Verdict};
-ghost use Rattle.mig_stream.specs.Reader.{HasClosedAt, IsClosedAt};
+ghost use Rattle.mig_stream.specs.Reader.{HasTable, HasClosedAt, IsClosedAt};
 ghost use Rattle.mig_answer.specs.Texts.{Text, Texts, no_texts};
-ghost use Rattle.mig_session.specs.Sources.{counts_of, Holds, TellsAll};
-ghost use Rattle.mig_session.specs.Session.{answer_in, rounds_loaded, missing_in, HavePlaces, HasAllRounds, HasMissing, AsRead, StandsFor, LacksMemory, StepsOn, RunsOut, StillLacks, KeepsRounds};
-ghost use Rattle.mig_sources.specs.Sources.{HasSource, count_of, no_count, with_fed, with_end, at_source, feed_step, end_step};
+ghost use Rattle.mig_session.specs.Sources.{Waits, Holds};
+ghost use Rattle.mig_session.specs.Loading.{Feeding, fed as fed_with, over as over_with, HasRoom, TakesOrWaits, HasAloneIfAny};
+ghost use Rattle.mig_session.specs.Session.{answer_in, held_of, target_in, rounds_loaded, missing_in, HavePlaces, HasAllRounds, HasMissing, AsRead, LoadsWith, IsRunning, StandsFor, LacksMemory, StepsOn, RunsOut, StillLacks, KeepsRounds};
+ghost use Rattle.mig_sources.specs.Sources.{HasSource, count_of, counts_in, no_count, with_fed, with_end, at_source, feed_step, end_step};
 ghost use Rattle.mig_sources.specs.Faults.{IsSourceValidUpTo, HasFault};
-ghost use Rattle.mig_session.specs.Advancing.{Feeding, Advances, HasAdvanced, HasTaken, TellsVerdict, failed_without_memory};
+ghost use Rattle.mig_session.specs.Advancing.{IsMadeWith, IsReady, IsFedNext, IsTold, LoadsAfter, failed_without_memory};
 
+use crate::loading::{Held, RoundLoad};
 use crate::places::SourcePlaces;
 use crate::sources::Sources;
+use crate::taking::{pump, put};
+use crate::waiting::Waiting;
 use mig_answer::Verdict;
-use mig_assemble::Target;
 use mig_load_types::{Fault, LoadFault, LoadSettings, Origin};
-use mig_marking::lacking;
 use mig_mem::{Memory, NoMemory};
 use mig_sources::{Source, SourceCounts};
 use std::alloc::{Allocator, Global};
@@ -32,9 +33,10 @@ use uuid::Uuid;
 
 /// Loads a guest from the pieces of a main stream and of its channels, in any order.
 ///
-/// A round is checked and applied when its last source completes it, and its buffers are freed. So
-/// between calls a session holds the guest, and two bits for each page. It also buffers the rounds
-/// that not every source has completed yet.
+/// A round is checked and applied when its last source completes it. Until then its pages are kept
+/// apart from the memory, which has the rounds before. So between calls a session holds the guest,
+/// and the pages of the round that has begun. Bytes of a source that has this round wait until the
+/// others have it.
 ///
 /// Until an allocation is refused, what it returns depends on the bytes so far, and on which
 /// sources have ended. It doesn't depend on where the streams were cut, nor on the order in which
@@ -60,27 +62,83 @@ use uuid::Uuid;
 /// }
 /// session.end(source);
 /// ```
-#[derive(Drop)]
 pub struct Session<A: Allocator = Global> {
     alloc: A,
+    settings: LoadSettings,
+    uuid: Uuid,
     counts: SourceCounts<A>,
     // what is noted of each source, as far as it was read; None after a refused allocation
     places: Option<SourcePlaces<A>>,
     // while it runs
-    sources: Option<Sources<A>>,
-    // created once the table is there
-    target: Option<Target<A>>,
+    sources: Option<Fed<A>>,
+    // while it runs, once the table is there
+    load: Option<RoundLoad<A>>,
+    // after that, what is left of the load
+    over: Option<Held<A>>,
     verdict: Verdict,
 }
 
 impl<A: Allocator> Model for Session<A> {
-    ghost use Rattle.mig_session.specs.Session.{LoadSession, IsSession};
+    ghost use Rattle.mig_session.specs.Session.{LoadSession, IsSession, target_in};
 
     ghost Value = { LoadSession };
 
-    ghost view = { λ s. record { counts = s.counts; places = s.places; sources = s.sources; target = s.target; verdict = s.verdict } };
+    ghost view = { λ s. record {
+      settings = s.settings;
+      uuid = s.uuid;
+      counts = s.counts;
+      places = s.places;
+      sources = s.sources;
+      load = s.load;
+      over = s.over;
+      target = target_in s.load s.over;
+      verdict = s.verdict;
+    } };
 
-    ghost invariant = { λ s. IsSession (record { counts = s.counts; places = s.places; sources = s.sources; target = s.target; verdict = s.verdict }) };
+    ghost invariant = { λ s. IsSession (record {
+      settings = s.settings;
+      uuid = s.uuid;
+      counts = s.counts;
+      places = s.places;
+      sources = s.sources;
+      load = s.load;
+      over = s.over;
+      target = target_in s.load s.over;
+      verdict = s.verdict;
+    }) };
+}
+
+// Written out, and not derived: a caller's proof then passes a call where a session is dropped, and
+// not each of its fields.
+impl<A: Allocator> Drop for Session<A> {
+    fn drop(self) {
+        let Session {
+            alloc: _,
+            settings: _,
+            uuid: _,
+            counts: _,
+            places: _,
+            sources: _,
+            load: _,
+            over: _,
+            verdict: _,
+        } = self;
+    }
+}
+
+/// The sources while a session runs, and their bytes that wait.
+#[derive(Drop)]
+struct Fed<A: Allocator = Global> {
+    sources: Sources<A>,
+    waiting: Waiting<A>,
+}
+
+impl<A: Allocator> Model for Fed<A> {
+    ghost use Rattle.mig_session.specs.Session.{Fed};
+
+    ghost Value = { Fed };
+
+    ghost view = { λ f. record { read = f.sources; waiting = f.waiting } };
 }
 
 fn wants_memory(round: u64) -> Verdict
@@ -93,22 +151,56 @@ fn wants_memory(round: u64) -> Verdict
     })
 }
 
-fn rounds_of<A: Allocator>(target: &Option<Target<A>>) -> u64
-    ensures { result ≡ rounds_loaded target.now }
+// Returns how many rounds a load has judged, if there is one.
+fn rounds_now<A: Allocator>(load: &Option<RoundLoad<A>>) -> u64
+    ensures value { result ≡ rounds_loaded (option_map held_of load.now) }
+    ensures few { result ≤ 2 ^ 63 }
 {
-    match target {
-        Some(target) => target.rounds(),
+    match load {
+        Some(load) => load.rounds(),
         None => 0,
     }
 }
 
-// Returns how many pages the rounds in a memory don't name, if there is a memory.
-fn lacking_in<A: Allocator>(target: &Option<Target<A>>) -> Option<u64>
-    ensures { result ≡ missing_in target.now }
+// Returns how many rounds are in the memory.
+fn rounds_of<A: Allocator>(load: &Option<RoundLoad<A>>, over: &Option<Held<A>>) -> u64
+    ensures { result ≡ rounds_loaded (target_in load.now over.now) }
 {
-    match target {
-        Some(target) => Some(lacking(target.named())),
-        None => None,
+    match load {
+        Some(load) => load.rounds(),
+        None => match over {
+            Some(over) => over.rounds(),
+            None => 0,
+        },
+    }
+}
+
+// Returns the memory after them, if there is one.
+fn memory_of<'m, A: Allocator>(
+    load: &'m Option<RoundLoad<A>>,
+    over: &'m Option<Held<A>>,
+) -> Option<&'m Memory<A>>
+    ensures { option_copied result ≡ option_map (λ t. t.memory) (target_in load.now over.now) }
+{
+    match load {
+        Some(load) => Some(load.memory()),
+        None => match over {
+            Some(over) => Some(over.memory()),
+            None => None,
+        },
+    }
+}
+
+// Returns how many of its pages they don't name.
+fn missing_of<A: Allocator>(load: &Option<RoundLoad<A>>, over: &Option<Held<A>>) -> Option<u64>
+    ensures { result ≡ missing_in (target_in load.now over.now) }
+{
+    match load {
+        Some(load) => Some(load.missing()),
+        None => match over {
+            Some(over) => Some(over.missing()),
+            None => None,
+        },
     }
 }
 
@@ -118,61 +210,50 @@ fn is_done(verdict: Verdict) -> bool
     matches!(verdict, Verdict::Done)
 }
 
-// Returns the verdict that a fault of a round gives. `Err` is `NoMemory`.
-fn verdict_of(fault: LoadFault) -> Result<Verdict, NoMemory>
-    ensures ok { IfOk result (λ verdict. (verdict ≡ failed_with fault) × (fault.fault ≢ fault_no_memory)) }
-    ensures err { OnErr result (fault.fault ≡ fault_no_memory) }
-{
-    match fault.fault {
-        Fault::NoMemory => Err(NoMemory),
-        _ => Ok(Verdict::Failed(fault)),
-    }
-}
-
-// Judges the rounds that all sources have, and applies them. Returns the verdict after them.
-fn judge_rounds<A: Allocator + Copy>(
-    sources: &mut Sources<A>,
-    target: &mut Target<A>,
-) -> Result<Verdict, NoMemory>
-    requires { (f : Feeding) × Advances f sources.old (Some target.old) }
-    ensures advanced { (f : Feeding) → Advances f sources.old (Some target.old) → HasAdvanced f sources.new (Some target.new) result }
-    ensures counts { counts_of sources.new ≡ counts_of sources.old }
-    ensures more { target.old.rounds ≤ target.new.rounds }
-{
-    let mut found = sources.sources_verdict(target.rounds());
-    'rounds: while found.is_none() {
-        if let Err(fault) = sources.judge(target) {
-            return verdict_of(fault);
-        }
-        sources.advance();
-        found = sources.sources_verdict(target.rounds());
-    }
-    match found {
-        Some(verdict) => Ok(verdict),
-        None => unreachable!(),
-    }
-}
-
-// Creates the memory once the table is there. An `Err` changes nothing.
-fn make_target<A: Allocator + Copy>(
-    alloc: A,
-    sources: &Sources<A>,
-    target: &mut Option<Target<A>>,
+// Has the load take a piece, if there is one. What isn't taken waits. `Err` is `NoMemory`.
+fn put_any<A: Allocator + Copy>(
+    load: &mut Option<RoundLoad<A>>,
+    waiting: &mut Waiting<A>,
+    source: Source,
+    piece: &[u8],
 ) -> Result<(), NoMemory>
-    requires { (f : Feeding) × Advances f sources.now target.old }
-    ensures ok { OnOk result ((f : Feeding) → Advances f sources.now target.old → Advances f sources.now target.new
-        × (target.new ≡ None → f.readings.main.table ≡ None)) }
-    ensures err { OnErr result (target.new ≡ target.old) }
-    ensures stays { target.old ≢ None → target.new ≡ target.old }
-    ensures rounds { rounds_loaded target.new ≡ rounds_loaded target.old }
+    requires { (f : Feeding) × TakesOrWaits f waiting.old load.old × HasRoom f.texts source (length piece.now) }
+    ensures ok { OnOk result ((f : Feeding) → TakesOrWaits f waiting.old load.old → HasRoom f.texts source (length piece.now)
+        → TakesOrWaits (fed_with source piece.now f) waiting.new load.new) }
+    ensures err { OnErr result ((f : Feeding) → TakesOrWaits f waiting.old load.old → HasRoom f.texts source (length piece.now)
+        → HasAloneIfAny (fed_with source piece.now f) load.new) }
+    ensures rounds { rounds_loaded (option_map held_of load.old) ≤ rounds_loaded (option_map held_of load.new) }
+    ensures stays { load.old ≢ None → load.new ≢ None }
 {
-    if target.is_some() {
+    match load {
+        Some(load) => put(load, waiting, source, piece),
+        None => waiting.push(source, piece),
+    }
+}
+
+// Creates the load once the table is there. `Err` is `NoMemory`, and changes nothing.
+fn begin<A: Allocator + Copy>(
+    alloc: A,
+    settings: LoadSettings,
+    uuid: &Uuid,
+    sources: &Sources<A>,
+    channels: usize,
+    load: &mut Option<RoundLoad<A>>,
+) -> Result<(), NoMemory>
+    requires { (f : Feeding) × IsMadeWith settings uuid.now channels f × Holds f.given f.uuid f.texts sources.now }
+    ensures ok { OnOk result ((f : Feeding) (w : Waits) → IsMadeWith settings uuid.now channels f → Holds f.given f.uuid f.texts sources.now → TakesOrWaits f w load.old
+        → TakesOrWaits f w load.new × (load.new ≡ None → HasTable (main_of f.given) f.texts.main.bytes None)) }
+    ensures err { OnErr result (load.new ≡ load.old) }
+    ensures rounds { rounds_loaded (option_map held_of load.old) ≤ rounds_loaded (option_map held_of load.new) }
+    ensures stays { load.old ≢ None → load.new ≢ None }
+{
+    if load.is_some() {
         return Ok(());
     }
     match sources.table() {
         None => Ok(()),
         Some(table) => {
-            *target = Some(Target::new(alloc, table)?);
+            *load = Some(RoundLoad::new(alloc, settings, table, uuid, channels)?);
             Ok(())
         }
     }
@@ -180,39 +261,43 @@ fn make_target<A: Allocator + Copy>(
 
 // Returns the verdict before the table is there.
 fn verdict_without_table<A: Allocator>(sources: &mut Sources<A>) -> Verdict
-    requires { (f : Feeding) × Advances f sources.old None × (f.readings.main.table ≡ None) }
-    ensures told { (f : Feeding) → Advances f sources.old None → f.readings.main.table ≡ None → TellsVerdict f.readings None result }
+    requires { (f : Feeding) × IsPageSize f.given.page_size × Holds f.given f.uuid f.texts sources.old × HasTable (main_of f.given) f.texts.main.bytes None }
+    ensures told { (f : Feeding) → IsPageSize f.given.page_size → Holds f.given f.uuid f.texts sources.old → HasTable (main_of f.given) f.texts.main.bytes None
+        → IsTold f None result }
     ensures same { sources.new ≡ sources.old }
 {
-    match sources.sources_verdict(0) {
+    match sources.first_verdict() {
         Some(verdict) => verdict,
         None => unreachable!(),
     }
 }
 
-// Judges the bytes so far. Returns the verdict.
+// Has the load take what it can of the bytes so far. Returns the verdict. `Err` is `NoMemory`.
 fn advance<A: Allocator + Copy>(
-    alloc: A,
-    sources: &mut Sources<A>,
-    target: &mut Option<Target<A>>,
+    fed: &mut Fed<A>,
+    load: &mut Option<RoundLoad<A>>,
+    counts: &SourceCounts<A>,
 ) -> Result<Verdict, NoMemory>
-    requires { (f : Feeding) × Advances f sources.old target.old }
-    ensures advanced { (f : Feeding) → Advances f sources.old target.old → HasAdvanced f sources.new target.new result }
-    ensures counts { counts_of sources.new ≡ counts_of sources.old }
-    ensures rounds { rounds_loaded target.old ≤ rounds_loaded target.new }
-    ensures stays { target.old ≢ None → target.new ≢ None }
+    requires { (f : Feeding) × IsReady f fed.old load.old × (counts.now ≡ counts_in f.texts) }
+    ensures ok { IfOk result (λ verdict. (f : Feeding) → IsReady f fed.old load.old → counts.now ≡ counts_in f.texts
+        → IsRunning f load.new verdict fed.new × IsTold f load.new verdict) }
+    ensures err { OnErr result ((f : Feeding) → IsReady f fed.old load.old → counts.now ≡ counts_in f.texts → HasAloneIfAny f load.new) }
+    ensures rounds { rounds_loaded (option_map held_of load.old) ≤ rounds_loaded (option_map held_of load.new) }
+    ensures stays { load.old ≢ None → load.new ≢ None }
 {
-    make_target(alloc, sources, target)?;
-    match target {
-        Some(target) => judge_rounds(sources, target),
-        None => Ok(verdict_without_table(sources)),
+    match load {
+        Some(load) => {
+            pump(load, &mut fed.waiting, counts)?;
+            Ok(load.verdict())
+        }
+        None => Ok(verdict_without_table(&mut fed.sources)),
     }
 }
 
 // Notes up to which byte `source` is valid, and its fault, unless an allocation was refused.
 fn note<A: Allocator>(sources: &Sources<A>, source: Source, places: &mut Option<SourcePlaces<A>>)
-    requires { HasSource (counts_of sources.now) source }
-    ensures { (given : LoadSettings) (uuid : List ℕ) (k : ℕ) (step : Text → Text) (texts : Texts) → Holds given uuid k (at_source source step texts) sources.now
+    requires { (f : Feeding) × Holds f.given f.uuid f.texts sources.now × HasSource (counts_in f.texts) source }
+    ensures { (given : LoadSettings) (uuid : List ℕ) (step : Text → Text) (texts : Texts) → Holds given uuid (at_source source step texts) sources.now
         → HavePlaces given uuid texts places.old → HavePlaces given uuid (at_source source step texts) places.new }
 {
     match places {
@@ -221,61 +306,104 @@ fn note<A: Allocator>(sources: &Sources<A>, source: Source, places: &mut Option<
     }
 }
 
-// Takes a piece, and judges the bytes so far. Returns the verdict.
+// Takes a piece, which `counts` has, and judges the bytes so far. Returns the verdict. `Err` is
+// `NoMemory`.
 fn take<A: Allocator + Copy>(
     alloc: A,
-    sources: &mut Sources<A>,
-    target: &mut Option<Target<A>>,
+    settings: LoadSettings,
+    uuid: &Uuid,
+    counts: &SourceCounts<A>,
+    fed: &mut Fed<A>,
+    load: &mut Option<RoundLoad<A>>,
     places: &mut Option<SourcePlaces<A>>,
     source: Source,
     piece: &[u8],
 ) -> Result<Verdict, NoMemory>
-    requires source { HasSource (counts_of sources.old) source }
-    requires open { IsFalse (count_of (counts_of sources.old) source).ended }
-    requires room { (count_of (counts_of sources.old) source).fed + length piece.now < 2 ^ 64 }
-    requires advances { (f : Feeding) × Advances f sources.old target.old }
-    ensures taken { (f : Feeding) → Advances f sources.old target.old → HasTaken f source piece.now sources.new target.new result }
-    ensures counts { OnOk result (counts_of sources.new ≡ with_fed (counts_of sources.old) source (length piece.now)) }
-    ensures rounds { rounds_loaded target.old ≤ rounds_loaded target.new }
-    ensures stays { target.old ≢ None → target.new ≢ None }
-    ensures places { OnOk result ((given : LoadSettings) (uuid : List ℕ) (k : ℕ) (texts : Texts) → IsPageSize given.page_size → Holds given uuid k texts sources.old
-        → HavePlaces given uuid texts places.old → HavePlaces given uuid (feed_step source piece.now texts) places.new) }
+    requires { (f : Feeding) × IsFedNext settings uuid.now counts.now source piece.now f fed.old load.old }
+    ensures ok { IfOk result (λ verdict. (f : Feeding) → IsFedNext settings uuid.now counts.now source piece.now f fed.old load.old
+        → IsRunning (fed_with source piece.now f) load.new verdict fed.new × IsTold (fed_with source piece.now f) load.new verdict) }
+    ensures err { OnErr result ((f : Feeding) → IsFedNext settings uuid.now counts.now source piece.now f fed.old load.old → HasAloneIfAny (fed_with source piece.now f) load.new) }
+    ensures rounds { rounds_loaded (option_map held_of load.old) ≤ rounds_loaded (option_map held_of load.new) }
+    ensures stays { load.old ≢ None → load.new ≢ None }
+    ensures places { OnOk result ((f : Feeding) → IsFedNext settings uuid.now counts.now source piece.now f fed.old load.old
+        → HavePlaces f.given f.uuid f.texts places.old → HavePlaces f.given f.uuid (feed_step source piece.now f.texts) places.new) }
 {
-    let Ok(()) = sources.feed(source, piece) else {
+    let Ok(()) = fed.sources.feed(source, piece) else {
         return Err(NoMemory);
     };
-    note(sources, source, places);
-    advance(alloc, sources, target)
+    note(&fed.sources, source, places);
+    put_any(load, &mut fed.waiting, source, piece)?;
+    begin(alloc, settings, uuid, &fed.sources, counts.channels(), load)?;
+    advance(fed, load, counts)
 }
 
-// Ends a source. Returns the verdict after `rounds` rounds.
+// Ends a source of the load, if none of its bytes waits.
+fn end_taken<A: Allocator>(load: &mut Option<RoundLoad<A>>, waiting: &Waiting<A>, source: Source)
+    requires { (f : Feeding) × TakesOrWaits f waiting.now load.old × HasSource (counts_in f.texts) source }
+    ensures ended { (f : Feeding) (verdict : Verdict) → LoadsWith f waiting.now load.old verdict → HasSource (counts_in f.texts) source
+        → verdict ≡ running → LoadsAfter (over_with source f) waiting.now load.new }
+    ensures same { option_map held_of load.new ≡ option_map held_of load.old }
+{
+    match load {
+        Some(load) => {
+            if waiting.none_of(source) {
+                load.end(source);
+            }
+        }
+        None => {}
+    }
+}
+
+// Ends a source. Returns the verdict.
 fn end_source<A: Allocator>(
-    sources: &mut Sources<A>,
+    fed: &mut Fed<A>,
+    load: &mut Option<RoundLoad<A>>,
     places: &mut Option<SourcePlaces<A>>,
     source: Source,
-    rounds: u64,
 ) -> Verdict
-    requires { HasSource (counts_of sources.old) source }
-    ensures holds { (given : LoadSettings) (uuid : List ℕ) (k : ℕ) (texts : Texts) → Holds given uuid k texts sources.old
-        → Holds given uuid k (end_step source texts) sources.new }
-    ensures told { (found : Option Verdict) × TellsAll rounds sources.new found × (result ≡ unwrap_or found running) }
-    ensures counts { counts_of sources.new ≡ with_end (counts_of sources.old) source }
-    ensures places { (given : LoadSettings) (uuid : List ℕ) (k : ℕ) (texts : Texts) → Holds given uuid k texts sources.old
-        → HavePlaces given uuid texts places.old → HavePlaces given uuid (end_step source texts) places.new }
+    requires { (f : Feeding) × IsPageSize f.given.page_size × IsRunning f load.old running fed.old × HasSource (counts_in f.texts) source }
+    ensures told { (f : Feeding) → IsPageSize f.given.page_size → IsRunning f load.old running fed.old → HasSource (counts_in f.texts) source
+        → IsRunning (over_with source f) load.new result fed.new × IsTold (over_with source f) load.new result }
+    ensures places { (f : Feeding) → Holds f.given f.uuid f.texts fed.old.read
+        → HavePlaces f.given f.uuid f.texts places.old → HavePlaces f.given f.uuid (end_step source f.texts) places.new }
+    ensures same { option_map held_of load.new ≡ option_map held_of load.old }
 {
-    sources.end(source);
-    note(sources, source, places);
-    sources.sources_verdict(rounds).unwrap_or(Verdict::Running)
+    fed.sources.end(source);
+    note(&fed.sources, source, places);
+    end_taken(load, &fed.waiting, source);
+    match load {
+        Some(load) => load.verdict(),
+        None => verdict_without_table(&mut fed.sources),
+    }
 }
 
-// Drops the sources if the load has its verdict.
-fn keep<A: Allocator>(sources: &mut Option<Sources<A>>, verdict: Verdict)
-    ensures running { verdict ≡ running → sources.new ≡ sources.old }
-    ensures settled { verdict ≢ running → sources.new ≡ None }
+// Drops the load, and keeps its memory.
+fn settle<A: Allocator>(load: &mut Option<RoundLoad<A>>, over: &mut Option<Held<A>>)
+    ensures none { load.new ≡ None }
+    ensures kept { over.new ≡ target_in load.old over.old }
+{
+    if let Some(load) = load.take() {
+        *over = Some(load.into_held());
+    }
+}
+
+// Drops the sources and the load once there is a verdict, and keeps the load's memory.
+fn keep<A: Allocator>(
+    sources: &mut Option<Fed<A>>,
+    load: &mut Option<RoundLoad<A>>,
+    over: &mut Option<Held<A>>,
+    verdict: Verdict,
+)
+    ensures running { verdict ≡ running → (sources.new ≡ sources.old) × (load.new ≡ load.old) × (over.new ≡ over.old) }
+    ensures settled { verdict ≢ running → (sources.new ≡ None) × (load.new ≡ None) }
+    ensures target { target_in load.new over.new ≡ target_in load.old over.old }
 {
     match verdict {
         Verdict::Running => {}
-        Verdict::Done | Verdict::Failed(_) => *sources = None,
+        Verdict::Done | Verdict::Failed(_) => {
+            *sources = None;
+            settle(load, over);
+        }
     }
 }
 
@@ -328,14 +456,18 @@ impl<A: Allocator + Copy> Session<A> {
         ensures counts { IfOk result (λ s. s.counts ≡ record { main = no_count; channels = replicate channels no_count }) }
     {
         let sources = Sources::new(alloc, settings, uuid, channels)?;
+        let waiting = Waiting::new(alloc, channels)?;
         let counts = SourceCounts::new(alloc, channels)?;
         let places = SourcePlaces::new(alloc, channels)?;
         Ok(Session {
             alloc,
+            settings,
+            uuid: *uuid,
             counts,
             places: Some(places),
-            sources: Some(sources),
-            target: None,
+            sources: Some(Fed { sources, waiting }),
+            load: None,
+            over: None,
             verdict: Verdict::Running,
         })
     }
@@ -362,10 +494,13 @@ impl<A: Allocator + Copy> Session<A> {
         self.counts.add(source, piece.len());
         let taken = match &mut self.sources {
             None => return Ok(()),
-            Some(sources) => take(
+            Some(fed) => take(
                 self.alloc,
-                sources,
-                &mut self.target,
+                self.settings,
+                &self.uuid,
+                &self.counts,
+                fed,
+                &mut self.load,
                 &mut self.places,
                 source,
                 piece,
@@ -374,11 +509,12 @@ impl<A: Allocator + Copy> Session<A> {
         match taken {
             Ok(verdict) => {
                 self.verdict = verdict;
-                keep(&mut self.sources, verdict);
+                keep(&mut self.sources, &mut self.load, &mut self.over, verdict);
                 Ok(())
             }
             Err(NoMemory) => {
-                self.verdict = wants_memory(rounds_of(&self.target));
+                self.verdict = wants_memory(rounds_of(&self.load, &self.over));
+                settle(&mut self.load, &mut self.over);
                 self.sources = None;
                 self.places = None;
                 Err(NoMemory)
@@ -398,13 +534,12 @@ impl<A: Allocator> Session<A> {
         ensures same { self.new.target ≡ self.old.target }
     {
         self.counts.end(source);
-        let rounds = rounds_of(&self.target);
         let verdict = match &mut self.sources {
             None => return,
-            Some(sources) => end_source(sources, &mut self.places, source, rounds),
+            Some(fed) => end_source(fed, &mut self.load, &mut self.places, source),
         };
         self.verdict = verdict;
-        keep(&mut self.sources, verdict);
+        keep(&mut self.sources, &mut self.load, &mut self.over, verdict);
     }
 
     /// Returns the number of channels.
@@ -524,7 +659,7 @@ impl<A: Allocator> Session<A> {
         ensures failed { IsTrue result → (self.now.verdict ≡ running) ⊎ (self.now.verdict ≡ done) }
     {
         match &self.sources {
-            Some(sources) => sources.all_in(),
+            Some(fed) => fed.sources.have_only(rounds_now(&self.load)),
             None => is_done(self.verdict),
         }
     }
@@ -553,7 +688,7 @@ impl<A: Allocator> Session<A> {
     pub fn memory(&self) -> Option<&Memory<A>>
         ensures { option_copied result ≡ (answer_in self.now).memory }
     {
-        self.target.as_ref().map(|target| target.memory())
+        memory_of(&self.load, &self.over)
     }
 
     /// Returns how many pages of the guest no record and no packet of the rounds in the memory
@@ -568,7 +703,7 @@ impl<A: Allocator> Session<A> {
         ensures lacking { (given : LoadSettings) (uuid : List ℕ) (texts : Texts) → LacksMemory given uuid texts self.now → result ≡ None }
     {
         match &self.places {
-            Some(_) => lacking_in(&self.target),
+            Some(_) => missing_of(&self.load, &self.over),
             None => None,
         }
     }
@@ -577,6 +712,6 @@ impl<A: Allocator> Session<A> {
     pub fn rounds(&self) -> u64
         ensures { result ≡ (answer_in self.now).rounds }
     {
-        rounds_of(&self.target)
+        rounds_of(&self.load, &self.over)
     }
 }

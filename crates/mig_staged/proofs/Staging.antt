@@ -1,5 +1,6 @@
 -- A memory with the pages of an open round beside it, as pages are written, kept and dropped.
 use Rattle.std.proofs.Common.{ℕ, ◌≡◌, ◌+◌, ◌<◌, ◌≤◌, ◌||◌, not, Bool, true, false, cond, List, [], ◌∷◌, ◌++◌, length, take, refl, sym, ap, subst, ◌∙◌, inl, inr, Option, Some, None, arith}
+use Rattle.std.specs.Prelude.{IsTrue}
 use Rattle.std.specs.List.{find}
 use Rattle.std.specs.Option.{option_map_or}
 use Rattle.std.proofs.lemmas.Bool.{cases_Bool, cond-true, cond-false}
@@ -14,6 +15,7 @@ use Rattle.mig_mem.proofs.Images.{image_agree, image_is, image_from, content_siz
 use Rattle.mig_mem.proofs.Rounds.{last_at-round, last_at-round_none, with_page-more, onto-nil}
 use Rattle.mig_mem.proofs.Sets.{has_place-where}
 use Rattle.mig_mem.proofs.Walks.{HasListed, listed_none, listed_more, listed_all, found_place, All-has}
+use Rattle.mig_marking.specs.Fresh.{AreZeros}
 use Rattle.mig_marking.proofs.Zeros.{zeros_at_first, zeros_elsewhere}
 use Rattle.mig_staged.specs.Staged.{Staging, IsStaging, IsFresh, staged}
 
@@ -69,7 +71,7 @@ staged_put s p bytes is = image_agree s.kept.table
     (λ q. cond (place_eq q p) bytes (content_at (staged s) q))
     (λ q here.
     let in_open : IsPlace s.apart.table q = subst (λ (t : RamTable). IsPlace t q) (sym is.same_apart) here in
-    let in_named : IsPlace s.named.table q = subst (λ (t : RamTable). IsPlace t q) (sym is.same_named) here in
+    let in_named : IsPlace s.named.table q = subst (λ (t : RamTable). IsPlace t q) (sym is.are_zeros.same_table) in_open in
     let has : has_place (with_place s.named p).marked q ≡ (place_eq q p || has_place s.named.marked q) =
     has_place-where s.named.table (λ r. place_eq r p || has_place s.named.marked r) q in_named in
     round_at (with_page s.apart p bytes) (with_place s.named p).marked q (content_at s.kept q)
@@ -82,12 +84,12 @@ staged_put s p bytes is = image_agree s.kept.table
     both true b x y z = refl
     both false b x y z = refl
 
--- all stays of one table, and a memory of zeros stays fresh
+-- all stays of one table, and no other page is kept apart
 pub put_stays : (s : Staging) (p : Place) (bytes : List ℕ) → IsStaging s → IsStaging (put s p bytes)
 put_stays s p bytes is = record {
   same_apart = is.same_apart;
-  same_named = is.same_named;
-  fresh = λ t. let f = is.fresh t in record { is_zeros = f.is_zeros; are_zeros = zeros_elsewhere s.apart s.named p bytes f.are_zeros };
+  are_zeros = zeros_elsewhere s.apart s.named p bytes is.are_zeros;
+  fresh = is.fresh;
 }
 
 -- ---- the round is kept
@@ -157,19 +159,30 @@ fresh_shows s is fresh image =
     (λ q here. round_at s.apart s.named.marked q (content_at s.kept q) ∙ elim (cases_Bool (has_place s.named.marked q)) [
       | inl t ↦ cond-true (has_place s.named.marked q) (content_at s.apart q) (content_at s.kept q) t
       | inr n ↦ cond-false (has_place s.named.marked q) (content_at s.apart q) (content_at s.kept q) n
-          ∙ ap (λ (m : Image). content_at m q) fresh.is_zeros
+          ∙ ap (λ (m : Image). content_at m q) fresh
           ∙ content_at-image_of s.kept.table (λ _. zero_page s.kept.table.page_size) q here
           ∙ ap (λ (t : RamTable). zero_page t.page_size) (sym is.same_apart)
-          ∙ sym (fresh.are_zeros.are_zeros q (subst (λ (t : RamTable). IsPlace t q) (sym is.same_apart) here) n)
+          ∙ sym (is.are_zeros.are_zeros q (subst (λ (t : RamTable). IsPlace t q) (sym is.same_apart) here) n)
     ])
     ∙ ap (λ (t : RamTable). image_of t (content_at s.apart)) (sym is.same_apart)
     ∙ sym (image_is s.apart image)
 
--- a memory of zeros is fresh
-pub zeros_fresh : (s : Staging) (table : RamTable) → s.kept ≡ zero_image table → s.apart ≡ zero_image table
-    → s.named ≡ record { table = table; marked = [] } → IsFresh s
-zeros_fresh s table kept apart named = record {
-  is_zeros = kept ∙ ap (λ (m : Image). zero_image m.table) (sym kept);
-  are_zeros = zeros_at_first s.apart s.named (apart ∙ ap (λ (m : Image). zero_image m.table) (sym apart))
-      (named ∙ ap (λ (m : Image). record { table = m.table; marked = [] }) (sym apart));
-}
+-- ---- without an open round
+
+-- a memory apart that holds no page of a round is zeros
+pub zeros_apart : (apart : Image) (named : PlaceSet) → AreZeros apart named → IsImage apart → named.marked ≡ [] → apart ≡ zero_image apart.table
+zeros_apart apart named are image none =
+    image_is apart image ∙ image_agree apart.table (content_at apart) (λ _. zero_page apart.table.page_size) (λ p is.
+    are.are_zeros p is (ap (λ (ps : List Place). has_place ps p) none))
+
+-- zeros apart, and no page that is named, are a memory without an open round
+pub closed_staging : (s : Staging) → s.apart ≡ zero_image s.kept.table → s.named ≡ record { table = s.kept.table; marked = [] }
+    → (IsTrue s.is_fresh → IsFresh s) → IsStaging s
+closed_staging s apart named fresh =
+    let same : s.apart.table ≡ s.kept.table = ap (λ (m : Image). m.table) apart in
+    record {
+      same_apart = same;
+      are_zeros = zeros_at_first s.apart s.named (apart ∙ ap (λ (t : RamTable). zero_image t) (sym same))
+          (named ∙ ap (λ (t : RamTable). record { table = t; marked = [] }) (sym same));
+      fresh = fresh;
+    }

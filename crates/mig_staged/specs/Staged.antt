@@ -19,12 +19,11 @@ abbrev pub staged : Staging → Image
 staged s = with_round s.kept (round_of s.apart s.named.marked)
 
 -- before the first round, of a memory of zeros
-pub record IsFresh (s : Staging) : Type 0 where
-  pub is_zeros : s.kept ≡ zero_image s.kept.table
-  pub are_zeros : AreZeros s.apart s.named
+abbrev pub IsFresh : Staging → Type 0
+IsFresh s = s.kept ≡ zero_image s.kept.table
 
--- All is of one table.
+-- All is of one table, and no page is kept apart but those of the open round.
 pub record IsStaging (s : Staging) : Type 0 where
   pub same_apart : s.apart.table ≡ s.kept.table
-  pub same_named : s.named.table ≡ s.kept.table
+  pub are_zeros : AreZeros s.apart s.named
   pub fresh : IsTrue s.is_fresh → IsFresh s

@@ -1,9 +1,10 @@
 //! Guest memory into which a load writes round by round.
 
-ghost use Rattle.std.specs.Prelude.{◌≡◌, Some, IfOk, IfErr};
+ghost use Rattle.std.specs.Prelude.{◌≡◌, [], Some, IfOk, IfErr};
 ghost use Rattle.mig_mem.specs.Place.{IsPlace};
 ghost use Rattle.mig_mem.specs.Image.{content_at, with_page, zero_image};
 ghost use Rattle.mig_mem.specs.Round.{round_of, with_round};
+ghost use Rattle.mig_marking.specs.Fresh.{AreZeros};
 ghost use Rattle.mig_staged.specs.Staged.{staged};
 
 use mig_mem::{Dirty, GuestTarget, Memory, NoMemory, Place, Table};
@@ -16,8 +17,10 @@ use std::mem;
 /// judged lawful, and `drop_round` if it wasn't. So the memory has the rounds that were kept, and
 /// nothing else, at any time.
 ///
-/// A round's pages take memory beside the guest until they are kept, and are copied then. A first
-/// round into a `Memory` of zeros isn't copied (`keep_own`).
+/// A round's pages take memory beside the guest until they are kept, and are copied then. The next
+/// round takes that memory again. So beside the guest each region of a block (`Memory::put_pages`)
+/// takes at most as many pages as one round wrote there. A first round into a `Memory` of zeros
+/// isn't copied (`keep_own`), and takes nothing beside the guest.
 #[derive(Drop)]
 pub struct Staged<M: GuestTarget, A: Allocator = Global> {
     memory: M,
@@ -75,9 +78,25 @@ fn copy_round<M: GuestTarget, A: Allocator>(memory: &mut M, from: &Memory<A>, na
     }
 }
 
+// Ends a round: none of its pages is named, and none is kept apart.
+fn clear_round<A: Allocator>(apart: &mut Memory<A>, named: &mut Dirty<A>)
+    requires { AreZeros apart.old named.old }
+    ensures apart { apart.new ≡ zero_image apart.old.table }
+    ensures named { named.new ≡ record named.old { marked = [] } }
+{
+    // shows that the memory has a content for each place (`IsImage`)
+    let _table = apart.table();
+    if named.count() == 0 {
+        return;
+    }
+    apart.clear();
+    named.clear();
+}
+
 impl<M: GuestTarget, A: Allocator + Copy> Staged<M, A> {
     /// Takes a memory, without an open round. It allocates room for all pages of the table, which
-    /// isn't touched before it is needed, and a bit for each page.
+    /// isn't touched before a round needs it and is used again by the next one, and a bit for each
+    /// page.
     ///
     /// # Errors
     ///
@@ -124,7 +143,7 @@ impl<M: GuestTarget, A: Allocator> Staged<M, A> {
     {
         self.is_fresh = false;
         copy_round(&mut self.memory, &self.apart, &self.named);
-        self.named.clear();
+        clear_round(&mut self.apart, &mut self.named);
         // shows that the memory has a content for each place (`IsImage`)
         let _table = self.memory.table();
     }
@@ -134,8 +153,7 @@ impl<M: GuestTarget, A: Allocator> Staged<M, A> {
         ensures kept { self.new.kept ≡ self.old.kept }
         ensures image { staged self.new ≡ self.new.kept }
     {
-        self.is_fresh = false;
-        self.named.clear();
+        clear_round(&mut self.apart, &mut self.named);
         // shows that the memory has a content for each place (`IsImage`)
         let _table = self.memory.table();
     }
@@ -143,7 +161,8 @@ impl<M: GuestTarget, A: Allocator> Staged<M, A> {
 
 impl<A: Allocator + Copy> Staged<Memory<A>, A> {
     /// Creates a memory of zeros, without an open round. It allocates room for the pages twice,
-    /// which isn't touched before it is needed, and a bit for each page.
+    /// which isn't touched before a round needs it, and a bit for each page. If rounds are kept by
+    /// `keep_own`, only rounds after the first touch the second room, each the same again.
     ///
     /// # Errors
     ///
@@ -184,6 +203,7 @@ impl<A: Allocator + Copy> Staged<Memory<A>, A> {
             self.keep();
             return;
         }
+        // the memory was zeros, so that nothing is kept apart after this
         self.is_fresh = false;
         mem::swap(&mut self.memory, &mut self.apart);
         self.named.clear();

@@ -1,7 +1,7 @@
 use Rattle.std.proofs.Common.{◌∙◌, ◌+◌, ◌++◌, ◌∷◌, [], Bool, sym, take}
 use Rattle.std.specs.List.{AllZip}
-use Rattle.mig_session.specs.Advancing.{TellsOnly}
-use Rattle.mig_session.proofs.KeptSources.{more_true, more_false}
+use Rattle.mig_session.specs.Scan.{TellsOnly}
+use Rattle.mig_session.proofs.FedSources.{more_true, more_false}
 use Rattle.mig_sources.proofs.Zips.{zip_more}
 use Rattle.mig_session.proofs.sources.have_only.Goals as goal
 use Rattle.mig_session.proofs.sources.have_only.Goals.{then-not-has_only, else-not-has_only}
@@ -10,8 +10,8 @@ pub loop-channel-preserved : goal.loop-channel-preserved
 loop-channel-preserved g c =
     let so_far = c.loop-channel.invariant.told in
     let t : Bool = c.has_only.result in
-    let more : AllZip TellsOnly (take (c.loop-channel.channel-index + 1) c.args.channels.now) (so_far.0 ++ t ∷ []) =
-    zip_more TellsOnly c.args.channels.now so_far.0 c.loop-channel.channel-index c.channel-item.result t c.loop-channel-test.true
+    let more : AllZip (TellsOnly c.args.rounds) (take (c.loop-channel.channel-index + 1) c.args.channels.now) (so_far.0 ++ t ∷ []) =
+    zip_more (TellsOnly c.args.rounds) c.args.channels.now so_far.0 c.loop-channel.channel-index c.channel-item.result t c.loop-channel-test.true
     (sym c.channel-item.is) so_far.1 c.has_only.ensures in
     record {
       told = (

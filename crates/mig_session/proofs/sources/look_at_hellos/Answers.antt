@@ -1,5 +1,5 @@
 use Rattle.std.proofs.Common.{arith, sym}
-use Rattle.mig_session.specs.Sources.{TellsHello}
+use Rattle.mig_session.specs.Scan.{TellsHello}
 use Rattle.mig_sources.proofs.Zips.{zip_more}
 use Rattle.mig_session.proofs.sources.look_at_hellos.Goals as goal
 

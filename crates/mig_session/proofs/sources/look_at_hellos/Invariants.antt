@@ -1,6 +1,6 @@
 use Rattle.std.proofs.Common.{◌≡◌, ◌≤◌, take, vec_len, vec_capacity}
 use Rattle.std.specs.List.{AllZip}
-use Rattle.mig_session.specs.Sources.{TellsHello}
+use Rattle.mig_session.specs.Scan.{TellsHello}
 use Rattle.mig_session.proofs.sources.look_at_hellos.Given as goal
 
 abbrev pub invariant-loop-channel : goal.invariant-loop-channel

@@ -1,21 +1,16 @@
 use Rattle.std.proofs.Common.{◌≡◌, ◌∙◌, Some, None, ap, sym}
-use Rattle.mig_session.specs.Session.{LoadSession, rounds_loaded, missing_in, HasMissing}
+use Rattle.mig_session.specs.Session.{LoadSession, session, rounds_loaded, missing_in, HasMissing}
 use Rattle.mig_session.proofs.Sessions.{as_read, no_places_read, missing_read}
 use Rattle.mig_session.proofs.session.Session.missing.Goals as goal
 
 pub returns-in-Some-clause-stands : goal.returns-in-Some-clause-stands
 returns-in-Some-clause-stands g c = λ given uuid texts stands.
-    let s : LoadSession = record {
-      counts = c.self.inside.counts;
-      places = c.self.inside.places;
-      sources = c.self.inside.sources;
-      target = c.self.inside.target;
-      verdict = c.self.inside.verdict;
-    } in
-    let told : c.lacking_in.result ≡ missing_in c.args.self.now.target = c.lacking_in.ensures ∙ ap (λ (x : LoadSession). missing_in x.target) c.self.view_is in
+    let i = c.self.inside in
+    let s : LoadSession = session i.settings i.uuid i.counts i.places i.sources i.load i.over i.verdict in
+    let told : c.missing_of.result ≡ missing_in c.args.self.now.target = c.missing_of.ensures ∙ ap (λ (x : LoadSession). missing_in x.target) c.self.view_is in
     as_read given uuid texts c.args.self.now s
-    (λ read. HasMissing given uuid read (rounds_loaded c.args.self.now.target) c.lacking_in.result) c.self.view_is c.self.invariant stands
-    (missing_read given uuid texts c.args.self.now c.lacking_in.result stands told)
+    (λ read. HasMissing given uuid read (rounds_loaded c.args.self.now.target) c.missing_of.result) c.self.view_is c.self.invariant stands
+    (missing_read given uuid texts c.args.self.now c.missing_of.result stands told)
 
 pub returns-in-Some-clause-lacking : goal.returns-in-Some-clause-lacking
 returns-in-Some-clause-lacking g c = λ given uuid texts lacks.

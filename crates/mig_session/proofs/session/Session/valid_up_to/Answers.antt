@@ -1,18 +1,13 @@
 use Rattle.std.proofs.Common.{◌≡◌, ◌∙◌, ℕ, Option, Some, None, ap, subst, sym}
-use Rattle.mig_session.specs.Session.{LoadSession}
+use Rattle.mig_session.specs.Session.{LoadSession, session}
 use Rattle.mig_sources.specs.Faults.{IsSourceValidUpTo}
 use Rattle.mig_session.proofs.Sessions.{as_read, source_read, no_places_read}
 use Rattle.mig_session.proofs.session.Session.valid_up_to.Goals as goal
 
 pub returns-in-Some-clause-stands : goal.returns-in-Some-clause-stands
 returns-in-Some-clause-stands g c = λ given uuid texts stands.
-    let s : LoadSession = record {
-      counts = c.self.inside.counts;
-      places = c.self.inside.places;
-      sources = c.self.inside.sources;
-      target = c.self.inside.target;
-      verdict = c.self.inside.verdict;
-    } in
+    let i = c.self.inside in
+    let s : LoadSession = session i.settings i.uuid i.counts i.places i.sources i.load i.over i.verdict in
     let some : c.args.self.now.places ≡ Some c.in-Some.places = ap (λ (x : LoadSession). x.places) (sym c.self.view_is) ∙ c.in-Some.is in
     as_read given uuid texts c.args.self.now s
     (λ read. IsSourceValidUpTo given uuid read c.args.source c.valid_up_to.result) c.self.view_is c.self.invariant stands

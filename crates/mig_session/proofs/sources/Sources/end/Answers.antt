@@ -1,51 +1,37 @@
-use Rattle.std.proofs.Common.{ℕ, ◌≡◌, ◌∙◌, true, List, length, ap, subst, sym, get_or, slice_get, slice_set, Some}
+use Rattle.std.proofs.Common.{ℕ, ◌≡◌, ◌∙◌, List, length, get_or, slice_get, slice_set, Some, sym, ap, subst, arith}
+use Rattle.std.proofs.lemmas.List.{length-map}
 use Rattle.mig_load_types.specs.Settings.{main_of, channel_of}
-use Rattle.mig_sources.specs.declared.counts.Count.{Count}
 use Rattle.mig_sources.specs.declared.source.Source.{Source}
 use Rattle.mig_sources.specs.declared.source.Source.TheVariants as source
-use Rattle.mig_answer.specs.Texts.{no_text, over}
-use Rattle.mig_session.specs.Sources.{FedChannel, FedSources, counts_of, main_count, Holds, HoldsChannel}
-use Rattle.mig_sources.specs.Sources.{end_step, with_end, HasSource}
-use Rattle.mig_session.proofs.KeptSources.{main_steps, channel_steps, channel_counts_step, there_of}
-use Rattle.mig_sources.proofs.Zips.{zip_at}
+use Rattle.mig_answer.specs.Texts.{Texts, no_text, over}
+use Rattle.mig_session.specs.Scan.{Scan, Scans}
+use Rattle.mig_session.specs.Sources.{FedSources, Holds}
+use Rattle.mig_sources.specs.Sources.{HasSource, count_in, counts_in, end_step}
+use Rattle.mig_session.proofs.FedSources.{channel_steps, channel_scans, channels_long, there_of}
 use Rattle.mig_session.proofs.sources.Sources.end.Goals as goal
 
-pub returns-in-Main-clause-holds : goal.returns-in-Main-clause-holds
-returns-in-Main-clause-holds g c = λ given uuid k texts holds.
-    let old : FedSources = record { main = c.self.inside.main; channels = c.self.inside.channels.items } in
-    let before : Holds given uuid k texts old = subst (λ (s : FedSources). Holds given uuid k texts s) (sym c.self.view_is) holds in
-    subst (λ (x : Source). Holds given uuid k (end_step x texts) (record { main = c.end.new.self; channels = c.self.inside.channels.items })) (sym c.in-Main.is)
-    (main_steps given uuid k over texts old c.end.new.self before (c.end.ensures.holds (main_of given) k texts.main before.main))
+pub index_mut-channel-requires : goal.index_mut-channel-requires
+index_mut-channel-requires g c =
+    let f = c.requires.0 in
+    let s : FedSources = record { main = c.self.inside.main; channels = c.self.inside.channels.items } in
+    let holds : Holds f.given f.uuid f.texts s = subst (λ (x : FedSources). Holds f.given f.uuid f.texts x) (sym c.self.view_is) c.requires.1 in
+    let there : HasSource (counts_in f.texts) (source.Channel c.in-Channel.j) = subst (λ (x : Source). HasSource
+    (counts_in f.texts) x) c.in-Channel.is c.requires.2 in
+    omega (arith, there, length-map f.texts.channels count_in, channels_long f.given f.uuid f.texts s holds)
 
-pub returns-in-Channel-clause-holds : goal.returns-in-Channel-clause-holds
-returns-in-Channel-clause-holds g c = λ given uuid k texts holds.
-    let channels : List FedChannel = c.self.inside.channels.items in
+pub returns-in-Channel : goal.returns-in-Channel
+returns-in-Channel g c = λ given uuid texts holds.
+    let channels : List Scan = c.self.inside.channels.items in
     let j : ℕ = c.in-Channel.j in
-    let q : FedChannel = c.index_mut-channel.result.now in
+    let q : Scan = c.index_mut-channel.result.now in
     let old : FedSources = record { main = c.self.inside.main; channels = channels } in
-    let before : Holds given uuid k texts old = subst (λ (s : FedSources). Holds given uuid k texts s) (sym c.self.view_is) holds in
-    let channel_given = channel_of given uuid (length texts.channels) in
-    let there : slice_get channels j ≡ Some q =
-    there_of channels j q (subst (λ (s : FedSources). HasSource (counts_of s) (source.Channel j)) (sym c.self.view_is)
-    (subst (λ (x : Source). HasSource (counts_of c.args.self.now) x) c.in-Channel.is c.requires))
-    c.index_mut-channel.ensures.value in
-    subst (λ (x : Source). Holds given uuid k (end_step x texts)
+    let f = c.requires.0 in
+    let made : Holds f.given f.uuid f.texts old = subst (λ (x : FedSources). Holds f.given f.uuid f.texts x) (sym c.self.view_is) c.requires.1 in
+    let before : Holds given uuid texts old = subst (λ (x : FedSources). Holds given uuid texts x) (sym c.self.view_is) holds in
+    let here : HasSource (counts_in f.texts) (source.Channel j) = subst (λ (x : Source). HasSource (counts_in f.texts) x) c.in-Channel.is c.requires.2 in
+    let there : slice_get channels j ≡ Some q = there_of f.given f.uuid f.texts old j q made here c.index_mut-channel.ensures.value in
+    subst (λ (x : Source). Holds given uuid (end_step x texts)
     (record { main = c.self.inside.main; channels = slice_set channels j c.end-in-Channel.new.self })) (sym c.in-Channel.is)
-    (channel_steps given uuid k j over texts old c.end-in-Channel.new.self before
-    (c.end-in-Channel.ensures.holds channel_given k (get_or texts.channels j no_text)
-    (zip_at (HoldsChannel channel_given k) texts.channels channels j no_text q before.channels there)))
-
-pub returns-in-Channel-clause-counts : goal.returns-in-Channel-clause-counts
-returns-in-Channel-clause-counts g c =
-    let channels : List FedChannel = c.self.inside.channels.items in
-    let j : ℕ = c.in-Channel.j in
-    let q : FedChannel = c.index_mut-channel.result.now in
-    let old : FedSources = record { main = c.self.inside.main; channels = channels } in
-    let there : slice_get channels j ≡ Some q =
-    there_of channels j q (subst (λ (s : FedSources). HasSource (counts_of s) (source.Channel j)) (sym c.self.view_is)
-    (subst (λ (x : Source). HasSource (counts_of c.args.self.now) x) c.in-Channel.is c.requires))
-    c.index_mut-channel.ensures.value in
-    let stepped = ap (λ (l : List Count). record { main = main_count c.self.inside.main; channels = l })
-    (channel_counts_step channels j q c.end-in-Channel.new.self (λ (n : Count). record n { ended = true }) there c.end-in-Channel.ensures.count) in
-    stepped ∙ ap (λ (s : FedSources). with_end (counts_of s) (source.Channel j)) c.self.view_is
-    ∙ ap (with_end (counts_of c.args.self.now)) (sym c.in-Channel.is)
+    (channel_steps given uuid j over texts old c.end-in-Channel.new.self before
+    (c.end-in-Channel.ensures (channel_of given uuid (length texts.channels)) (get_or texts.channels j no_text)
+    (channel_scans given uuid j texts old q before there)))

@@ -1,9 +1,26 @@
-use Rattle.std.proofs.Common.{false, ap}
+use Rattle.std.proofs.Common.{◌≡◌, ◌∙◌, [], false, sym, ap}
+use Rattle.mig_mem.specs.RamTable.{RamTable}
+use Rattle.mig_mem.specs.Image.{Image, zero_image}
 use Rattle.mig_mem.specs.PlaceSet.{PlaceSet}
-use Rattle.mig_staged.proofs.Staging.{none_staged}
+use Rattle.mig_staged.specs.Staged.{Staging}
+use Rattle.mig_staged.proofs.Staging.{none_staged, closed_staging}
 use Rattle.mig_staged.proofs.staged.Staged.keep.Goals as goal
+
+pub clear_round-requires : goal.clear_round-requires
+clear_round-requires g c = c.self.invariant.are_zeros
+
+pub invariant_of-self : goal.invariant_of-self
+invariant_of-self g c =
+    let i = c.self.inside in
+    let r = c.clear_round.new in
+    let s : Staging = record { kept = g.M.GuestTarget.image c.copy_round.new.memory; apart = r.apart; named = r.named; is_fresh = false } in
+    let same : i.apart.table ≡ s.kept.table = c.self.invariant.same_apart ∙ sym (ap (λ (m : Image). m.table) c.copy_round.ensures) in
+    closed_staging s (c.clear_round.ensures.apart ∙ ap (λ (t : RamTable). zero_image t) same)
+    (c.clear_round.ensures.named ∙ ap (λ (t : RamTable). record { table = t; marked = [] }) (c.self.invariant.are_zeros.same_table ∙ same))
+    (λ yes. absurd cc)
 
 pub returns-clause-image : goal.returns-clause-image
 returns-clause-image g c =
-    none_staged (record { kept = g.M.GuestTarget.image c.copy_round.new.memory; apart = c.self.inside.apart; named = c.clear.new.self; is_fresh = false })
-    c.table-table.ensures.image (ap (λ (s : PlaceSet). s.marked) c.clear.ensures)
+    let r = c.clear_round.new in
+    none_staged (record { kept = g.M.GuestTarget.image c.copy_round.new.memory; apart = r.apart; named = r.named; is_fresh = false })
+    c.table-table.ensures.image (ap (λ (s : PlaceSet). s.marked) c.clear_round.ensures.named)
