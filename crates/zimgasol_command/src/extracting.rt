@@ -4,7 +4,7 @@
 //! is complete and the file is synced to its disk. With `--since` each file begins as a copy of its
 //! block in another folder, and the stream's pages are written over it.
 
-use mig_mem::{Dirty, Place, Table};
+use mig_mem::{Dirty, NoMemory, Place, Table};
 use mig_zero::is_zero;
 use serde_json::{Value, json};
 use std::alloc::{AllocGlobal, Global};
@@ -18,7 +18,9 @@ use zimgasol_files::{
     piece_buffer, read_folder, rename, shown, shown_name, unfit, unwritten, write_at, write_text,
 };
 use zimgasol_output::{put_judgement, put_several_judgement};
-use zimgasol_reading::{PageSink, Several, Survey, is_complete, read_several, read_stream};
+use zimgasol_reading::{
+    GuestSink, PageSink, Several, SinkTrouble, Survey, is_complete, read_several, read_stream,
+};
 
 /// The most bytes of consecutive pages that are written at once.
 const RUN_LEN: usize = 262_144;
@@ -160,7 +162,7 @@ impl<H: Files> Extraction<H> {
 
     // Writes a page to the byte `at` of a file. A page that follows the pages that wait is written
     // with them.
-    fn write_page(&mut self, file: usize, at: u64, page: &[u8]) -> Result<(), Trouble> {
+    fn write_page(&mut self, file: usize, at: u64, page: &[u8]) -> Result<(), SinkTrouble> {
         let follows = self.run.start.saturating_add(self.run.bytes.len() as u64);
         if file != self.run.file || at != follows || self.run.bytes.len() >= RUN_LEN {
             self.write_run()?;
@@ -172,14 +174,14 @@ impl<H: Files> Extraction<H> {
     }
 
     // Writes the pages that wait.
-    fn write_run(&mut self) -> Result<(), Trouble> {
+    fn write_run(&mut self) -> Result<(), SinkTrouble> {
         if self.run.bytes.is_empty() {
             return Ok(());
         }
         if self.run.file < self.files.len() {
             let file = &mut self.files[self.run.file];
             if let Err(error) = write_at(&mut file.file, self.run.start, &self.run.bytes) {
-                return Err(unwritten(self.alloc, &file.partial_path, error));
+                return Err(SinkTrouble::unwritten(self.alloc, &file.partial_path, error));
             }
         }
         self.run.bytes.clear();
@@ -188,7 +190,7 @@ impl<H: Files> Extraction<H> {
 
     // Returns whether a page has to be written: it isn't zeros, or its file may have other bytes
     // there.
-    fn note(&mut self, place: Place, is_zero: bool) -> Result<bool, Trouble> {
+    fn note(&mut self, place: Place, is_zero: bool) -> Result<bool, NoMemory> {
         let Some(written) = &mut self.written else {
             return Ok(false);
         };
@@ -341,7 +343,7 @@ impl<H: Files> Extraction<H> {
     }
 
     // Puts the content of a page: its bytes, or None for a page of zeros.
-    fn put_page(&mut self, place: Place, content: Option<&[u8]>) -> Result<(), Trouble> {
+    fn put_page(&mut self, place: Place, content: Option<&[u8]>) -> Result<(), SinkTrouble> {
         let Some(file) = self.file_of(place.block) else {
             return Ok(());
         };
@@ -361,7 +363,7 @@ impl<H: Files> Extraction<H> {
     }
 }
 
-impl<H: Files> PageSink<H> for Extraction<H> {
+impl<H: Files> GuestSink<H> for Extraction<H> {
     fn begin(&mut self, rt: &H, table: &Table) -> Result<(), Trouble> {
         self.make_folder(rt)?;
         self.is_free(rt, &self.list_path)?;
@@ -377,21 +379,23 @@ impl<H: Files> PageSink<H> for Extraction<H> {
         }
         Ok(())
     }
+}
 
-    fn take_page(&mut self, place: Place, content: Option<&[u8]>) -> Result<(), Trouble> {
+impl<H: Files> PageSink for Extraction<H> {
+    fn take_page(&mut self, place: Place, content: Option<&[u8]>) -> Result<(), SinkTrouble> {
         self.put_page(place, content)
     }
 }
 
 impl<H: Files> Extraction<H> {
     // Writes a page of zeros to the byte `at` of a file.
-    fn write_zeros(&mut self, file: usize, at: u64) -> Result<(), Trouble> {
+    fn write_zeros(&mut self, file: usize, at: u64) -> Result<(), SinkTrouble> {
         self.write_run()?;
         let len = self.page_size.min(self.zeros.len() as u64) as usize;
         if file < self.files.len() {
             let block = &mut self.files[file];
             if let Err(error) = write_at(&mut block.file, at, &self.zeros[..len]) {
-                return Err(unwritten(self.alloc, &block.partial_path, error));
+                return Err(SinkTrouble::unwritten(self.alloc, &block.partial_path, error));
             }
         }
         Ok(())
@@ -483,21 +487,21 @@ fn judge_single<W: Write, E: Write>(
     put_judgement(alloc, output, errors, name, survey, words.talk)
 }
 
-// Reads a main stream and its channels into the files of `extraction`. After an error they are
-// removed.
+// Reads a main stream and its channels into the files of `extraction`, and returns it, too. After
+// an error they are removed.
 fn read_channels<H: AllocGlobal + Files + Clock, R: Read, E: Write>(
     rt: &H,
     words: &StreamWords<'_>,
     channels: &ChannelWords<'_>,
-    extraction: &mut Extraction<H>,
+    extraction: Extraction<H>,
     input: &mut R,
     errors: &mut E,
-) -> Result<Several<H::File>, Trouble> {
-    let read = read_several(rt, words, channels, input, extraction, errors);
+) -> (Result<Several<H::File>, Trouble>, Extraction<H>) {
+    let (read, extraction) = read_several(rt, words, channels, input, extraction, errors);
     if read.is_err() {
         extraction.remove(rt);
     }
-    read
+    (read, extraction)
 }
 
 // Reads a main stream and its channels into the files of `extraction`, and completes or removes
@@ -506,11 +510,19 @@ fn fill_several<H: AllocGlobal + Files + Clock, R: Read, E: Write>(
     rt: &H,
     words: &ExtractWords<'_>,
     channels: &ChannelWords<'_>,
-    extraction: &mut Extraction<H>,
+    extraction: Extraction<H>,
     input: &mut R,
     errors: &mut E,
 ) -> Result<Several<H::File>, Trouble> {
-    let mut several = read_channels(rt, &words.stream, channels, extraction, input, errors)?;
+    let (read, mut extraction) = read_channels(
+        rt,
+        &words.stream,
+        channels,
+        extraction,
+        input,
+        errors,
+    );
+    let mut several = read?;
     several.is_laid_over = words.since.is_some();
     extraction.finish(rt, several.is_complete())?;
     Ok(several)
@@ -524,8 +536,8 @@ fn survey_several<H: AllocGlobal + Files + Clock, R: Read, E: Write>(
     input: &mut R,
     errors: &mut E,
 ) -> Result<Several<H::File>, Trouble> {
-    let mut extraction = extraction_of(rt, words)?;
-    fill_several(rt, words, channels, &mut extraction, input, errors)
+    let extraction = extraction_of(rt, words)?;
+    fill_several(rt, words, channels, extraction, input, errors)
 }
 
 // Prints the verdict on a main stream and its channels. Returns whether all sources are complete;

@@ -265,7 +265,8 @@ fn verify_several<H: AllocGlobal + Files + Clock, R: Read, W: Write, E: Write>(
     output: &mut W,
     errors: &mut E,
 ) -> Result<bool, Trouble> {
-    let several = read_several(rt, words, channels, input, &mut NoSink, errors)?;
+    let (read, _) = read_several(rt, words, channels, input, NoSink, errors);
+    let several = read?;
     put_several_verdict(rt.alloc(), output, errors, name, &several, words.talk)
 }
 
@@ -336,7 +337,8 @@ fn inspect_several<H: AllocGlobal + Files + Clock, R: Read, W: Write, E: Write>(
     output: &mut W,
     errors: &mut E,
 ) -> Result<bool, Trouble> {
-    let several = read_several(rt, words, channels, input, &mut NoSink, errors)?;
+    let (read, _) = read_several(rt, words, channels, input, NoSink, errors);
+    let several = read?;
     list_several(rt.alloc(), listing, &several, output, errors)
 }
 

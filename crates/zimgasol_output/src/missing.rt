@@ -195,16 +195,9 @@ pub(crate) fn put_several_missing<F: Read + OpenFile + Drop, E: Write>(
     name: &str,
     several: &Several<F>,
 ) -> Result<(), Trouble> {
-    let Some(guest) = &several.guest else {
+    let Some(blocks) = &several.blocks else {
         return Ok(());
     };
-    let cause = cause_of_several(several, &guest.blocks);
-    put_lacks(
-        alloc,
-        errors,
-        name,
-        &guest.blocks,
-        several.coverage(),
-        cause,
-    )
+    let cause = cause_of_several(several, blocks);
+    put_lacks(alloc, errors, name, blocks, several.coverage(), cause)
 }

@@ -9,7 +9,7 @@ use std::alloc::{AllocError, Global};
 use std::fs::OpenFile;
 use std::io::{Read, Write};
 use zimgasol_files::Trouble;
-use zimgasol_reading::{Channel, ChannelCounts, Guest, Several, Spot, Within};
+use zimgasol_reading::{Blocks, Channel, ChannelCounts, Several, Spot, Within};
 
 // Puts the file of a channel, and its id.
 fn put_inlet<F: Read + OpenFile + Drop>(
@@ -133,9 +133,9 @@ fn put_spot(alloc: Global, object: &mut Object, spot: Spot) -> Result<(), AllocE
 }
 
 // Returns the JSON of the blocks; an empty list while there is no guest.
-fn guest_value(alloc: Global, guest: &Option<Guest>) -> Result<Value, AllocError> {
-    match guest {
-        Some(guest) => blocks_value(alloc, &guest.blocks),
+fn guest_value(alloc: Global, blocks: &Option<Blocks>) -> Result<Value, AllocError> {
+    match blocks {
+        Some(blocks) => blocks_value(alloc, blocks),
         None => Ok(Value::Array(Vec::new(alloc))),
     }
 }
@@ -179,7 +179,12 @@ fn put_parts<F: Read + OpenFile + Drop>(
 ) -> Result<(), AllocError> {
     put(object, alloc, "notes", notes_value(alloc, several)?)?;
     put(object, alloc, "channels", channels_value(alloc, several)?)?;
-    put(object, alloc, "blocks", guest_value(alloc, &several.guest)?)?;
+    put(
+        object,
+        alloc,
+        "blocks",
+        guest_value(alloc, &several.blocks)?,
+    )?;
     put(object, alloc, "fault", fault_value(alloc, several)?)
 }
 

@@ -12,7 +12,7 @@ use std::alloc::Global;
 use std::fs::OpenFile;
 use std::io::{self, Read, Write};
 use zimgasol_files::{Talk, Trouble};
-use zimgasol_reading::{Channel, ChannelCounts, Guest, Note, Several};
+use zimgasol_reading::{Blocks, Channel, ChannelCounts, Note, Several};
 
 fn output_failed(error: io::Error) -> Trouble {
     Trouble::Output(error)
@@ -46,12 +46,12 @@ fn put_totals<F: Read + OpenFile + Drop, W: Write>(
 }
 
 // Writes how many blocks and bytes a guest has, if there is one.
-fn put_guest<W: Write>(output: &mut W, guest: &Option<Guest>) -> io::Result<()> {
-    let Some(guest) = guest else {
+fn put_guest<W: Write>(output: &mut W, blocks: &Option<Blocks>) -> io::Result<()> {
+    let Some(blocks) = blocks else {
         return Ok(());
     };
-    let count = guest.blocks.table.len();
-    let total = guest.blocks.total();
+    let count = blocks.table.len();
+    let total = blocks.total();
     write!(output, "blocks {count}, memory {total} bytes, ")
 }
 
@@ -68,7 +68,7 @@ fn put_complete<F: Read + OpenFile + Drop, W: Write>(
     several: &Several<F>,
 ) -> io::Result<()> {
     put_totals(output, name, several)?;
-    put_guest(output, &several.guest)?;
+    put_guest(output, &several.blocks)?;
     put_uuid(output, several)?;
     put_end(output, several)
 }
@@ -220,8 +220,8 @@ pub fn put_several_lines<F: Read + OpenFile + Drop, W: Write>(
     for channel in &several.channels {
         put_channel(output, channel).map_err(output_failed)?;
     }
-    if let Some(guest) = &several.guest {
-        put_blocks(alloc, output, &guest.blocks)?;
+    if let Some(blocks) = &several.blocks {
+        put_blocks(alloc, output, blocks)?;
     }
     put_last(output, several).map_err(output_failed)?;
     put_devices(alloc, output, &several.main.ending.devices)?;

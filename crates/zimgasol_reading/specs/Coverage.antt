@@ -21,4 +21,4 @@ IsComplete survey = (survey.state ≡ state.Closed) × HasItsPages survey.is_lai
 
 -- a main stream and its channels
 abbrev pub AreComplete : {F : Type 0} → Several F → Type 0
-AreComplete several = (several.verdict ≡ verdict.Done) × HasItsPages several.is_laid_over several.is_partial (IfSome several.guest (λ guest. IsWhole guest.blocks))
+AreComplete several = (several.verdict ≡ verdict.Done) × HasItsPages several.is_laid_over several.is_partial (IfSome several.blocks IsWhole)

@@ -1,6 +1,6 @@
 //! Counts the page records of each block of a stream, and keeps which pages have one.
 
-ghost use Rattle.std.specs.Prelude.{◌≡◌, ◌↔◌, ◌-◌, ◌<◌, [], IfOk, OnOk, IsTrue};
+ghost use Rattle.std.specs.Prelude.{◌≡◌, ◌↔◌, ◌-◌, ◌*◌, ◌<◌, [], IfOk, OnOk, IfSome, IsTrue};
 ghost use Rattle.mig_mem.specs.Place.{IsPlace};
 ghost use Rattle.mig_mem.specs.PlaceSet.{with_place};
 ghost use Rattle.mig_mem.specs.RamTable.{total_pages};
@@ -126,6 +126,21 @@ impl Blocks {
             self.counts[place.block] = self.counts[place.block].with(is_zero, is_new);
         }
         Ok(())
+    }
+
+    /// Returns the place of the page that begins at the byte `offset` of a block; None if none
+    /// does.
+    pub fn place(&self, block: usize, offset: u64) -> Option<Place>
+        ensures { IfSome result (λ place. (place.block ≡ block) × (place.page * self.now.table.page_size ≡ offset)) }
+    {
+        let size = self.table.page_size();
+        if size == 0 || offset % size != 0 {
+            return None;
+        }
+        Some(Place {
+            block,
+            page: offset / size,
+        })
     }
 
     /// Returns the sum of the blocks' lengths.

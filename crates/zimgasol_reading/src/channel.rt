@@ -2,9 +2,10 @@
 
 ghost use Rattle.std.specs.Prelude.{◌≤◌};
 
-use crate::guest::Guest;
+use crate::blocks::Blocks;
 use crate::lane::Lane;
-use crate::sink::PageSink;
+use crate::load::{Load, Reporting};
+use mig_sources::Source;
 use std::alloc::{AllocGlobal, Global};
 use std::fs::{Files, OpenFile};
 use std::io::Read;
@@ -114,27 +115,31 @@ pub(crate) fn channels_of<F: Read + OpenFile + Drop>(
 }
 
 impl<F: Read + OpenFile + Drop> Channel<F> {
-    /// Reads up to the end of the current round, and passes the pages to `sink`.
+    /// Reads up to the end of the current round, and feeds it to `load` as `source`. Counts the
+    /// pages in `blocks`.
     ///
     /// # Errors
     ///
-    /// `Trouble::OfFile` if a read fails, `Trouble::NoMemory`, and those of `sink`.
-    pub fn read_round<H: Files, S: PageSink<H>>(
+    /// `Trouble::OfFile` if a read fails, `Trouble::NoMemory`, and those of the load's sink.
+    pub(crate) fn read_round<M: Reporting>(
         &mut self,
-        guest: &mut Option<Guest>,
-        sink: &mut S,
+        source: Source,
+        blocks: &mut Option<Blocks>,
+        load: &mut Load<M>,
     ) -> Result<(), Trouble> {
         for _ in 0..u64::MAX {
-            if !self.lane.is_pending() {
+            if !load.takes(source) {
+                return Ok(());
+            }
+            if !self.inlet.file.refill(&mut self.inlet.pieces)? {
+                self.inlet.is_over = true;
+                load.end(source);
                 return Ok(());
             }
             let piece = self.inlet.pieces.waiting();
-            let (taken, needs_more) = self.lane.read(piece, guest, sink)?;
+            let taken = load.feed(source, piece)?;
+            self.lane.count(&piece[..taken], blocks)?;
             self.inlet.pieces.take(taken);
-            if needs_more && !self.inlet.file.refill(&mut self.inlet.pieces)? {
-                self.inlet.is_over = true;
-                self.lane.end();
-            }
         }
         Ok(())
     }

@@ -1,13 +1,10 @@
-//! Reads the bytes of one channel, packet by packet, and counts its packets and pages.
+//! Counts the packets and pages of one channel, as the load takes its bytes. It judges nothing.
 
 ghost use Rattle.std.specs.Prelude.{◌≡◌, ◌+◌, ◌<◌, ◌≤◌, ◌^◌, length};
 
-use crate::guest::Guest;
-use crate::sink::PageSink;
-use mig_answer::{Status, channel_end};
-use mig_packet::{ChannelEvent, PacketHead, PageContent, PageReader};
+use crate::blocks::Blocks;
+use mig_packet::{ChannelEvent, PacketHead, PageReader};
 use std::alloc::Global;
-use std::fs::Files;
 use uuid::Uuid;
 use zimgasol_files::{PageSize, Trouble};
 
@@ -50,20 +47,18 @@ impl ChannelCounts {
     }
 }
 
-/// The reading of one channel.
+/// The counting of one channel.
 #[derive(Drop)]
 pub struct Lane {
     reader: PageReader,
     // the number of the packet that was begun, and the block of its pages
     number: u64,
     block: Option<usize>,
-    // whether the current round is complete
-    is_whole: bool,
     pub counts: ChannelCounts,
 }
 
 impl Lane {
-    /// Creates the reading of one of `channels` channels, whose hello has to name `uuid`.
+    /// Creates the counting of one of `channels` channels, whose hello has to name `uuid`.
     ///
     /// # Errors
     ///
@@ -81,22 +76,8 @@ impl Lane {
             reader,
             number: 0,
             block: None,
-            is_whole: false,
             counts: ChannelCounts::NONE,
         })
-    }
-
-    /// Returns whether more bytes of the current round may follow.
-    pub fn is_pending(&self) -> bool {
-        matches!(self.status(), Status::Pending)
-    }
-
-    /// Returns the channel's status in the current round.
-    pub fn status(&self) -> Status {
-        if self.is_whole {
-            return Status::Whole;
-        }
-        channel_end(self.reader.state())
     }
 
     /// Returns the id that the hello names; None until the hello is complete.
@@ -104,29 +85,18 @@ impl Lane {
         self.reader.hello_id()
     }
 
-    /// Ends the channel: no more bytes follow.
-    pub fn end(&mut self) {
-        self.reader.end();
-    }
-
     /// Begins the next round.
     pub fn advance(&mut self) {
-        self.is_whole = false;
         self.counts.round_start = self.counts.valid;
     }
 
-    /// Reads `piece` up to its end or that of the current round, and passes the pages to `sink`.
-    /// Returns how many bytes were taken, and whether more are needed.
+    /// Counts the packets and pages of `piece`, which the load took. Counts the pages in `blocks`,
+    /// too.
     ///
     /// # Errors
     ///
-    /// `Trouble::NoMemory`, and those of `sink`.
-    pub fn read<H: Files, S: PageSink<H>>(
-        &mut self,
-        piece: &[u8],
-        guest: &mut Option<Guest>,
-        sink: &mut S,
-    ) -> Result<(usize, bool), Trouble> {
+    /// `Trouble::NoMemory`.
+    pub fn count(&mut self, piece: &[u8], blocks: &mut Option<Blocks>) -> Result<(), Trouble> {
         let mut rest = piece;
         for _ in 0..u64::MAX {
             if rest.len() as u64 > u64::MAX - self.reader.fed() {
@@ -135,81 +105,58 @@ impl Lane {
             let (event, taken) = self.reader.read_on(rest);
             rest = &rest[taken..];
             match event {
-                ChannelEvent::More => return Ok((piece.len().saturating_sub(rest.len()), true)),
-                ChannelEvent::Over => break,
+                ChannelEvent::More | ChannelEvent::Over => break,
                 ChannelEvent::Hello(_) => self.counts.valid = self.reader.fed(),
-                ChannelEvent::Head => self.begin_packet(guest, sink)?,
-                ChannelEvent::Page(offset, content) => self.put_page(offset, content, guest, sink)?,
-                ChannelEvent::Packet(sync) => {
-                    self.end_packet(sync);
-                    if sync {
-                        break;
-                    }
-                }
+                ChannelEvent::Head => self.begin_packet(blocks)?,
+                ChannelEvent::Page(offset, _) => self.count_page(offset, blocks)?,
+                ChannelEvent::Packet(_) => self.end_packet(),
             }
         }
-        Ok((piece.len().saturating_sub(rest.len()), false))
+        Ok(())
     }
 
-    // Adds the packet whose head was read to the current round, with its pages of zeros.
-    fn begin_packet<H: Files, S: PageSink<H>>(
-        &mut self,
-        guest: &mut Option<Guest>,
-        sink: &mut S,
-    ) -> Result<(), Trouble> {
+    // Begins the packet whose head was read, and counts its pages of zeros.
+    fn begin_packet(&mut self, blocks: &mut Option<Blocks>) -> Result<(), Trouble> {
         let Some(head) = self.reader.head() else {
             return Ok(());
         };
         self.number = head.number();
         self.counts.zeros = self.counts.zeros.saturating_add(head.zero_len() as u64);
-        let Some(guest) = guest else {
+        let Some(blocks) = blocks else {
             return Ok(());
         };
-        guest.packet(&head)?;
-        self.block = guest.blocks.table.find(head.id());
+        self.block = blocks.table.find(head.id());
         match self.block {
-            Some(block) => put_zeros(&head, block, guest, sink),
+            Some(block) => count_zeros(&head, block, blocks),
             None => Ok(()),
         }
     }
 
-    // Passes a page of the packet that was begun to `sink`.
-    fn put_page<H: Files, S: PageSink<H>>(
-        &mut self,
-        offset: u64,
-        content: PageContent<'_>,
-        guest: &mut Option<Guest>,
-        sink: &mut S,
-    ) -> Result<(), Trouble> {
+    // Counts a page of the packet that was begun.
+    fn count_page(&mut self, offset: u64, blocks: &mut Option<Blocks>) -> Result<(), Trouble> {
         self.counts.pages = self.counts.pages.saturating_add(1);
-        let (Some(guest), Some(block)) = (guest, self.block) else {
+        let (Some(blocks), Some(block)) = (blocks, self.block) else {
             return Ok(());
         };
-        match guest.place(block, offset) {
-            Some(place) => guest.pass_page(place, Some(self.reader.content(content)), sink),
+        match blocks.place(block, offset) {
+            Some(place) => blocks.count(place, false),
             None => Ok(()),
         }
     }
 
     // Ends the packet that was begun.
-    fn end_packet(&mut self, sync: bool) {
+    fn end_packet(&mut self) {
         self.block = None;
-        self.is_whole = sync;
         self.counts.add(self.number, self.reader.fed());
     }
 }
 
-// Passes the pages of zeros of a packet of a block to `sink`.
-fn put_zeros<H: Files, S: PageSink<H>>(
-    head: &PacketHead<'_>,
-    block: usize,
-    guest: &mut Guest,
-    sink: &mut S,
-) -> Result<(), Trouble> {
+// Counts the pages of zeros of a packet of a block.
+fn count_zeros(head: &PacketHead<'_>, block: usize, blocks: &mut Blocks) -> Result<(), Trouble> {
     let normal = head.normal_len();
     for i in normal..normal.saturating_add(head.zero_len()) {
-        if let Some(place) = guest.place(block, head.offset(i)) {
-            guest.pass_page(place, None, sink)?;
+        if let Some(place) = blocks.place(block, head.offset(i)) {
+            blocks.count(place, true)?;
         }
     }
     Ok(())

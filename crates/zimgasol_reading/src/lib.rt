@@ -8,7 +8,8 @@
 //! | Modules | What they do |
 //! |---|---|
 //! | `survey`, `libvirt`, `heads`, `place` | read a single stream, and locate its fault |
-//! | `several`, `main_stream`, `channel`, `lane`, `guest`, `several_place` | the same of channels |
+//! | `several`, `main_stream`, `channel`, `lane`, `several_place` | the same of channels |
+//! | `load`, `passing`, `shadow` | load the channels, and pass the pages on |
 //! | `notes` | notes what is between RAM's sections |
 //! | `tail`, `description` | check what follows RAM, and list the devices |
 //! | `blocks` | counts the page records of each block, and the pages without any |
@@ -18,15 +19,17 @@
 mod blocks;
 mod channel;
 mod description;
-mod guest;
 mod heads;
 mod lane;
 mod libvirt;
+mod load;
 mod main_stream;
 mod notes;
+mod passing;
 mod place;
 mod several;
 mod several_place;
+mod shadow;
 mod sink;
 mod survey;
 mod tail;
@@ -34,15 +37,15 @@ mod tail;
 pub use blocks::{Blocks, Coverage, PageCounts};
 pub use channel::{Channel, Inlet};
 pub use description::Device;
-pub use guest::Guest;
 pub use heads::{Head, section_id, section_name};
 pub use lane::{ChannelCounts, Lane};
 pub use libvirt::LibvirtHeader;
+pub use load::{Load, Reporting};
 pub use main_stream::MainStream;
 pub use notes::{Note, Noted, Notes, SectionKind};
 pub use place::{FaultPlace, block_at, fault_of, is_complete, kind_name};
 pub use several::{Several, read_several};
 pub use several_place::{Spot, Within};
-pub use sink::{NoSink, PageSink};
+pub use sink::{GuestSink, NoSink, PageSink, SinkTrouble};
 pub use survey::{Survey, read_stream};
 pub use tail::{Ending, Tail, TailFault};

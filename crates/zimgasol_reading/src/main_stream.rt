@@ -1,16 +1,18 @@
-//! Reads a main stream that has channels, round by round.
+//! Reads a main stream that has channels, round by round. It feeds the bytes to the load, and reads
+//! them itself for what a person wants to know beside.
 
 ghost use Rattle.std.specs.Prelude.{◌≡◌, ◌+◌, ◌<◌, ◌≤◌, ◌^◌, length};
 
-use crate::guest::Guest;
+use crate::blocks::Blocks;
 use crate::heads::Head;
+use crate::load::{Load, Reporting};
 use crate::notes::{Note, Notes, SectionKind};
-use crate::sink::PageSink;
 use crate::tail::{Ending, Tail};
-use mig_answer::{Status, stream_end};
+use mig_mem::Table;
+use mig_sources::Source;
 use mig_stream::{Mode, Report, StreamReader, StreamState};
-use std::alloc::{AllocGlobal, Global};
-use std::fs::{Files, Metadata};
+use std::alloc::Global;
+use std::fs::Metadata;
 use std::io::Read;
 use zimgasol_files::{Pieces, StreamWords, Trouble};
 
@@ -24,8 +26,8 @@ pub struct MainStream {
     notes: Notes,
     // the first bytes of the item that isn't complete, or has the fault
     head: Head,
-    // whether the current round is complete
-    is_whole: bool,
+    // the bytes that were read before there was a load
+    held: Vec<u8>,
     /// What is known of the bytes after RAM, once the input's end was reached.
     pub ending: Ending,
     // the bytes after RAM
@@ -52,7 +54,7 @@ impl MainStream {
             report: Report::new(alloc),
             notes: Notes::new(alloc),
             head: Head::new(alloc),
-            is_whole: false,
+            held: Vec::new(alloc),
             ending: Ending::unchecked(),
             tail: Tail::new(alloc, words.checks_tail()),
             is_over: false,
@@ -67,32 +69,66 @@ impl MainStream {
         }
     }
 
-    /// Reads up to the end of the current round. Creates the guest once the table is known, and
-    /// passes the pages to `sink`.
+    /// Reads up to the end of the size list, to a fault or to the input's end. Holds the bytes for
+    /// the load.
     ///
     /// # Errors
     ///
-    /// `Trouble::Unread` if a read fails, `Trouble::NoMemory`, and those of `sink`.
-    pub fn read_round<H: AllocGlobal + Files, R: Read, S: PageSink<H>>(
-        &mut self,
-        rt: &H,
-        input: &mut R,
-        guest: &mut Option<Guest>,
-        sink: &mut S,
-    ) -> Result<(), Trouble> {
+    /// `Trouble::Unread` if a read fails, `Trouble::NoMemory`.
+    pub(crate) fn read_head<R: Read>(&mut self, input: &mut R) -> Result<(), Trouble> {
         for _ in 0..u64::MAX {
-            self.begin(rt, guest, sink)?;
-            if self.take_round(guest, sink)? || !self.is_reading() {
+            if self.table().is_some() || !self.is_reading() {
                 return Ok(());
             }
-            if self.pieces.refill(input)? {
-                self.feed()?;
-            } else {
-                self.is_over = true;
-                self.reader.end();
+            if self.refill(input)? {
+                self.held.extend_from_slice(self.pieces.waiting())?;
             }
         }
         Ok(())
+    }
+
+    /// Returns the table, once the size list is complete.
+    pub(crate) fn table(&self) -> Option<&Table> {
+        self.reader.table()
+    }
+
+    /// Feeds `load` the bytes that were read before it.
+    ///
+    /// # Errors
+    ///
+    /// `Trouble::NoMemory`, and those of the load's sink.
+    pub(crate) fn begin<M: Reporting>(&mut self, load: &mut Load<M>) -> Result<(), Trouble> {
+        load.feed(Source::Main, &self.held)?;
+        self.held = Vec::new(*self.held.allocator());
+        if self.is_over {
+            load.end(Source::Main);
+        }
+        Ok(())
+    }
+
+    /// Reads up to the end of the current round, and feeds it to `load`. Counts the records in
+    /// `blocks`.
+    ///
+    /// # Errors
+    ///
+    /// `Trouble::Unread` if a read fails, `Trouble::NoMemory`, and those of the load's sink.
+    pub(crate) fn read_round<R: Read, M: Reporting>(
+        &mut self,
+        input: &mut R,
+        blocks: &mut Option<Blocks>,
+        load: &mut Load<M>,
+    ) -> Result<(), Trouble> {
+        for _ in 0..u64::MAX {
+            if !load.takes(Source::Main) {
+                break;
+            }
+            if self.refill(input)? {
+                load.feed(Source::Main, self.pieces.waiting())?;
+            } else {
+                load.end(Source::Main);
+            }
+        }
+        self.count_round(blocks)
     }
 
     // Returns whether the stream continues.
@@ -100,8 +136,20 @@ impl MainStream {
         matches!(self.reader.state(), StreamState::Reading)
     }
 
-    // Feeds the piece that waits.
-    fn feed(&mut self) -> Result<(), Trouble> {
+    // Reads the next piece. Returns false, and ends the stream, if there is none.
+    fn refill<R: Read>(&mut self, input: &mut R) -> Result<bool, Trouble> {
+        self.pieces.take_all();
+        if self.pieces.refill(input)? {
+            self.look()?;
+            return Ok(true);
+        }
+        self.is_over = true;
+        self.reader.end();
+        Ok(false)
+    }
+
+    // Looks at the piece that was read.
+    fn look(&mut self) -> Result<(), Trouble> {
         let piece = self.pieces.waiting();
         let fed = self.reader.fed();
         if self.reader.ended() || piece.len() as u64 > u64::MAX - fed {
@@ -114,44 +162,22 @@ impl MainStream {
             let from = self.reader.valid_up_to().saturating_sub(fed);
             self.tail.look(piece.get(from as usize..).unwrap_or(&[]))?;
         }
-        self.pieces.take_all();
         Ok(())
     }
 
-    // Creates the guest, once the table is known.
-    fn begin<H: AllocGlobal + Files, S: PageSink<H>>(
-        &self,
-        rt: &H,
-        guest: &mut Option<Guest>,
-        sink: &mut S,
-    ) -> Result<(), Trouble> {
-        if guest.is_some() {
+    // Counts the records of the current round, if it is complete.
+    fn count_round(&mut self, blocks: &mut Option<Blocks>) -> Result<(), Trouble> {
+        let Some(blocks) = blocks else {
             return Ok(());
-        }
-        if let Some(table) = self.reader.table() {
-            sink.begin(rt, table)?;
-            *guest = Some(Guest::new(rt.alloc(), table)?);
+        };
+        let Some(round) = self.reader.take_round()? else {
+            return Ok(());
+        };
+        for i in 0..round.len() {
+            let (place, content) = round.record(i);
+            blocks.count(place, content.is_none())?;
         }
         Ok(())
-    }
-
-    // Takes the records of the current round, if it is complete. Returns whether it is.
-    fn take_round<H: Files, S: PageSink<H>>(
-        &mut self,
-        guest: &mut Option<Guest>,
-        sink: &mut S,
-    ) -> Result<bool, Trouble> {
-        let Some(guest) = guest else {
-            return Ok(false);
-        };
-        match self.reader.take_round()? {
-            Some(round) => {
-                self.is_whole = true;
-                guest.records(&round, sink)?;
-                Ok(true)
-            }
-            None => Ok(false),
-        }
     }
 
     /// Reads the rest of `input`, the bytes after RAM.
@@ -170,19 +196,6 @@ impl MainStream {
         self.is_over = true;
         self.ending = self.tail.ending()?;
         Ok(())
-    }
-
-    /// Returns the main stream's status in the current round.
-    pub fn status(&self) -> Status {
-        if self.is_whole {
-            return Status::Whole;
-        }
-        stream_end(self.reader.state())
-    }
-
-    /// Begins the next round.
-    pub fn advance(&mut self) {
-        self.is_whole = false;
     }
 
     /// Returns the items between the sections that were read.

@@ -1,29 +1,32 @@
 //! Reads a main stream and its channels, round by round: each source up to the end of the round.
 //! Passes each page on as it is read.
 //!
-//! No page is kept, only a bit for each page, and the number of each packet of the current round.
-//! The verdict on the sources' statuses is that of `sources_verdict` (`mig_answer`), the verdict on
-//! a complete round that of `Arrivals::judge` (`mig_assemble`).
+//! No page is kept, only bits for each page, and the number of each packet of the current round.
+//! The verdict is that of the library's load (`mig_in_place`), which is fed all bytes.
 
-ghost use Rattle.std.specs.Prelude.{◌≡◌, ◌↔◌, ◌≤◌, Some, IsNone, IfSome, IsTrue};
+ghost use Rattle.std.specs.Prelude.{◌≡◌, ◌↔◌, ◌≤◌, Some, IsNone, IfSome, IfOk, IsTrue};
 ghost use Rattle.mig_load_types.specs.declared.fault.LoadFault.{LoadFault};
 ghost use Rattle.mig_answer.specs.declared.verdict.Verdict.TheVariants as verdict;
 ghost use Rattle.zimgasol_reading.specs.Coverage.{IsWhole, HasItsPages, AreComplete};
 
-use crate::blocks::Coverage;
+use crate::blocks::{Blocks, Coverage};
 use crate::channel::{Channel, channels_of, hello_uuid, open_inlets};
-use crate::guest::Guest;
+use crate::load::{Load, Reporting, judge_of};
 use crate::main_stream::MainStream;
-use crate::sink::PageSink;
-use mig_answer::{Verdict, repeated_id, sources_verdict};
+use crate::passing::Passing;
+use crate::sink::GuestSink;
+use mig_answer::Verdict;
+use mig_in_place::InPlaceSession;
 use mig_load_types::{Fault, LoadFault, Origin};
+use mig_mem::Table;
+use mig_sources::Source;
 use mig_stream::Frame;
 use std::alloc::{AllocGlobal, Global};
 use std::fs::{File, Files, Metadata, OpenFile};
 use std::io::{Read, Write};
 use std::rt::Clock;
 use uuid::Uuid;
-use zimgasol_files::{ChannelWords, StreamWords, Trouble, Watch, wanted_uuid};
+use zimgasol_files::{ChannelWords, PageSize, StreamWords, Trouble, Watch, wanted_uuid};
 
 /// The survey of a main stream and its channels.
 #[derive(Drop)]
@@ -35,12 +38,10 @@ pub struct Several<F: Drop> {
     pub uuid: Uuid,
     pub main: MainStream,
     pub channels: Vec<Channel<F>>,
-    /// The guest, once the size list is complete.
-    pub guest: Option<Guest>,
+    /// The blocks and their records, once the size list is complete.
+    pub blocks: Option<Blocks>,
     /// The complete rounds.
     pub rounds: u64,
-    // the packets of the complete rounds
-    base: u64,
     pub verdict: Verdict,
     /// Whether it is applied to existing memory, so that it needn't have a record of each page.
     pub is_laid_over: bool,
@@ -68,9 +69,8 @@ fn opened<H: AllocGlobal + Files>(
         uuid,
         main: MainStream::new(alloc, words)?,
         channels: channels_of(alloc, inlets, words.page_size, uuid)?,
-        guest: None,
+        blocks: None,
         rounds: 0,
-        base: 0,
         verdict: Verdict::Running,
         is_laid_over: false,
         is_partial: words.partial,
@@ -96,21 +96,21 @@ impl<F: Read + OpenFile + Drop> Several<F> {
 
     /// Returns whether each page has a record or needn't have one, after the sources were read.
     pub fn has_its_pages(&self) -> bool
-        ensures { IsTrue result ↔ HasItsPages self.now.is_laid_over self.now.is_partial (IfSome self.now.guest (λ guest. IsWhole guest.blocks)) }
+        ensures { IsTrue result ↔ HasItsPages self.now.is_laid_over self.now.is_partial (IfSome self.now.blocks IsWhole) }
     {
         if self.is_laid_over || self.is_partial {
             return true;
         }
-        match &self.guest {
-            Some(guest) => guest.blocks.is_whole(),
+        match &self.blocks {
+            Some(blocks) => blocks.is_whole(),
             None => true,
         }
     }
 
     /// Returns how much of the memory the sources have, after they were read.
     pub fn coverage(&self) -> Coverage {
-        match &self.guest {
-            Some(guest) if !self.is_laid_over => guest.blocks.coverage(self.is_partial),
+        match &self.blocks {
+            Some(blocks) if !self.is_laid_over => blocks.coverage(self.is_partial),
             _ => Coverage::Whole,
         }
     }
@@ -164,124 +164,179 @@ impl<F: Read + OpenFile + Drop> Several<F> {
     }
 
     // Reads all sources, round by round, up to the verdict. Reads the rest of the main stream,
-    // unless there is a fault.
-    fn read<H: AllocGlobal + Files + Clock, R: Read, S: PageSink<H>, E: Write>(
+    // unless there is a fault. Returns the sink, too.
+    fn read<H: AllocGlobal + Files + Clock, R: Read, S: GuestSink<H> + Drop, E: Write>(
+        &mut self,
+        rt: &H,
+        words: &StreamWords<'_>,
+        input: &mut R,
+        sink: S,
+        watch: &mut Watch,
+        errors: &mut E,
+    ) -> (Result<(), Trouble>, S) {
+        let mut sink = sink;
+        let (judge, table) = match self.begin(rt, words, input, &mut sink) {
+            Ok(begun) => begun,
+            Err(trouble) => return (Err(trouble), sink),
+        };
+        let mut load = Load::new(judge, Passing::new(table, sink));
+        let read = self.load(rt, input, &mut load, watch, errors);
+        (read, load.into_memory().into_sink())
+    }
+
+    // Reads the main stream up to its table. Begins the guest, if the table is known. Returns the
+    // judge of the load, and its table: that one, or one that nothing is written by.
+    fn begin<H: AllocGlobal + Files, R: Read, S: GuestSink<H>>(
+        &mut self,
+        rt: &H,
+        words: &StreamWords<'_>,
+        input: &mut R,
+        sink: &mut S,
+    ) -> Result<(InPlaceSession, Table), Trouble>
+        ensures { IfOk result (λ begun. begun.0.table ≡ begun.1) }
+    {
+        self.main.read_head(input)?;
+        let table = match self.main.table() {
+            Some(table) => {
+                sink.begin(rt, table)?;
+                self.blocks = Some(Blocks::new(self.alloc, table.try_copy()?)?);
+                table.try_copy()?
+            }
+            None => one_page(self.alloc, words.page_size)?,
+        };
+        let judge = judge_of(self.alloc, words, &table, self.uuid, self.channels.len())?;
+        Ok((judge, table))
+    }
+
+    // Loads all sources by `load`, as `read`.
+    fn load<H: AllocGlobal + Files + Clock, R: Read, M: Reporting, E: Write>(
         &mut self,
         rt: &H,
         input: &mut R,
-        sink: &mut S,
+        load: &mut Load<M>,
         watch: &mut Watch,
         errors: &mut E,
     ) -> Result<(), Trouble> {
-        for _ in 0..u64::MAX {
-            self.main.read_round(rt, input, &mut self.guest, sink)?;
-            for channel in &mut self.channels {
-                channel.read_round(&mut self.guest, sink)?;
-            }
-            watch.show(rt, errors, self.read_len());
-            if let Some(verdict) = self.verdict_so_far()? {
-                self.verdict = verdict;
-                break;
-            }
-            self.advance();
-        }
+        self.main.begin(load)?;
+        self.read_rounds(rt, input, load, watch, errors)?;
+        self.rounds = load.rounds();
+        self.verdict = load.verdict();
         if self.fault().is_some() {
             return Ok(());
         }
         self.main.read_rest(input)
     }
 
-    // Returns the verdict of the round that all sources were read to; None if they continue.
-    fn verdict_so_far(&mut self) -> Result<Option<Verdict>, Trouble> {
-        let mut statuses = Vec::new(self.alloc);
-        let mut hellos = Vec::new(self.alloc);
-        for channel in &self.channels {
-            statuses.push(channel.lane.status())?;
-            hellos.push(channel.lane.hello())?;
+    // Reads all sources, round by round, up to the verdict of `load`.
+    fn read_rounds<H: AllocGlobal + Files + Clock, R: Read, M: Reporting, E: Write>(
+        &mut self,
+        rt: &H,
+        input: &mut R,
+        load: &mut Load<M>,
+        watch: &mut Watch,
+        errors: &mut E,
+    ) -> Result<(), Trouble> {
+        for _ in 0..u64::MAX {
+            self.main.read_round(input, &mut self.blocks, load)?;
+            self.read_channels(load)?;
+            watch.show(rt, errors, self.read_len());
+            if load.verdict() != Verdict::Running {
+                break;
+            }
+            self.advance(load);
         }
-        let repeated = repeated_id(&hellos);
-        let main = self.main.status();
-        match sources_verdict(self.rounds, main, &statuses, repeated) {
-            Some(verdict) => Ok(Some(verdict)),
-            None => self.judged(),
-        }
+        Ok(())
     }
 
-    // Judges the current round, which all sources have. Returns its fault; None if it has none.
-    fn judged(&mut self) -> Result<Option<Verdict>, Trouble> {
-        let Some(guest) = &mut self.guest else {
-            return Err(Trouble::NoMemory);
-        };
-        let Some(fault) = guest.judge(self.base)? else {
-            return Ok(None);
-        };
-        Ok(Some(Verdict::Failed(LoadFault {
-            round: self.rounds,
-            source: Origin::Round,
-            fault: Fault::Round(fault),
-        })))
+    // Reads each channel up to the end of the current round.
+    fn read_channels<M: Reporting>(&mut self, load: &mut Load<M>) -> Result<(), Trouble> {
+        for i in 0..self.channels.len() {
+            let Some(channel) = self.channels.get_mut(i) else {
+                break;
+            };
+            channel.read_round(Source::Channel(i), &mut self.blocks, load)?;
+        }
+        Ok(())
     }
 
     // Begins the next round.
-    fn advance(&mut self) {
-        self.rounds = self.rounds.saturating_add(1);
-        if let Some(guest) = &mut self.guest {
-            self.base = self.base.saturating_add(guest.packets());
-            guest.clear();
-        }
-        self.main.advance();
+    fn advance<M: Reporting>(&mut self, load: &mut Load<M>) {
+        load.advance();
         for channel in &mut self.channels {
             channel.lane.advance();
         }
     }
 }
 
-// Reads all sources of `several`, the main stream from the file `name`.
-fn read_named<H: AllocGlobal + Files + Clock, S: PageSink<H>, E: Write>(
-    rt: &H,
-    name: &str,
-    several: &mut Several<H::File>,
-    sink: &mut S,
-    watch: &mut Watch,
-    errors: &mut E,
-) -> Result<(), Trouble> {
-    let mut file = File::open(rt, name).map_err(Trouble::Unread)?;
-    several.expect_file(&file, watch);
-    several.read(rt, &mut file, sink, watch, errors)
+// Returns a table of one page, for the load of a stream that names none.
+fn one_page(alloc: Global, page_size: PageSize) -> Result<Table, Trouble> {
+    let mut list = Vec::new(alloc);
+    list.push((b"none".to_vec(alloc)?, 1))?;
+    match Table::new(alloc, page_size.bytes(), list) {
+        Ok(table) => Ok(table),
+        Err(_) => Err(Trouble::NoMemory),
+    }
 }
 
-// Reads all sources of `several`, the main stream from its file or from `input`.
-fn read_sources<H: AllocGlobal + Files + Clock, R: Read, S: PageSink<H>, E: Write>(
+// Reads all sources of `several`, the main stream from its file. Returns the sink, too.
+fn read_named<H: AllocGlobal + Files + Clock, S: GuestSink<H> + Drop, E: Write>(
+    rt: &H,
+    words: &StreamWords<'_>,
+    several: &mut Several<H::File>,
+    sink: S,
+    watch: &mut Watch,
+    errors: &mut E,
+) -> (Result<(), Trouble>, S) {
+    let mut file = match File::open(rt, words.file) {
+        Ok(file) => file,
+        Err(error) => return (Err(Trouble::Unread(error)), sink),
+    };
+    several.expect_file(&file, watch);
+    several.read(rt, words, &mut file, sink, watch, errors)
+}
+
+// Reads all sources of `several`, the main stream from its file or from `input`. Returns the sink,
+// too.
+fn read_sources<H: AllocGlobal + Files + Clock, R: Read, S: GuestSink<H> + Drop, E: Write>(
     rt: &H,
     words: &StreamWords<'_>,
     several: &mut Several<H::File>,
     input: &mut R,
-    sink: &mut S,
+    sink: S,
     errors: &mut E,
-) -> Result<(), Trouble> {
-    let mut watch = Watch::new(rt, rt.alloc(), words.talk, words.file)?;
+) -> (Result<(), Trouble>, S) {
+    let mut watch = match Watch::new(rt, rt.alloc(), words.talk, words.file) {
+        Ok(watch) => watch,
+        Err(error) => return (Err(error.into()), sink),
+    };
     if words.file == "-" {
-        return several.read(rt, input, sink, &mut watch, errors);
+        return several.read(rt, words, input, sink, &mut watch, errors);
     }
-    read_named(rt, words.file, several, sink, &mut watch, errors)
+    read_named(rt, words, several, sink, &mut watch, errors)
 }
 
 /// Reads a main stream, from its file or from `input`, and its channels from their files. Passes
-/// the pages to `sink`. A fault isn't an error: the survey that it returns has it.
+/// the pages to `sink`, and returns it. A fault isn't an error: the survey that it returns has it.
 ///
 /// # Errors
 ///
 /// `Trouble::Words` for wrong arguments, `Trouble::Unread` and `Trouble::OfFile` if a file can't be
 /// opened or read, `Trouble::NoMemory`, and those of `sink`.
-pub fn read_several<H: AllocGlobal + Files + Clock, R: Read, S: PageSink<H>, E: Write>(
+pub fn read_several<H: AllocGlobal + Files + Clock, R: Read, S: GuestSink<H> + Drop, E: Write>(
     rt: &H,
     words: &StreamWords<'_>,
     channels: &ChannelWords<'_>,
     input: &mut R,
-    sink: &mut S,
+    sink: S,
     errors: &mut E,
-) -> Result<Several<H::File>, Trouble> {
-    let mut several = opened(rt, words, channels)?;
-    read_sources(rt, words, &mut several, input, sink, errors)?;
-    Ok(several)
+) -> (Result<Several<H::File>, Trouble>, S) {
+    let mut several = match opened(rt, words, channels) {
+        Ok(several) => several,
+        Err(trouble) => return (Err(trouble), sink),
+    };
+    let (read, sink) = read_sources(rt, words, &mut several, input, sink, errors);
+    match read {
+        Ok(()) => (Ok(several), sink),
+        Err(trouble) => (Err(trouble), sink),
+    }
 }

@@ -120,9 +120,9 @@ impl<F: Read + OpenFile + Drop> Several<F> {
         let Fault::Round(RoundFault::DoublePage(place)) = fault.fault else {
             return Ok(None);
         };
-        match &self.guest {
-            Some(guest) if place.block < guest.blocks.table.len() => {
-                Ok(Some(shown(alloc, guest.blocks.table.id(place.block))?))
+        match &self.blocks {
+            Some(blocks) if place.block < blocks.table.len() => {
+                Ok(Some(shown(alloc, blocks.table.id(place.block))?))
             }
             _ => Ok(None),
         }

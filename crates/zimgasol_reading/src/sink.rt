@@ -1,28 +1,83 @@
-//! The trait of a sink, which takes the pages of a stream as they are read.
+//! The traits of a sink, which takes the pages of a stream as they are read.
 
-use mig_mem::{Place, Table};
+use mig_mem::{NoMemory, Place, Table};
+use std::alloc::{AllocError, Global};
 use std::fs::Files;
-use zimgasol_files::Trouble;
+use std::io;
+use zimgasol_files::{Trouble, shown_name};
+
+/// Why a sink doesn't take a page.
+#[derive(Drop)]
+pub enum SinkTrouble {
+    /// An allocation was refused.
+    NoMemory,
+    /// A file of this name can't be written. The name is as it is printed.
+    OfFile(String, io::Error),
+}
+
+impl SinkTrouble {
+    /// Returns the trouble of the file `path`, which can't be written.
+    pub fn unwritten(alloc: Global, path: &str, error: io::Error) -> SinkTrouble {
+        match shown_name(alloc, path) {
+            Ok(path) => SinkTrouble::OfFile(path, error),
+            Err(_) => SinkTrouble::NoMemory,
+        }
+    }
+}
+
+impl From<AllocError> for SinkTrouble {
+    fn from(_: AllocError) -> SinkTrouble {
+        SinkTrouble::NoMemory
+    }
+}
+
+impl From<NoMemory> for SinkTrouble {
+    fn from(_: NoMemory) -> SinkTrouble {
+        SinkTrouble::NoMemory
+    }
+}
+
+impl From<SinkTrouble> for Trouble {
+    fn from(trouble: SinkTrouble) -> Trouble {
+        match trouble {
+            SinkTrouble::NoMemory => Trouble::NoMemory,
+            SinkTrouble::OfFile(name, error) => Trouble::OfFile(name, error),
+        }
+    }
+}
 
 /// Takes the pages of a stream, in the order of its records.
-pub trait PageSink<H: Files> {
-    /// Takes the stream's table, once, before the first page.
-    fn begin(&mut self, rt: &H, table: &Table) -> Result<(), Trouble>;
-
+pub trait PageSink {
     /// Takes the content of a page from its record: its bytes, or None for a page of zeros.
-    fn take_page(&mut self, place: Place, content: Option<&[u8]>) -> Result<(), Trouble>;
+    ///
+    /// # Errors
+    ///
+    /// The trouble that the sink had.
+    fn take_page(&mut self, place: Place, content: Option<&[u8]>) -> Result<(), SinkTrouble>;
+}
+
+/// A sink that takes the stream's table first.
+pub trait GuestSink<H: Files>: PageSink {
+    /// Takes the stream's table, once, before the first page.
+    ///
+    /// # Errors
+    ///
+    /// The trouble that the sink had.
+    fn begin(&mut self, rt: &H, table: &Table) -> Result<(), Trouble>;
 }
 
 /// Takes pages, and drops them.
 #[derive(Drop)]
 pub struct NoSink;
 
-impl<H: Files> PageSink<H> for NoSink {
-    fn begin(&mut self, _rt: &H, _table: &Table) -> Result<(), Trouble> {
+impl PageSink for NoSink {
+    fn take_page(&mut self, _place: Place, _content: Option<&[u8]>) -> Result<(), SinkTrouble> {
         Ok(())
     }
+}
 
-    fn take_page(&mut self, _place: Place, _content: Option<&[u8]>) -> Result<(), Trouble> {
+impl<H: Files> GuestSink<H> for NoSink {
+    fn begin(&mut self, _rt: &H, _table: &Table) -> Result<(), Trouble> {
         Ok(())
     }
 }

@@ -9,7 +9,7 @@ use crate::blocks::{Blocks, Coverage};
 use crate::heads::Head;
 use crate::libvirt::{LibvirtHeader, header_of};
 use crate::notes::Notes;
-use crate::sink::PageSink;
+use crate::sink::GuestSink;
 use crate::tail::{Ending, Tail};
 use mig_mem::Place;
 use mig_stream::{Frame, Pause, RecordEvent, RecordReader, Report, StreamState};
@@ -147,7 +147,7 @@ impl Survey {
     ///
     /// `Trouble::Unread` if a read fails, `Trouble::Libvirt` and `Trouble::Packed` of libvirt's
     /// header, `Trouble::NoMemory`, and those of `sink`.
-    pub fn read<H: AllocGlobal + Files + Clock, R: Read, S: PageSink<H>, E: Write>(
+    pub fn read<H: AllocGlobal + Files + Clock, R: Read, S: GuestSink<H>, E: Write>(
         &mut self,
         rt: &H,
         input: &mut R,
@@ -185,7 +185,7 @@ impl Survey {
     }
 
     // Reads the next piece of the stream.
-    fn feed<H: AllocGlobal + Files, S: PageSink<H>>(
+    fn feed<H: AllocGlobal + Files, S: GuestSink<H>>(
         &mut self,
         rt: &H,
         piece: &[u8],
@@ -213,7 +213,7 @@ impl Survey {
     }
 
     // Reads `piece`, which begins at the stream's byte `start`, by `reader`.
-    fn read_by<H: AllocGlobal + Files, S: PageSink<H>>(
+    fn read_by<H: AllocGlobal + Files, S: GuestSink<H>>(
         &mut self,
         rt: &H,
         mut reader: RecordReader<'_>,
@@ -235,7 +235,7 @@ impl Survey {
 
     // Takes all records that `reader` returns from `piece`, which begins at the stream's byte
     // `start`, and where the stream stands after it.
-    fn take_piece<H: AllocGlobal + Files, S: PageSink<H>>(
+    fn take_piece<H: AllocGlobal + Files, S: GuestSink<H>>(
         &mut self,
         rt: &H,
         reader: &mut RecordReader<'_>,
@@ -253,7 +253,7 @@ impl Survey {
     }
 
     // Takes all records that `reader` returns from its piece.
-    fn take_records<H: AllocGlobal + Files, S: PageSink<H>>(
+    fn take_records<H: AllocGlobal + Files, S: GuestSink<H>>(
         &mut self,
         rt: &H,
         reader: &mut RecordReader<'_>,
@@ -289,7 +289,7 @@ impl Survey {
     }
 
     // Passes the table to `sink`, before the first records.
-    fn begin<H: AllocGlobal + Files, S: PageSink<H>>(
+    fn begin<H: AllocGlobal + Files, S: GuestSink<H>>(
         &mut self,
         rt: &H,
         reader: &RecordReader<'_>,
@@ -306,7 +306,7 @@ impl Survey {
     }
 
     // Counts the records that `reader` returned last, and passes them to `sink`.
-    fn take_given<H: Files, S: PageSink<H>>(
+    fn take_given<H: Files, S: GuestSink<H>>(
         &mut self,
         reader: &RecordReader<'_>,
         sink: &mut S,
@@ -332,7 +332,7 @@ fn expect_len<F: OpenFile>(survey: &mut Survey, file: &F) {
 }
 
 // Reads a stream from the file `name`.
-fn read_named<H: AllocGlobal + Files + Clock, S: PageSink<H>, E: Write>(
+fn read_named<H: AllocGlobal + Files + Clock, S: GuestSink<H>, E: Write>(
     rt: &H,
     name: &str,
     survey: &mut Survey,
@@ -346,7 +346,7 @@ fn read_named<H: AllocGlobal + Files + Clock, S: PageSink<H>, E: Write>(
 }
 
 // Reads a stream from the file `name` or from `input`.
-fn read_whole<H: AllocGlobal + Files + Clock, R: Read, S: PageSink<H>, E: Write>(
+fn read_whole<H: AllocGlobal + Files + Clock, R: Read, S: GuestSink<H>, E: Write>(
     rt: &H,
     name: &str,
     survey: &mut Survey,
@@ -368,7 +368,7 @@ fn read_whole<H: AllocGlobal + Files + Clock, R: Read, S: PageSink<H>, E: Write>
 ///
 /// `Trouble::Unread` where the file can't be opened or read, `Trouble::Libvirt` and
 /// `Trouble::Packed` of libvirt's header, `Trouble::NoMemory`, and those of `sink`.
-pub fn read_stream<H: AllocGlobal + Files + Clock, R: Read, S: PageSink<H>, E: Write>(
+pub fn read_stream<H: AllocGlobal + Files + Clock, R: Read, S: GuestSink<H>, E: Write>(
     rt: &H,
     words: &StreamWords<'_>,
     input: &mut R,
