@@ -49,10 +49,19 @@ pub enum Claim<'h> {
 ///   (`take`).
 /// - What isn't such a packet is fed (`feed`), once nothing is claimed: hellos, SYNC packets, the
 ///   main stream, and bytes with a fault.
-#[derive(Drop)]
 pub struct ApartSession<A: Allocator = Global> {
     load: InPlaceSession<A>,
     claimed: Dirty<A>,
+}
+
+// Written out, so that a caller's proof passes a call where a value is dropped.
+impl<A: Allocator> Drop for ApartSession<A> {
+    fn drop(self) {
+        let ApartSession {
+            load: _,
+            claimed: _,
+        } = self;
+    }
 }
 
 impl<A: Allocator> Model for ApartSession<A> {

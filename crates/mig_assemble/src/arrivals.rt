@@ -38,7 +38,6 @@ pub(crate) struct WrongPacket {
 
 /// The arrivals so far of a round that isn't judged yet, without the pages' contents: a mark for
 /// each page of the table, and a number for each packet.
-#[derive(Drop)]
 pub struct Arrivals<A: Allocator = Global> {
     numbers: Vec<u64, A>,
     // the packet of least number with a misplaced page
@@ -46,6 +45,18 @@ pub struct Arrivals<A: Allocator = Global> {
     // the least place that arrived twice
     double: Option<Place>,
     seen: Dirty<A>,
+}
+
+// Written out, so that a caller's proof passes a call where a value is dropped.
+impl<A: Allocator> Drop for Arrivals<A> {
+    fn drop(self) {
+        let Arrivals {
+            numbers: _,
+            misplaced: _,
+            double: _,
+            seen: _,
+        } = self;
+    }
 }
 
 impl<A: Allocator> Model for Arrivals<A> {

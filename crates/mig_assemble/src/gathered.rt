@@ -11,9 +11,15 @@ use std::marker::Model;
 
 /// The packets of one round, from any channels, in the order in which they were pushed. It borrows
 /// them.
-#[derive(Drop)]
 pub struct Gathered<'a, A: Allocator = Global> {
     packets: Vec<Packet<'a>, A>,
+}
+
+// Written out, so that a caller's proof passes a call where a value is dropped.
+impl<'a, A: Allocator> Drop for Gathered<'a, A> {
+    fn drop(self) {
+        let Gathered { packets: _ } = self;
+    }
 }
 
 impl<'a, A: Allocator> Model for Gathered<'a, A> {

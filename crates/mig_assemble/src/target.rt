@@ -27,7 +27,6 @@ const FEWEST: usize = 4096;
 
 /// The memory of a guest that is being loaded: its first contents, which are zeros if `new` creates
 /// it, with the rounds so far applied.
-#[derive(Drop)]
 pub struct Target<A: Allocator = Global, M: GuestTarget = Memory<A>> {
     memory: M,
     // the places that the rounds named
@@ -37,6 +36,20 @@ pub struct Target<A: Allocator = Global, M: GuestTarget = Memory<A>> {
     alloc: A,
     rounds: u64,
     base: u64,
+}
+
+// Written out, so that a caller's proof passes a call where a value is dropped.
+impl<A: Allocator, M: GuestTarget + Drop> Drop for Target<A, M> {
+    fn drop(self) {
+        let Target {
+            memory: _,
+            named: _,
+            seen: _,
+            alloc: _,
+            rounds: _,
+            base: _,
+        } = self;
+    }
 }
 
 impl<A: Allocator, M: GuestTarget> Model for Target<A, M> {
@@ -211,7 +224,15 @@ impl<A: Allocator, M: GuestTarget> Target<A, M> {
     pub fn into_memory(self) -> M
         ensures { M.image result ≡ self.memory }
     {
-        self.memory
+        let Target {
+            memory,
+            named: _,
+            seen: _,
+            alloc: _,
+            rounds: _,
+            base: _,
+        } = self;
+        memory
     }
 
     /// Returns whether a round is of this memory: its pages have the table's page size, and are in

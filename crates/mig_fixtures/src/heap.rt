@@ -41,10 +41,16 @@ use std::sync::atomic::{AtomicU64, Ordering};
 /// Giving a block back is neither counted as an allocation nor refused. The count of allocations is
 /// exact for 2^63 of them, far more than a test makes. The bytes of a refused allocation aren't
 /// counted, whichever allocator refused it.
-#[derive(Drop)]
 pub struct TestHeap<A: Allocator = Global> {
     inner: A,
     tally: Tally,
+}
+
+// Written out, so that a caller's proof passes a call where a value is dropped.
+impl<A: Allocator> Drop for TestHeap<A> {
+    fn drop(self) {
+        let TestHeap { inner: _, tally: _ } = self;
+    }
 }
 
 #[derive(Drop)]

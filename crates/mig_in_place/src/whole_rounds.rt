@@ -1,18 +1,18 @@
 //! Whole rounds alone: a load that writes a round into the memory once it was judged lawful.
 
-ghost use Rattle.std.specs.Prelude.{◌≡◌, ◌≢◌, ◌+◌, ◌<◌, ◌≤◌, ◌^◌, Err, IsFalse, IfOk, length, take};
+ghost use Rattle.std.specs.Prelude.{◌≡◌, ◌≢◌, ◌+◌, ◌<◌, ◌≤◌, ◌^◌, Err, IsFalse, IfOk, OnErr, length, take};
 ghost use Rattle.mig_sources.specs.Sources.{HasSource, count_of, feed_step, with_fed};
 ghost use Rattle.mig_load_types.specs.declared.fault.InPlaceFault.TheVariants as in_place_fault;
 ghost use Rattle.mig_staged.specs.Staged.{staged};
 ghost use Rattle.mig_in_place.specs.Sources.{counts_of};
-ghost use Rattle.mig_in_place.specs.Session.{RunsOut, StepsOn};
+ghost use Rattle.mig_in_place.specs.Session.{StepsOn, RunsOut};
 ghost use Rattle.mig_in_place.specs.WholeRounds.{KeepsRounds};
 
 use crate::InPlaceSession;
 use mig_load_types::InPlaceFault;
 use mig_mem::{GuestTarget, NoMemory};
 use mig_sources::Source;
-use mig_staged::Staged;
+use mig_staged::{CopyKeeper, Keeper, Staged};
 use std::alloc::Allocator;
 
 impl<A: Allocator + Copy> InPlaceSession<A> {
@@ -21,7 +21,7 @@ impl<A: Allocator + Copy> InPlaceSession<A> {
     ///
     /// # Errors
     ///
-    /// Those of `feed`.
+    /// Those of `feed`. The memory has the rounds counted, and nothing else, after them too.
     pub fn feed_rounds<M: GuestTarget, B: Allocator>(
         &mut self,
         memory: &mut Staged<M, B>,
@@ -35,6 +35,8 @@ impl<A: Allocator + Copy> InPlaceSession<A> {
         ensures ok { IfOk result (λ n. StepsOn (feed_step source (take n piece.now)) (staged memory.old) self.old (staged memory.new) self.new) }
         ensures kept { IfOk result (λ n. KeepsRounds (feed_step source (take n piece.now)) (staged memory.old) memory.old.kept self.old memory.new.kept self.new) }
         ensures other { result ≡ Err in_place_fault.OtherTable → (self.old.table ≢ memory.old.kept.table) × (self.new ≡ self.old) × (memory.new ≡ memory.old) }
+        ensures err { result ≡ Err in_place_fault.NoMemory → KeepsRounds (feed_step source piece.now) (staged memory.old) memory.old.kept self.old memory.new.kept self.new }
+        ensures failed { result ≡ Err in_place_fault.NoMemory → RunsOut source piece.now (staged memory.old) self.old (staged memory.new) self.new }
         ensures counts { IfOk result (λ n. counts_of self.new.sources ≡ with_fed (counts_of self.old.sources) source n) }
         ensures table { (self.new.table ≡ self.old.table) × (memory.new.kept.table ≡ memory.old.kept.table) }
         ensures rounds { self.old.rounds ≤ self.new.rounds }
@@ -42,16 +44,21 @@ impl<A: Allocator + Copy> InPlaceSession<A> {
         if !self.table().same(memory.table()) {
             return Err(InPlaceFault::OtherTable);
         }
-        match self.take_rounds(memory, source, piece) {
+        match self.feed_rounds_by(&CopyKeeper, memory, source, piece) {
             Ok(taken) => Ok(taken),
             Err(NoMemory) => Err(InPlaceFault::NoMemory),
         }
     }
 
-    // Takes bytes of a source, round after round, as long as some are taken, and keeps each round
-    // that was judged lawful.
-    fn take_rounds<M: GuestTarget, B: Allocator>(
+    /// Takes bytes of a source as `feed_rounds` does, into a memory of the load's table, whose
+    /// rounds a `Keeper` keeps.
+    ///
+    /// # Errors
+    ///
+    /// `NoMemory`: an allocation was refused. The memory has the rounds counted, and nothing else.
+    pub fn feed_rounds_by<K: Keeper<M, B>, M: GuestTarget, B: Allocator>(
         &mut self,
+        keeper: &K,
         memory: &mut Staged<M, B>,
         source: Source,
         piece: &[u8],
@@ -61,8 +68,10 @@ impl<A: Allocator + Copy> InPlaceSession<A> {
         requires room { (count_of (counts_of self.old.sources) source).fed + length piece.now < 2 ^ 64 }
         requires table { memory.old.kept.table ≡ self.old.table }
         ensures taken { IfOk result (λ n. n ≤ length piece.now) }
-        ensures steps { IfOk result (λ n. StepsOn (feed_step source (take n piece.now)) (staged memory.old) self.old (staged memory.new) self.new) }
+        ensures ok { IfOk result (λ n. StepsOn (feed_step source (take n piece.now)) (staged memory.old) self.old (staged memory.new) self.new) }
         ensures kept { IfOk result (λ n. KeepsRounds (feed_step source (take n piece.now)) (staged memory.old) memory.old.kept self.old memory.new.kept self.new) }
+        ensures err { OnErr result (KeepsRounds (feed_step source piece.now) (staged memory.old) memory.old.kept self.old memory.new.kept self.new) }
+        ensures failed { OnErr result (RunsOut source piece.now (staged memory.old) self.old (staged memory.new) self.new) }
         ensures counts { IfOk result (λ n. counts_of self.new.sources ≡ with_fed (counts_of self.old.sources) source n) }
         ensures table { (self.new.table ≡ self.old.table) × (memory.new.kept.table ≡ memory.old.kept.table) }
         ensures rounds { self.old.rounds ≤ self.new.rounds }
@@ -72,7 +81,7 @@ impl<A: Allocator + Copy> InPlaceSession<A> {
             let (count, judged) = self.feed_round(memory, source, &piece[taken..])?;
             taken += count;
             if judged {
-                memory.keep();
+                keeper.keep(memory);
                 self.next_round(memory);
             } else if count == 0 {
                 return Ok(taken);

@@ -17,10 +17,19 @@ use std::marker::Model;
 /// A page that comes as zeros is cleared only if a content was written to it before. Any other is
 /// left alone: it isn't read either. So a `memfd`, a file and huge pages keep their holes, and a
 /// sender that repeats pages of zeros costs little.
-#[derive(Drop)]
 pub struct Fresh<M: GuestTarget, A: Allocator = Global> {
     memory: M,
     written: Dirty<A>,
+}
+
+// Written out, so that a caller's proof passes a call where a value is dropped.
+impl<M: GuestTarget + Drop, A: Allocator> Drop for Fresh<M, A> {
+    fn drop(self) {
+        let Fresh {
+            memory: _,
+            written: _,
+        } = self;
+    }
 }
 
 impl<M: GuestTarget, A: Allocator> Model for Fresh<M, A> {
@@ -53,7 +62,8 @@ impl<M: GuestTarget, A: Allocator> Fresh<M, A> {
     pub fn into_memory(self) -> M
         ensures { M.image result ≡ self }
     {
-        self.memory
+        let Fresh { memory, written: _ } = self;
+        memory
     }
 
     /// Takes a memory, and the pages of it that may hold other bytes than zeros: those that

@@ -23,10 +23,19 @@ use std::marker::Model;
 /// In a load's contract the image of a `Marking` is `seen`: a page that wasn't written shows as
 /// numbers that are no bytes. So what the contract says of the image says also which pages were
 /// written ([`written_is_seen`](crate::written_is_seen)).
-#[derive(Drop)]
 pub struct Marking<M: GuestTarget, A: Allocator = Global> {
     memory: M,
     written: Dirty<A>,
+}
+
+// Written out, so that a caller's proof passes a call where a value is dropped.
+impl<M: GuestTarget + Drop, A: Allocator> Drop for Marking<M, A> {
+    fn drop(self) {
+        let Marking {
+            memory: _,
+            written: _,
+        } = self;
+    }
 }
 
 impl<M: GuestTarget, A: Allocator> Model for Marking<M, A> {

@@ -29,13 +29,23 @@ use std::marker::Model;
 /// self.memory.set(block, offset, byte);
 /// self.dirty.mark(place).is_ok()
 /// ```
-#[derive(Drop)]
 pub struct Dirty<A: Allocator = Global> {
     pub(crate) table: Table<A>,
     // the marks of each block, 64 to a word
     pub(crate) words: Vec<Vec<u64, A>, A>,
     // how many marks there are
     pub(crate) count: u64,
+}
+
+// Written out, so that a caller's proof passes a call where a value is dropped.
+impl<A: Allocator> Drop for Dirty<A> {
+    fn drop(self) {
+        let Dirty {
+            table: _,
+            words: _,
+            count: _,
+        } = self;
+    }
 }
 
 impl<A: Allocator> Model for Dirty<A> {

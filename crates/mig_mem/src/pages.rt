@@ -18,7 +18,6 @@ const ZEROS: [u8; 8192] = [0; 8192];
 
 /// Some pages of a block. A page has bytes of its own from its first write on, and is zeros until
 /// then. The room for all pages is reserved from the start, and isn't touched before it is needed.
-#[derive(Drop)]
 pub(crate) struct Pages<A: Allocator> {
     size: u64,
     // for each page the slot of its bytes, from 1 on in the order of first writes, or 0 if it has
@@ -26,6 +25,17 @@ pub(crate) struct Pages<A: Allocator> {
     slots: Slots<A>,
     // the bytes of the slots, one page after another
     bytes: Vec<u8, A>,
+}
+
+// Written out, so that a caller's proof passes a call where a value is dropped.
+impl<A: Allocator> Drop for Pages<A> {
+    fn drop(self) {
+        let Pages {
+            size: _,
+            slots: _,
+            bytes: _,
+        } = self;
+    }
 }
 
 impl<A: Allocator> Model for Pages<A> {

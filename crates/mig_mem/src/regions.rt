@@ -26,13 +26,24 @@ const MOST: u64 = 64;
 
 /// The pages of a block. As with `Pages`, the room for all pages is there from the start, and isn't
 /// touched before it is needed.
-#[derive(Drop)]
 pub(crate) struct Regions<A: Allocator> {
     size: u64,
     count: u64,
     // how many pages a region has; the last one may have fewer
     per: u64,
     regions: Vec<Pages<A>, A>,
+}
+
+// Written out, so that a caller's proof passes a call where a value is dropped.
+impl<A: Allocator> Drop for Regions<A> {
+    fn drop(self) {
+        let Regions {
+            size: _,
+            count: _,
+            per: _,
+            regions: _,
+        } = self;
+    }
 }
 
 impl<A: Allocator> Model for Regions<A> {

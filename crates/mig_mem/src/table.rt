@@ -54,7 +54,6 @@ struct Entry {
 /// blocks.push((second, 2)).ok()?;
 /// Table::new(alloc, PAGE_SIZE_4K, blocks).ok()
 /// ```
-#[derive(Drop)]
 pub struct Table<A: Allocator = Global> {
     page_size: u64,
     ids: Vec<u8, A>,
@@ -62,6 +61,18 @@ pub struct Table<A: Allocator = Global> {
     // The blocks in the order of their ids' fronts, then of their ids. It says where to look for an
     // id first. No contract relies on it.
     order: Vec<Entry, A>,
+}
+
+// Written out, so that a caller's proof passes a call where a value is dropped.
+impl<A: Allocator> Drop for Table<A> {
+    fn drop(self) {
+        let Table {
+            page_size: _,
+            ids: _,
+            spans: _,
+            order: _,
+        } = self;
+    }
 }
 
 impl<A: Allocator> Model for Table<A> {

@@ -56,7 +56,6 @@ pub enum ChannelEvent<'b> {
 }
 
 /// Reads a channel from pieces of its bytes, and gives each page once its bytes have arrived.
-#[derive(Drop)]
 pub struct PageReader<A: Allocator = Global> {
     pub(crate) page_size: u64,
     pub(crate) uuid: Uuid,
@@ -79,6 +78,28 @@ pub struct PageReader<A: Allocator = Global> {
     pub(crate) found: ChannelState,
     pub(crate) fed: u64,
     pub(crate) ended: bool,
+}
+
+// Written out, so that a caller's proof passes a call where a value is dropped.
+impl<A: Allocator> Drop for PageReader<A> {
+    fn drop(self) {
+        let PageReader {
+            page_size: _,
+            uuid: _,
+            channels: _,
+            waiting: _,
+            room: _,
+            hello: _,
+            has_packets: _,
+            pages: _,
+            head: _,
+            page: _,
+            has_page: _,
+            found: _,
+            fed: _,
+            ended: _,
+        } = self;
+    }
 }
 
 impl<A: Allocator> Model for PageReader<A> {

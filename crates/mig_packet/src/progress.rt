@@ -22,7 +22,6 @@ use std::mem;
 use uuid::Uuid;
 
 /// How far a channel has been read.
-#[derive(Drop)]
 pub(crate) struct Progress<A: Allocator> {
     alloc: A,
     page_size: u64,
@@ -35,6 +34,23 @@ pub(crate) struct Progress<A: Allocator> {
     // the packets of the open round, and the complete rounds that were not taken
     packets: Packets<A>,
     rounds: VecDeque<Packets<A>, A>,
+}
+
+// Written out, so that a caller's proof passes a call where a value is dropped.
+impl<A: Allocator> Drop for Progress<A> {
+    fn drop(self) {
+        let Progress {
+            alloc: _,
+            page_size: _,
+            uuid: _,
+            channels: _,
+            waiting: _,
+            room: _,
+            hello: _,
+            packets: _,
+            rounds: _,
+        } = self;
+    }
 }
 
 impl<A: Allocator> Model for Progress<A> {

@@ -26,7 +26,6 @@ use uuid::Uuid;
 
 /// Reads a channel from pieces of its bytes. It returns the reading of all bytes fed, however they
 /// were cut.
-#[derive(Drop)]
 pub struct ChannelReader<A: Allocator = Global> {
     progress: Progress<A>,
     // the bytes of the item that isn't complete yet
@@ -37,6 +36,20 @@ pub struct ChannelReader<A: Allocator = Global> {
     valid_up_to: u64,
     fed: u64,
     ended: bool,
+}
+
+// Written out, so that a caller's proof passes a call where a value is dropped.
+impl<A: Allocator> Drop for ChannelReader<A> {
+    fn drop(self) {
+        let ChannelReader {
+            progress: _,
+            pending: _,
+            found: _,
+            valid_up_to: _,
+            fed: _,
+            ended: _,
+        } = self;
+    }
 }
 
 impl<A: Allocator> Model for ChannelReader<A> {

@@ -57,9 +57,15 @@ impl<A: Allocator> PacketText<A> {
 }
 
 /// Packets, one after another.
-#[derive(Drop)]
 pub(crate) struct Packets<A: Allocator> {
     items: Vec<PacketText<A>, A>,
+}
+
+// Written out, so that a caller's proof passes a call where a value is dropped.
+impl<A: Allocator> Drop for Packets<A> {
+    fn drop(self) {
+        let Packets { items: _ } = self;
+    }
 }
 
 impl<A: Allocator> Model for Packets<A> {
@@ -145,10 +151,19 @@ impl<A: Allocator + Copy> Packets<A> {
 
 /// A complete round of a channel: the packets up to and with a SYNC packet, in the order of the
 /// channel.
-#[derive(Drop)]
 pub struct PacketRound<A: Allocator = Global> {
     page_size: u64,
     packets: Packets<A>,
+}
+
+// Written out, so that a caller's proof passes a call where a value is dropped.
+impl<A: Allocator> Drop for PacketRound<A> {
+    fn drop(self) {
+        let PacketRound {
+            page_size: _,
+            packets: _,
+        } = self;
+    }
 }
 
 impl<A: Allocator> Model for PacketRound<A> {

@@ -15,7 +15,6 @@ use std::sync::Wait;
 
 /// The items of one channel, in their order. Contracts see its queue, its bytes, and the items that
 /// were popped.
-#[derive(Drop)]
 pub struct Channel<'a, A: Allocator = Global> {
     pub(crate) page_size: u64,
     // the most that may wait in a round of it
@@ -26,6 +25,21 @@ pub struct Channel<'a, A: Allocator = Global> {
     pub(crate) over: bool,
     pub(crate) receiver: Receiver<A>,
     pub(crate) pass: LogPass,
+}
+
+// Written out, so that a caller's proof passes a call where a value is dropped.
+impl<'a, A: Allocator> Drop for Channel<'a, A> {
+    fn drop(self) {
+        let Channel {
+            page_size: _,
+            waiting: _,
+            text: _,
+            items: _,
+            over: _,
+            receiver: _,
+            pass: _,
+        } = self;
+    }
 }
 
 impl<'a, A: Allocator> Model for Channel<'a, A> {

@@ -23,9 +23,15 @@ use uuid::Uuid;
 
 /// The items of all channels, in the order of each channel. Contracts see each channel's queue, its
 /// bytes, and the items that were taken from it.
-#[derive(Drop)]
 pub struct Collector<'a, A: Allocator = Global> {
     channels: Vec<Channel<'a, A>, A>,
+}
+
+// Written out, so that a caller's proof passes a call where a value is dropped.
+impl<'a, A: Allocator> Drop for Collector<'a, A> {
+    fn drop(self) {
+        let Collector { channels: _ } = self;
+    }
 }
 
 impl<'a, A: Allocator> Model for Collector<'a, A> {

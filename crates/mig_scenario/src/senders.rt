@@ -16,10 +16,19 @@ use std::thread::Threads;
 use uuid::Uuid;
 
 /// A sender of a single stream, a sender on several channels, both or none.
-#[derive(Drop)]
 pub struct Senders<A: Allocator = Global> {
     pub single: Option<SingleSender<A>>,
     pub several: Option<MultiSender<A>>,
+}
+
+// Written out, so that a caller's proof passes a call where a value is dropped.
+impl<A: Allocator> Drop for Senders<A> {
+    fn drop(self) {
+        let Senders {
+            single: _,
+            several: _,
+        } = self;
+    }
 }
 
 /// The bytes that they wrote.

@@ -36,12 +36,22 @@ pub(crate) enum Buffer<A: Allocator> {
 }
 
 /// What a worker finds its batches with.
-#[derive(Drop)]
 pub(crate) struct Finder<A: Allocator> {
     /// The most pages of a batch.
     pub(crate) limit: usize,
     pub(crate) walk: Walk,
     pub(crate) buffer: Buffer<A>,
+}
+
+// Written out, so that a caller's proof passes a call where a value is dropped.
+impl<A: Allocator> Drop for Finder<A> {
+    fn drop(self) {
+        let Finder {
+            limit: _,
+            walk: _,
+            buffer: _,
+        } = self;
+    }
 }
 
 // Returns the first place after the batch that begins with the dirty place `first`.

@@ -51,7 +51,6 @@ pub(crate) const LAST_BASE: u64 = 1 << 63;
 /// }
 /// let Sent { main, channels: _ } = sender.finish().ok().expect(rt, "streams");
 /// ```
-#[derive(Drop)]
 pub struct MultiSender<A: Allocator = Global> {
     pub(crate) alloc: A,
     pub(crate) main: StreamWriter<A>,
@@ -60,6 +59,21 @@ pub struct MultiSender<A: Allocator = Global> {
     pub(crate) channels: Vec<Vec<u8, A>, A>,
     pub(crate) base: u64,
     pub(crate) rounds: u64,
+}
+
+// Written out, so that a caller's proof passes a call where a value is dropped.
+impl<A: Allocator> Drop for MultiSender<A> {
+    fn drop(self) {
+        let MultiSender {
+            alloc: _,
+            main: _,
+            uuid: _,
+            limit: _,
+            channels: _,
+            base: _,
+            rounds: _,
+        } = self;
+    }
 }
 
 impl<A: Allocator> Model for MultiSender<A> {

@@ -27,7 +27,6 @@ use std::sync::Arc;
 /// A round that is being sent on several channels, by workers on threads of the caller's. It has
 /// the sender until the round is ended. If it is dropped, the sender is dropped too, and the
 /// streams are lost.
-#[derive(Drop)]
 pub struct MultiRound<A: Allocator = Global> {
     sender: MultiSender<A>,
     shared: Arc<RoundWork<A>, A>,
@@ -35,6 +34,18 @@ pub struct MultiRound<A: Allocator = Global> {
     seats: Vec<Seat, A>,
     // of those that were given back
     spents: Vec<Spent, A>,
+}
+
+// Written out, so that a caller's proof passes a call where a value is dropped.
+impl<A: Allocator> Drop for MultiRound<A> {
+    fn drop(self) {
+        let MultiRound {
+            sender: _,
+            shared: _,
+            seats: _,
+            spents: _,
+        } = self;
+    }
 }
 
 impl<A: Allocator> Model for MultiRound<A> {

@@ -20,11 +20,21 @@ use std::marker::Model;
 
 /// The packet of a batch. The type's contract keeps that its bytes are one, so that a caller who
 /// sends it need not test it again.
-#[derive(Drop)]
 pub struct Packed<A: Allocator = Global> {
     page_size: u64,
     number: u64,
     bytes: Vec<u8, A>,
+}
+
+// Written out, so that a caller's proof passes a call where a value is dropped.
+impl<A: Allocator> Drop for Packed<A> {
+    fn drop(self) {
+        let Packed {
+            page_size: _,
+            number: _,
+            bytes: _,
+        } = self;
+    }
 }
 
 impl<A: Allocator> Model for Packed<A> {

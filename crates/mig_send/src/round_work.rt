@@ -14,7 +14,6 @@ use std::marker::Model;
 
 /// The deal of a round, and the dirty pages whose batches its numbers claim. A worker finds them in
 /// the set (`finder`), so there is no list of them.
-#[derive(Drop)]
 pub(crate) struct RoundWork<A: Allocator> {
     pub(crate) deal: Deal<A>,
     pub(crate) dirty: Dirty<A>,
@@ -22,6 +21,18 @@ pub(crate) struct RoundWork<A: Allocator> {
     pub(crate) limit: usize,
     // how many batches there are
     pub(crate) count: u64,
+}
+
+// Written out, so that a caller's proof passes a call where a value is dropped.
+impl<A: Allocator> Drop for RoundWork<A> {
+    fn drop(self) {
+        let RoundWork {
+            deal: _,
+            dirty: _,
+            limit: _,
+            count: _,
+        } = self;
+    }
 }
 
 impl<A: Allocator> Model for RoundWork<A> {

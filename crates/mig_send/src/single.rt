@@ -31,9 +31,15 @@ use std::marker::Model;
 /// sender.round(&lent, &all(alloc, &table)?).ok()?;
 /// sender.finish().ok()
 /// ```
-#[derive(Drop)]
 pub struct SingleSender<A: Allocator = Global> {
     writer: StreamWriter<A>,
+}
+
+// Written out, so that a caller's proof passes a call where a value is dropped.
+impl<A: Allocator> Drop for SingleSender<A> {
+    fn drop(self) {
+        let SingleSender { writer: _ } = self;
+    }
 }
 
 impl<A: Allocator> Model for SingleSender<A> {
@@ -125,7 +131,8 @@ impl<A: Allocator> SingleSender<A> {
         ensures none { IfOk result (λ round. HasPut round []) }
         ensures err { IfErr result (λ s. s ≡ self) }
     {
-        match self.writer.begin_part() {
+        let SingleSender { writer } = self;
+        match writer.begin_part() {
             Ok(part) => Ok(OpenRound { part }),
             Err(unchanged) => Err(SingleSender { writer: unchanged }),
         }
@@ -168,7 +175,8 @@ impl<A: Allocator> SingleSender<A> {
             → drained ++ text.items ≡ single self.table rounds) }
         ensures err { IfErr result (λ s. s ≡ self) }
     {
-        match self.writer.finish() {
+        let SingleSender { writer } = self;
+        match writer.finish() {
             Ok(text) => Ok(text),
             Err(writer) => Err(SingleSender { writer }),
         }
@@ -191,7 +199,8 @@ impl<A: Allocator> SingleSender<A> {
         ensures err { IfErr result (λ s. s ≡ self) }
     {
         configured_is_written();
-        match self.writer.finish_open() {
+        let SingleSender { writer } = self;
+        match writer.finish_open() {
             Ok(bytes) => Ok(bytes),
             Err(writer) => Err(SingleSender { writer }),
         }
@@ -201,9 +210,15 @@ impl<A: Allocator> SingleSender<A> {
 /// A round that is sent page after page, with the contents that its caller read of a guest that
 /// runs on. It has the sender until the round is ended or cancelled. If it is dropped, the sender
 /// is dropped too, and the stream is lost.
-#[derive(Drop)]
 pub struct OpenRound<A: Allocator = Global> {
     part: OpenPart<A>,
+}
+
+// Written out, so that a caller's proof passes a call where a value is dropped.
+impl<A: Allocator> Drop for OpenRound<A> {
+    fn drop(self) {
+        let OpenRound { part: _ } = self;
+    }
 }
 
 impl<A: Allocator> Model for OpenRound<A> {
@@ -256,7 +271,8 @@ impl<A: Allocator> OpenRound<A> {
             → HasSentDrained drained s (rounds ++ pages ∷ [])) }
         ensures err { IfErr result (λ round. round ≡ self) }
     {
-        match self.part.end_part() {
+        let OpenRound { part } = self;
+        match part.end_part() {
             Ok(writer) => Ok(SingleSender { writer }),
             Err(part) => Err(OpenRound { part }),
         }
@@ -266,8 +282,9 @@ impl<A: Allocator> OpenRound<A> {
     pub fn cancel(self) -> SingleSender<A>
         ensures { result ≡ self.before }
     {
+        let OpenRound { part } = self;
         SingleSender {
-            writer: self.part.cancel(),
+            writer: part.cancel(),
         }
     }
 }

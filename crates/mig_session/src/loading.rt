@@ -18,7 +18,7 @@ use mig_in_place::InPlaceSession;
 use mig_load_types::LoadSettings;
 use mig_mem::{Memory, NoMemory, Table};
 use mig_sources::Source;
-use mig_staged::Staged;
+use mig_staged::{OwnKeeper, Staged};
 use std::alloc::{Allocator, Global};
 use std::marker::Model;
 use uuid::Uuid;
@@ -39,38 +39,6 @@ impl<A: Allocator> Model for RoundLoad<A> {
     ghost view = { λ l. record { load = l.load; memory = l.memory } };
 
     ghost invariant = { λ l. l.memory.kept.table ≡ l.load.table };
-}
-
-// Takes bytes of a source, round after round, as long as some are taken, and keeps each round that
-// was judged lawful.
-fn take_rounds<A: Allocator + Copy>(
-    load: &mut InPlaceSession<A>,
-    memory: &mut Staged<Memory<A>, A>,
-    source: Source,
-    piece: &[u8],
-) -> Result<usize, NoMemory>
-    requires source { HasSource (counts_of load.old.sources) source }
-    requires open { IsFalse (count_of (counts_of load.old.sources) source).ended }
-    requires room { (count_of (counts_of load.old.sources) source).fed + length piece.now < 2 ^ 64 }
-    requires table { memory.old.kept.table ≡ load.old.table }
-    ensures taken { IfOk result (λ n. n ≤ length piece.now) }
-    ensures ok { IfOk result (λ n. TakesOn (feed_step source (take n piece.now)) (round_load load.old memory.old) (round_load load.new memory.new)) }
-    ensures err { OnErr result (KeepsAlone (feed_step source piece.now) (round_load load.old memory.old) (round_load load.new memory.new)) }
-    ensures table { (load.new.table ≡ load.old.table) × (memory.new.kept.table ≡ memory.old.kept.table) }
-    ensures rounds { load.old.rounds ≤ load.new.rounds }
-{
-    let mut taken = 0;
-    'rounds: while taken < piece.len() {
-        let (count, judged) = load.feed_round(memory, source, &piece[taken..])?;
-        taken += count;
-        if judged {
-            memory.keep_own();
-            load.next_round(memory);
-        } else if count == 0 {
-            return Ok(taken);
-        }
-    }
-    Ok(taken)
 }
 
 /// What is left of a load that is over: its memory, how many rounds are in it, and how many pages
@@ -145,7 +113,8 @@ impl<A: Allocator + Copy> RoundLoad<A> {
         ensures table { self.new.load.table ≡ self.old.load.table }
         ensures rounds { self.old.load.rounds ≤ self.new.load.rounds }
     {
-        take_rounds(&mut self.load, &mut self.memory, source, piece)
+        self.load
+            .feed_rounds_by(&OwnKeeper, &mut self.memory, source, piece)
     }
 }
 

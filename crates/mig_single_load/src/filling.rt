@@ -15,11 +15,21 @@ use std::marker::Model;
 
 /// The memory into which a single stream is loaded, the places that its sections named, and the
 /// number of sections in it. A `Target` also has marks by which it judges, which only packets need.
-#[derive(Drop)]
 pub(crate) struct Filling<A: Allocator = Global> {
     memory: Memory<A>,
     named: Dirty<A>,
     sections: u64,
+}
+
+// Written out, so that a caller's proof passes a call where a value is dropped.
+impl<A: Allocator> Drop for Filling<A> {
+    fn drop(self) {
+        let Filling {
+            memory: _,
+            named: _,
+            sections: _,
+        } = self;
+    }
 }
 
 impl<A: Allocator> Model for Filling<A> {
@@ -87,6 +97,11 @@ impl<A: Allocator> Filling<A> {
     pub(crate) fn into_memory(self) -> Memory<A>
         ensures { result ≡ self.memory }
     {
-        self.memory
+        let Filling {
+            memory,
+            named: _,
+            sections: _,
+        } = self;
+        memory
     }
 }

@@ -39,10 +39,19 @@ use std::marker::Model;
 /// loader.end();
 /// Some((loader.rounds(), loader.verdict()))
 /// ```
-#[derive(Drop)]
 pub struct InPlaceLoader<A: Allocator = Global, M: GuestTarget = Memory<A>> {
     state: InPlaceState<A>,
     memory: M,
+}
+
+// Written out, so that a caller's proof passes a call where a value is dropped.
+impl<A: Allocator, M: GuestTarget + Drop> Drop for InPlaceLoader<A, M> {
+    fn drop(self) {
+        let InPlaceLoader {
+            state: _,
+            memory: _,
+        } = self;
+    }
 }
 
 impl<A: Allocator, M: GuestTarget> Model for InPlaceLoader<A, M> {
@@ -207,7 +216,8 @@ impl<A: Allocator, M: GuestTarget> InPlaceLoader<A, M> {
     pub fn into_memory(self) -> M
         ensures { M.image result ≡ self.memory }
     {
-        self.memory
+        let InPlaceLoader { memory, state: _ } = self;
+        memory
     }
 }
 

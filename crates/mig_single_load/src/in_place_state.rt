@@ -69,7 +69,6 @@ pub(crate) enum LoadState {
 /// }
 /// assert!(rt; state.fed() == LEN && state.verdict() == Ok(()));
 /// ```
-#[derive(Drop)]
 pub struct InPlaceState<A: Allocator = Global> {
     // where the next piece is read on; None once no more is read
     pause: Option<Pause<A>>,
@@ -82,6 +81,21 @@ pub struct InPlaceState<A: Allocator = Global> {
     rounds: u64,
     fed: u64,
     ended: bool,
+}
+
+// Written out, so that a caller's proof passes a call where a value is dropped.
+impl<A: Allocator> Drop for InPlaceState<A> {
+    fn drop(self) {
+        let InPlaceState {
+            pause: _,
+            state: _,
+            table: _,
+            named: _,
+            rounds: _,
+            fed: _,
+            ended: _,
+        } = self;
+    }
 }
 
 impl<A: Allocator> Model for InPlaceState<A> {

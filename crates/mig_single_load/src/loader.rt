@@ -51,12 +51,22 @@ use std::marker::Model;
 /// }
 /// Ok(loader.finish())
 /// ```
-#[derive(Drop)]
 pub struct SingleLoader<A: Allocator = Global> {
     alloc: A,
     reader: StreamReader<'static, A>,
     // created once the table is there
     target: Option<Filling<A>>,
+}
+
+// Written out, so that a caller's proof passes a call where a value is dropped.
+impl<A: Allocator> Drop for SingleLoader<A> {
+    fn drop(self) {
+        let SingleLoader {
+            alloc: _,
+            reader: _,
+            target: _,
+        } = self;
+    }
 }
 
 impl<A: Allocator> Model for SingleLoader<A> {

@@ -23,10 +23,19 @@ const NOTHING: Count = Count {
 };
 
 /// The counts of all sources.
-#[derive(Drop)]
 pub struct SourceCounts<A: Allocator = Global> {
     main: Count,
     channels: Vec<Count, A>,
+}
+
+// Written out, so that a caller's proof passes a call where a value is dropped.
+impl<A: Allocator> Drop for SourceCounts<A> {
+    fn drop(self) {
+        let SourceCounts {
+            main: _,
+            channels: _,
+        } = self;
+    }
 }
 
 impl<A: Allocator> Model for SourceCounts<A> {

@@ -4,4 +4,4 @@
 
 mod staged;
 
-pub use staged::Staged;
+pub use staged::{CopyKeeper, Keeper, OwnKeeper, Staged};

@@ -21,12 +21,23 @@ use std::mem;
 /// round takes that memory again. So beside the guest each region of a block (`Memory::put_pages`)
 /// takes at most as many pages as one round wrote there. A first round into a `Memory` of zeros
 /// isn't copied (`keep_own`), and takes nothing beside the guest.
-#[derive(Drop)]
 pub struct Staged<M: GuestTarget, A: Allocator = Global> {
     memory: M,
     apart: Memory<A>,
     named: Dirty<A>,
     is_fresh: bool,
+}
+
+// Written out, so that a caller's proof passes a call where a value is dropped.
+impl<M: GuestTarget + Drop, A: Allocator> Drop for Staged<M, A> {
+    fn drop(self) {
+        let Staged {
+            memory: _,
+            apart: _,
+            named: _,
+            is_fresh: _,
+        } = self;
+    }
 }
 
 impl<M: GuestTarget, A: Allocator> Model for Staged<M, A> {
@@ -133,7 +144,46 @@ impl<M: GuestTarget, A: Allocator> Staged<M, A> {
     pub fn into_memory(self) -> M
         ensures { M.image result ≡ self.kept }
     {
-        self.memory
+        let Staged {
+            memory,
+            apart: _,
+            named: _,
+            is_fresh: _,
+        } = self;
+        memory
+    }
+
+    /// Takes a memory, and the open round that `into_parts` returned with it, if the memory wasn't
+    /// changed since.
+    pub fn from_parts(memory: M, apart: Memory<A>, named: Dirty<A>) -> Staged<M, A>
+        requires table { apart.table ≡ (M.image memory).table }
+        requires zeros { AreZeros apart named }
+        ensures kept { result.kept ≡ M.image memory }
+        ensures parts { (result.apart ≡ apart) × (result.named ≡ named) }
+    {
+        Staged {
+            memory,
+            apart,
+            named,
+            is_fresh: false,
+        }
+    }
+
+    /// Returns the memory with the rounds that were kept, the pages of the open round, and which
+    /// these are.
+    pub fn into_parts(self) -> (M, Memory<A>, Dirty<A>)
+        ensures memory { M.image result.0 ≡ self.kept }
+        ensures parts { (result.1 ≡ self.apart) × (result.2 ≡ self.named) }
+        ensures table { result.1.table ≡ self.kept.table }
+        ensures zeros { AreZeros result.1 result.2 }
+    {
+        let Staged {
+            memory,
+            apart,
+            named,
+            is_fresh: _,
+        } = self;
+        (memory, apart, named)
     }
 
     /// Keeps the open round: the memory has its pages, and no round is open. It allocates nothing.
@@ -207,6 +257,34 @@ impl<A: Allocator + Copy> Staged<Memory<A>, A> {
         self.is_fresh = false;
         mem::swap(&mut self.memory, &mut self.apart);
         self.named.clear();
+    }
+}
+
+/// Keeps the open round of a memory: `CopyKeeper` in any memory, `OwnKeeper` in one of `zeroed`.
+pub trait Keeper<M: GuestTarget, A: Allocator> {
+    /// Keeps the open round: the memory has its pages, and no round is open.
+    fn keep(&self, memory: &mut Staged<M, A>)
+        ensures kept { memory.new.kept ≡ staged memory.old }
+        ensures image { staged memory.new ≡ memory.new.kept };
+}
+
+/// Keeps rounds by `Staged::keep`: each page is copied.
+#[derive(Clone, Copy, Debug)]
+pub struct CopyKeeper;
+
+impl<M: GuestTarget, A: Allocator> Keeper<M, A> for CopyKeeper {
+    fn keep(&self, memory: &mut Staged<M, A>) {
+        memory.keep();
+    }
+}
+
+/// Keeps rounds by `Staged::keep_own`: the first one isn't copied.
+#[derive(Clone, Copy, Debug)]
+pub struct OwnKeeper;
+
+impl<A: Allocator + Copy> Keeper<Memory<A>, A> for OwnKeeper {
+    fn keep(&self, memory: &mut Staged<Memory<A>, A>) {
+        memory.keep_own();
     }
 }
 

@@ -31,7 +31,6 @@ impl<A: Allocator> Model for Entry<A> {
 
 /// The entries of a size list so far. The blocks are kept beside the table that they make, so that
 /// an entry can be undone.
-#[derive(Drop)]
 pub(crate) struct Entries<A: Allocator> {
     page_size: u64,
     limit: u64,
@@ -39,6 +38,19 @@ pub(crate) struct Entries<A: Allocator> {
     left: Option<u64>,
     blocks: Vec<Entry<A>, A>,
     table: Option<Table<A>>,
+}
+
+// Written out, so that a caller's proof passes a call where a value is dropped.
+impl<A: Allocator> Drop for Entries<A> {
+    fn drop(self) {
+        let Entries {
+            page_size: _,
+            limit: _,
+            left: _,
+            blocks: _,
+            table: _,
+        } = self;
+    }
 }
 
 impl<A: Allocator> Model for Entries<A> {

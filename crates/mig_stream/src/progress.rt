@@ -31,7 +31,6 @@ use std::mem;
 const MANY: usize = 1 << 10;
 
 /// How far a stream has been read.
-#[derive(Drop)]
 pub(crate) struct Progress<'a, A: Allocator> {
     pub(crate) frame: Frame,
     pub(crate) mode: Mode,
@@ -49,6 +48,27 @@ pub(crate) struct Progress<'a, A: Allocator> {
     // the record whose buffer is being filled, if there is one
     pub(crate) filling: usize,
     pub(crate) rounds: VecDeque<Records<'a, A>, A>,
+}
+
+// Written out, so that a caller's proof passes a call where a value is dropped.
+impl<'a, A: Allocator> Drop for Progress<'a, A> {
+    fn drop(self) {
+        let Progress {
+            frame: _,
+            mode: _,
+            entries: _,
+            due: _,
+            section: _,
+            section_id: _,
+            form: _,
+            named: _,
+            waiting: _,
+            room: _,
+            records: _,
+            filling: _,
+            rounds: _,
+        } = self;
+    }
 }
 
 impl<'a, A: Allocator> Model for Progress<'a, A> {
@@ -143,17 +163,32 @@ impl<'a, A: Allocator + Copy> Progress<'a, A> {
         ensures { result ≡ self.entry }
     {
         let alloc = self.records.alloc();
+        let Progress {
+            frame,
+            mode,
+            entries,
+            due,
+            section,
+            section_id,
+            form,
+            named,
+            waiting,
+            room,
+            records: _,
+            filling: _,
+            rounds: _,
+        } = self;
         Progress {
-            frame: self.frame,
-            mode: self.mode,
-            entries: self.entries,
-            due: self.due,
-            section: self.section,
-            section_id: self.section_id,
-            form: self.form,
-            named: self.named,
-            waiting: self.waiting,
-            room: self.room,
+            frame,
+            mode,
+            entries,
+            due,
+            section,
+            section_id,
+            form,
+            named,
+            waiting,
+            room,
             records: Records::new(alloc),
             filling: 0,
             rounds: VecDeque::new(alloc),

@@ -56,7 +56,6 @@ use std::marker::Model;
 /// }
 /// Ok(reader.closed_at())
 /// ```
-#[derive(Drop)]
 pub struct StreamReader<'a, A: Allocator = Global> {
     progress: Progress<'a, A>,
     // the bytes of the item that isn't complete yet
@@ -67,6 +66,20 @@ pub struct StreamReader<'a, A: Allocator = Global> {
     valid_up_to: u64,
     fed: u64,
     ended: bool,
+}
+
+// Written out, so that a caller's proof passes a call where a value is dropped.
+impl<'a, A: Allocator> Drop for StreamReader<'a, A> {
+    fn drop(self) {
+        let StreamReader {
+            progress: _,
+            pending: _,
+            found: _,
+            valid_up_to: _,
+            fed: _,
+            ended: _,
+        } = self;
+    }
 }
 
 impl<'a, A: Allocator> Model for StreamReader<'a, A> {

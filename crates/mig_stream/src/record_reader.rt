@@ -48,7 +48,6 @@ pub enum RecordEvent {
 /// Reads a complete single stream, or its next piece after a `Pause`, and gives its page records as
 /// they are read. It lends their pages from those bytes, but for a page whose first bytes an
 /// earlier piece had.
-#[derive(Drop)]
 pub struct RecordReader<'a, A: Allocator = Global> {
     progress: Progress<'a, A>,
     // the bytes of the next item that earlier pieces had
@@ -59,6 +58,20 @@ pub struct RecordReader<'a, A: Allocator = Global> {
     given: StreamRound<'a, A>,
     // how many bytes the stream has up to the end of the rest
     fed: u64,
+}
+
+// Written out, so that a caller's proof passes a call where a value is dropped.
+impl<'a, A: Allocator> Drop for RecordReader<'a, A> {
+    fn drop(self) {
+        let RecordReader {
+            progress: _,
+            pending: _,
+            rest: _,
+            found: _,
+            given: _,
+            fed: _,
+        } = self;
+    }
 }
 
 impl<'a, A: Allocator> Model for RecordReader<'a, A> {
@@ -85,12 +98,22 @@ impl<'a, A: Allocator> fmt::Debug for RecordReader<'a, A> {
 ///
 /// Load piece after piece: `resume` with the next one, `read_on` until `End(Reading)`, and `pause`.
 /// A caller that reads pages straight to their destination asks for each piece by `wanted`.
-#[derive(Drop)]
 pub struct Pause<A: Allocator = Global> {
     pub(crate) progress: Progress<'static, A>,
     pub(crate) pending: Vec<u8, A>,
     // how many bytes the stream has so far
     pub(crate) fed: u64,
+}
+
+// Written out, so that a caller's proof passes a call where a value is dropped.
+impl<A: Allocator> Drop for Pause<A> {
+    fn drop(self) {
+        let Pause {
+            progress: _,
+            pending: _,
+            fed: _,
+        } = self;
+    }
 }
 
 impl<A: Allocator> Model for Pause<A> {
@@ -381,8 +404,9 @@ impl<'a, A: Allocator + Copy> RecordReader<'a, A> {
             progress,
             mut pending,
             rest,
+            found: _,
+            given: _,
             fed,
-            ..
         } = self;
         pending.extend_from_slice(rest.bytes())?;
         Ok(Pause {

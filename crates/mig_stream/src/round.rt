@@ -56,9 +56,15 @@ fn push<'a, A: Allocator>(
 }
 
 /// Page records, one after another.
-#[derive(Drop)]
 pub(crate) struct Records<'a, A: Allocator> {
     items: Vec<Record<'a, A>, A>,
+}
+
+// Written out, so that a caller's proof passes a call where a value is dropped.
+impl<'a, A: Allocator> Drop for Records<'a, A> {
+    fn drop(self) {
+        let Records { items: _ } = self;
+    }
 }
 
 impl<'a, A: Allocator> Model for Records<'a, A> {
@@ -208,10 +214,19 @@ impl<'a, A: Allocator + Copy> Records<'a, A> {
 }
 
 /// A complete round: its page records, in the order of the stream.
-#[derive(Drop)]
 pub struct StreamRound<'a, A: Allocator = Global> {
     page_size: u64,
     records: Records<'a, A>,
+}
+
+// Written out, so that a caller's proof passes a call where a value is dropped.
+impl<'a, A: Allocator> Drop for StreamRound<'a, A> {
+    fn drop(self) {
+        let StreamRound {
+            page_size: _,
+            records: _,
+        } = self;
+    }
 }
 
 impl<'a, A: Allocator> Model for StreamRound<'a, A> {

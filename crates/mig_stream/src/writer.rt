@@ -58,11 +58,21 @@ const CLOSING: [u8; 19] = [
 /// assert!(rt; writer.part(&image, &dirty).is_ok());
 /// writer.finish().ok().expect(rt, "a stream")
 /// ```
-#[derive(Drop)]
 pub struct StreamWriter<A: Allocator = Global> {
     table: Table<A>,
     text: Vec<u8, A>,
     named: Option<usize>,
+}
+
+// Written out, so that a caller's proof passes a call where a value is dropped.
+impl<A: Allocator> Drop for StreamWriter<A> {
+    fn drop(self) {
+        let StreamWriter {
+            table: _,
+            text: _,
+            named: _,
+        } = self;
+    }
 }
 
 impl<A: Allocator> Model for StreamWriter<A> {
@@ -399,12 +409,22 @@ impl<A: Allocator> StreamWriter<A> {
 /// A part that is written page after page: a round whose pages are what its caller read, as of a
 /// guest that runs on. It has the writer until the part is ended or cancelled. If it is dropped,
 /// the writer is dropped too, and the stream can't be finished.
-#[derive(Drop)]
 pub struct OpenPart<A: Allocator = Global> {
     writer: StreamWriter<A>,
     // the length of the stream before the part, and the block that was named last there
     len: usize,
     named: Option<usize>,
+}
+
+// Written out, so that a caller's proof passes a call where a value is dropped.
+impl<A: Allocator> Drop for OpenPart<A> {
+    fn drop(self) {
+        let OpenPart {
+            writer: _,
+            len: _,
+            named: _,
+        } = self;
+    }
 }
 
 impl<A: Allocator> Model for OpenPart<A> {
@@ -468,7 +488,14 @@ impl<A: Allocator> OpenPart<A> {
         ensures err { IfErr result (λ part. part ≡ self) }
     {
         match self.writer.text.extend_from_slice(&SECTION_END) {
-            Ok(()) => Ok(self.writer),
+            Ok(()) => {
+                let OpenPart {
+                    writer,
+                    len: _,
+                    named: _,
+                } = self;
+                Ok(writer)
+            }
             Err(_) => Err(self),
         }
     }
@@ -477,7 +504,12 @@ impl<A: Allocator> OpenPart<A> {
     pub fn cancel(mut self) -> StreamWriter<A>
         ensures { result ≡ self.before }
     {
-        self.writer.go_back(self.len, self.named);
-        self.writer
+        let OpenPart {
+            mut writer,
+            len,
+            named,
+        } = self;
+        writer.go_back(len, named);
+        writer
     }
 }

@@ -18,11 +18,11 @@ put_records-requires g c =
 
 pub returns-then-not-has_misplaced-clause-taken : goal.returns-then-not-has_misplaced-clause-taken
 returns-then-not-has_misplaced-clause-taken g c = λ given k text stands.
-    let right : IsFalse c.args.round.now.has_misplaced = sym c.records-in-Some.ensures.misplaced ∙ sym c.has_misplaced.ensures ∙ c.if-not-has_misplaced.true in
+    let right : IsFalse c.args.round.now.has_misplaced = sym c.records.ensures.misplaced ∙ sym c.has_misplaced.ensures ∙ c.if-not-has_misplaced.true in
     inr (takes_records given k text c.args.main.now c.take_round.new.self c.in-Some.records c.args.round.now
-    c.records-in-Some.new.self (g.M.GuestTarget.image c.args.memory.now)
+    c.records.new.self (g.M.GuestTarget.image c.args.memory.now)
     (g.M.GuestTarget.image c.put_records.new.memory) c.in-Some.ensures.round c.in-Some.ensures.whole stands
-    (c.in-Some.ensures.stands given k text stands) c.records-in-Some.ensures.keeps c.records-in-Some.ensures.misplaced
+    (c.in-Some.ensures.stands given k text stands) c.records.ensures.keeps c.records.ensures.misplaced
     (λ _. c.put_records.ensures.image) (λ wrong. absurd cc))
 
 pub returns-then-not-has_misplaced-clause-main : goal.returns-then-not-has_misplaced-clause-main
@@ -32,15 +32,15 @@ returns-then-not-has_misplaced-clause-main g c =
 pub returns-then-not-has_misplaced-clause-round : goal.returns-then-not-has_misplaced-clause-round
 returns-then-not-has_misplaced-clause-round g c =
     also_records (g.M.GuestTarget.image c.args.memory.now).table
-    (pages_of_round c.in-Some.records) c.args.round.now c.records-in-Some.new.self c.records-in-Some.ensures.keeps c.requires.round
+    (pages_of_round c.in-Some.records) c.args.round.now c.records.new.self c.records.ensures.keeps c.requires.round
 
 pub returns-in-Some-clause-taken : goal.returns-in-Some-clause-taken
 returns-in-Some-clause-taken g c = λ given k text stands.
-    let wrong : IsTrue c.args.round.now.has_misplaced = sym c.records-in-Some.ensures.misplaced ∙ sym c.has_misplaced.ensures ∙ c.if-not-has_misplaced.false in
+    let wrong : IsTrue c.args.round.now.has_misplaced = sym c.records.ensures.misplaced ∙ sym c.has_misplaced.ensures ∙ c.if-not-has_misplaced.false in
     inr (takes_records given k text c.args.main.now c.take_round.new.self c.in-Some.records c.args.round.now
-    c.records-in-Some.new.self (g.M.GuestTarget.image c.args.memory.now)
+    c.records.new.self (g.M.GuestTarget.image c.args.memory.now)
     (g.M.GuestTarget.image c.args.memory.now) c.in-Some.ensures.round c.in-Some.ensures.whole stands
-    (c.in-Some.ensures.stands given k text stands) c.records-in-Some.ensures.keeps c.records-in-Some.ensures.misplaced
+    (c.in-Some.ensures.stands given k text stands) c.records.ensures.keeps c.records.ensures.misplaced
     (λ right. absurd cc) (λ _. refl))
 
 pub returns-in-Some-clause-main : goal.returns-in-Some-clause-main
@@ -50,7 +50,7 @@ returns-in-Some-clause-main g c = main_still
 pub returns-in-Some-clause-round : goal.returns-in-Some-clause-round
 returns-in-Some-clause-round g c =
     also_records (g.M.GuestTarget.image c.args.memory.now).table
-    (pages_of_round c.in-Some.records) c.args.round.now c.records-in-Some.new.self c.records-in-Some.ensures.keeps c.requires.round
+    (pages_of_round c.in-Some.records) c.args.round.now c.records.new.self c.records.ensures.keeps c.requires.round
 
 pub returns-clause-taken : goal.returns-clause-taken
 returns-clause-taken g c = λ given k text stands. inl (c.in_default.ensures.none, refl, refl, λ open_. c.in_default.ensures.last open_ given k text stands)

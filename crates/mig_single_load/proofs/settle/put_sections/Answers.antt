@@ -37,10 +37,10 @@ sections-preserved g c = record {
       let put = c.sections.invariant.put given first text ended before in
       let round = of_some _ c.in-Ok-Some.field-0 c.in-Ok-Some.section c.in-Ok-Some.field-0-is c.in-Ok-Some.ensures.round single
       (put_so_far text ended n) put.stands in
-      put_more given first text ended c.sections.reader c.take_round.new.self c.sections.target c.section-in-Ok-Some.new.self c.in-Ok-Some.section
+      put_more given first text ended c.sections.reader c.take_round.new.self c.sections.target c.section.new.self c.in-Ok-Some.section
       put round.0 round.1 (of_some _ c.in-Ok-Some.field-0 c.in-Ok-Some.section c.in-Ok-Some.field-0-is c.in-Ok-Some.ensures.stands
       single (put_so_far text ended n) put.stands)
-      c.section-in-Ok-Some.ensures.memory c.section-in-Ok-Some.ensures.named c.section-in-Ok-Some.ensures.rounds;
+      c.section.ensures.memory c.section.ensures.named c.section.ensures.rounds;
   fed = c.take_round.ensures.same.0 ∙ c.sections.invariant.fed;
   ended = c.take_round.ensures.same.1 ∙ c.sections.invariant.ended;
 }
