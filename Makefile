@@ -5,7 +5,7 @@ WORDS ?=
 CRATES ?=
 PREFIX ?= /usr/local
 
-.PHONY: help run check build program lib install example bench header try runs mutants interop promises documents site test gate
+.PHONY: help run check build program lib install uninstall example bench header try runs mutants interop promises documents site test gate
 
 help: ## at once | lists the targets
 	@echo "Times on 4 processors, from a fresh clone:"
@@ -35,11 +35,15 @@ program: ## half an hour and more | proves and builds zimgasol: crates/zimgasol_
 lib: header ## half an hour and more | proves and builds the library for C: out/libzimgasol.a, .so
 	@tools/lib.sh
 
-install: ## at once, after lib or program | puts what was built, and its page, below PREFIX=DIR
+install: ## at once, after lib or program | puts what was built below PREFIX=DIR; LIBDIR, INCLUDEDIR, DESTDIR
 	@tools/install.sh "$(PREFIX)"
 
-example: lib ## three minutes, after lib | builds and runs the C programs of examples/c
+uninstall: ## at once, after install | removes what was installed; the same PREFIX and DESTDIR
+	@tools/install.sh --uninstall "$(PREFIX)"
+
+example: lib ## three minutes, after lib | builds and runs the C programs of examples/c, and installs the library
 	@tools/example.py
+	@tools/try_install.py
 
 bench: ## at once, after lib | builds the benchmarks of the library for C: out/bench
 	@test -f out/libzimgasol.a || { echo "out/libzimgasol.a isn't there: make lib" >&2; exit 1; }

@@ -1,21 +1,61 @@
 #!/bin/sh -e
-# Puts what was built below PREFIX (or below DESTDIR/PREFIX, where a package is made):
-#
-#   of `make lib`      header, archive, shared library where there is one, pkg-config file, docs/C.md
-#   of `make program`  bin/zimgasol, docs/ZIMGASOL.md
-#
-# and the licence.
+# Puts what was built below PREFIX, or below DESTDIR/PREFIX to make a package, or removes it:
 #
 #   tools/install.sh PREFIX
+#   tools/install.sh --uninstall PREFIX
+#
+# Installed are
+#
+#   of `make lib`      header, archive, shared library where there is one, pkg-config file, CMake
+#                      package, docs/C.md
+#   of `make program`  bin/zimgasol, docs/ZIMGASOL.md
+#
+# and the licence. Libraries go to LIBDIR, or else PREFIX/lib, and the header to INCLUDEDIR, or else
+# PREFIX/include. PREFIX/share/doc/zimgasol/installed lists what was put, and the folders that were
+# made for it. --uninstall removes what this file lists, and a folder only if it is empty then.
 #
 # The .pc file's URL is ZIMGASOL_URL, or else the installed page.
 cd "$(dirname "$0")/.."
-prefix=${1-}
-if [ -z "$prefix" ]; then
-    echo "tools/install.sh PREFIX, or make install PREFIX=DIR" >&2
+action=install
+if [ "$1" = --uninstall ]; then
+    action=uninstall
+    shift
+fi
+if [ -z "$1" ]; then
+    echo "tools/install.sh [--uninstall] PREFIX, or make $action PREFIX=DIR" >&2
     exit 2
 fi
-case $prefix in /*) ;; *) prefix=$PWD/$prefix ;; esac
+
+# Prints a folder's name from the root on, without a slash at its end.
+whole() {
+    case $1 in /*) printf '%s\n' "${1%/}" ;; *) printf '%s\n' "$PWD/${1%/}" ;; esac
+}
+
+prefix=$(whole "$1")
+DESTDIR=$(test -z "$DESTDIR" || whole "$DESTDIR")
+libdir=$(whole "${LIBDIR:-$prefix/lib}")
+includedir=$(whole "${INCLUDEDIR:-$prefix/include}")
+doc=$prefix/share/doc/zimgasol
+list=$DESTDIR$doc/installed
+
+if [ $action = uninstall ]; then
+    if ! test -f "$list"; then
+        echo "$list isn't there: nothing was installed" >&2
+        exit 1
+    fi
+    # Files are removed first. In this order a folder comes after those inside it.
+    listed=$(LC_ALL=C sort -r "$list")
+    printf '%s\n' "$listed" | while IFS= read -r one; do
+        case $one in */) ;; *) rm -f "$DESTDIR$one" ;; esac
+    done
+    rm -f "$list"
+    printf '%s\n' "$listed" | while IFS= read -r one; do
+        case $one in */) rmdir "$DESTDIR$one" 2> /dev/null || true ;; esac
+    done
+    echo "removed: what was installed below $DESTDIR$prefix"
+    exit 0
+fi
+
 library=out/libzimgasol.a
 program=crates/zimgasol_cli/out/zimgasol_cli
 if ! test -f $library && ! test -f $program; then
@@ -23,37 +63,106 @@ if ! test -f $library && ! test -f $program; then
     exit 1
 fi
 version=$(sed -n 's/^#define ZIMGASOL_VERSION "\(.*\)"$/\1/p' include/zimgasol.h)
-to=$DESTDIR$prefix
-install -d "$to/share/doc/zimgasol"
-install -m 644 LICENSE "$to/share/doc/zimgasol"
+series=${version%.*}
+put=
+
+# Notes what was put, or a folder that was made, whose name a slash ends.
+note() {
+    put="$put$1
+"
+}
+
+# Adds what was noted to the list, also where a step failed.
+save() {
+    test -d "$DESTDIR$doc" || return 0
+    { cat "$list" 2> /dev/null || true; printf %s "$put"; } | sort -u > "$list.new"
+    chmod 644 "$list.new"
+    mv "$list.new" "$list"
+}
+
+# Makes a folder, and before it those that it lies in.
+folder() {
+    test -d "$DESTDIR$1/" && return
+    folder "${1%/*}"
+    mkdir -m 755 "$DESTDIR$1"
+    note "$1/"
+}
+
+# Puts a file, with the permissions of the first word: put_file MODE FILE TO
+put_file() {
+    folder "${3%/*}"
+    install -m "$1" "$2" "$DESTDIR$3"
+    note "$3"
+}
+
+# Puts a symbolic link: put_link TO LINK
+put_link() {
+    folder "${2%/*}"
+    ln -sfn "$1" "$DESTDIR$2"
+    note "$2"
+}
+
+# Puts a file of tools/package, with values for the names in @: put_filled FILE LIBDIR INCLUDEDIR TO
+put_filled() {
+    folder "${4%/*}"
+    rm -f "$DESTDIR$4"
+    sed "$(replaced prefix "$prefix"; replaced libdir "$2"; replaced includedir "$3"
+        replaced url "${ZIMGASOL_URL:-file://$doc/C.md}"; replaced version "$version"
+        replaced series "$series")" "tools/package/$1" > "$DESTDIR$4"
+    chmod 644 "$DESTDIR$4"
+    note "$4"
+}
+
+# Prints sed's command that replaces @NAME@ by a text.
+replaced() {
+    printf '%s\n' "s|@$1@|$(printf '%s\n' "$2" | sed 's/[\\|&]/\\&/g')|g"
+}
+
+# Prints a folder's name as a pkg-config file has it.
+by_prefix() {
+    case $1 in
+        "$prefix"/*) printf '%s\n' "\${prefix}${1#"$prefix"}" ;;
+        *) printf '%s\n' "$1" ;;
+    esac
+}
+
+# Prints the way from one folder to another.
+relative() {
+    from=$1
+    up=
+    until case $2/ in "$from"/*) ;; *) false ;; esac; do
+        from=${from%/*}
+        up=../$up
+    done
+    down=$2/
+    down=${down#"$from"/}
+    way=$up${down%/}
+    printf '%s\n' "${way%/}"
+}
+
+mkdir -p "$DESTDIR/"
+trap save EXIT
+folder "$doc"
+put_file 644 LICENSE "$doc/LICENSE"
 if test -f $program; then
-    install -d "$to/bin"
-    install -m 755 $program "$to/bin/zimgasol"
-    install -m 644 docs/ZIMGASOL.md "$to/share/doc/zimgasol"
-    echo "installed: $to/bin/zimgasol"
+    put_file 755 $program "$prefix/bin/zimgasol"
+    put_file 644 docs/ZIMGASOL.md "$doc/ZIMGASOL.md"
+    echo "installed: $DESTDIR$prefix/bin/zimgasol"
 fi
 test -f $library || exit 0
-install -d "$to/include" "$to/lib/pkgconfig"
-install -m 644 include/zimgasol.h "$to/include/zimgasol.h"
-install -m 644 $library "$to/lib/libzimgasol.a"
-install -m 644 docs/C.md "$to/share/doc/zimgasol"
+put_file 644 include/zimgasol.h "$includedir/zimgasol.h"
+put_file 644 $library "$libdir/libzimgasol.a"
+put_file 644 docs/C.md "$doc/C.md"
 if test -f "out/libzimgasol.so.$version"; then
-    install -m 755 "out/libzimgasol.so.$version" "$to/lib/libzimgasol.so.$version"
-    ln -sf "libzimgasol.so.$version" "$to/lib/libzimgasol.so.${version%.*}"
-    ln -sf "libzimgasol.so.${version%.*}" "$to/lib/libzimgasol.so"
+    put_file 755 "out/libzimgasol.so.$version" "$libdir/libzimgasol.so.$version"
+    put_link "libzimgasol.so.$version" "$libdir/libzimgasol.so.$series"
+    put_link "libzimgasol.so.$series" "$libdir/libzimgasol.so"
 fi
-cat > "$to/lib/pkgconfig/zimgasol.pc" <<END
-prefix=$prefix
-exec_prefix=\${prefix}
-libdir=\${exec_prefix}/lib
-includedir=\${prefix}/include
-
-Name: zimgasol
-Description: A verified sender and loader of guest memory, in QEMU's migration formats
-URL: ${ZIMGASOL_URL:-file://$prefix/share/doc/zimgasol/C.md}
-License: Apache-2.0
-Version: $version
-Cflags: -I\${includedir}
-Libs: -L\${libdir} -lzimgasol
-END
-echo "installed: $to/lib/libzimgasol.a"
+put_filled zimgasol.pc.in "$(by_prefix "$libdir")" "$(by_prefix "$includedir")" \
+    "$libdir/pkgconfig/zimgasol.pc"
+cmake=$libdir/cmake/zimgasol
+for file in zimgasolConfig.cmake zimgasolConfigVersion.cmake; do
+    put_filled $file.in "$(relative "$cmake" "$libdir")" "$(relative "$cmake" "$includedir")" \
+        "$cmake/$file"
+done
+echo "installed: $DESTDIR$libdir/libzimgasol.a"
