@@ -13,6 +13,7 @@
  * word it prints its usage. Status 3: it can't go on, and says why.
  */
 #include "yardstick.h"
+#include <stdio.h>
 #include <stdlib.h>
 #include <string.h>
 

@@ -142,17 +142,18 @@ static uint64_t load(void *of) {
 static uint64_t place(void *of) {
     hostile *h = of;
     const zimgasol_settings settings = {.frame = h->frame, .zero_blocks = h->is_fresh};
-    zimgasol_in_place load = {0};
+    zimgasol_load load = {0};
     zimgasol_fault fault;
-    size_t len;
-    check(zimgasol_in_place_new_within(&load, &h->guest.table, &settings), "in_place_new_within");
+    size_t len, count;
+    check(zimgasol_load_new(&load, &h->guest.table, uuid, 0, 0, &settings), "load_new");
     for (size_t at = 0; (len = piece_len(&h->bytes, at, PIECE)) > 0; at += len)
-        check(zimgasol_in_place_feed(&load, h->blocks, h->count, h->bytes.bytes + at, len),
-            "in_place_feed");
-    zimgasol_in_place_end(&load);
-    check_verdict(zimgasol_in_place_verdict(&load, &fault), h, "in_place_verdict");
-    uint64_t rounds = zimgasol_in_place_rounds(&load);
-    zimgasol_in_place_free(&load);
+        check(zimgasol_load_feed(&load, h->blocks, h->count, ZIMGASOL_MAIN, h->bytes.bytes + at,
+                  len, &count),
+            "load_feed");
+    check(zimgasol_load_end(&load, ZIMGASOL_MAIN), "load_end");
+    check_verdict(zimgasol_load_verdict(&load, &fault), h, "load_verdict");
+    uint64_t rounds = zimgasol_load_rounds(&load);
+    zimgasol_load_free(&load);
     return rounds;
 }
 

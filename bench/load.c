@@ -72,19 +72,21 @@ static uint64_t load(void *of) {
 
 /* Loads the stream into a block. Returns how many sections it had. */
 static uint64_t place_into(uint8_t *bytes, const loading *l) {
-    zimgasol_in_place load = {0};
+    const zimgasol_settings settings = {.frame = l->frame};
+    zimgasol_load load = {0};
     zimgasol_buffer block = {bytes, l->guest->len};
     zimgasol_fault fault;
-    size_t len;
-    check(zimgasol_in_place_new(&load, &l->guest->table, l->frame), "in_place_new");
+    size_t len, count;
+    check(zimgasol_load_new(&load, &l->guest->table, uuid, 0, 0, &settings), "load_new");
     for (size_t at = 0; (len = piece_len(l->stream, at, l->piece)) > 0; at += len)
-        check(zimgasol_in_place_feed(&load, &block, 1, l->stream->bytes + at, len),
-            "in_place_feed");
-    zimgasol_in_place_end(&load);
-    check(zimgasol_in_place_verdict(&load, &fault), "in_place_verdict");
+        check(zimgasol_load_feed(&load, &block, 1, ZIMGASOL_MAIN, l->stream->bytes + at, len,
+                  &count),
+            "load_feed");
+    check(zimgasol_load_end(&load, ZIMGASOL_MAIN), "load_end");
+    check(zimgasol_load_verdict(&load, &fault), "load_verdict");
     check_last_page(l->guest, bytes + block.len - PAGE);
-    uint64_t rounds = zimgasol_in_place_rounds(&load);
-    zimgasol_in_place_free(&load);
+    uint64_t rounds = zimgasol_load_rounds(&load);
+    zimgasol_load_free(&load);
     return rounds;
 }
 

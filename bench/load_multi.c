@@ -2,6 +2,7 @@
  * memory of its own, and by one that writes into a block. The main stream is fed first, and then
  * pieces of 64 KiB of the channels in turn. */
 #include "yardstick.h"
+#include <stdio.h>
 #include <stdlib.h>
 
 /* What is loaded, and the block that a load in place writes into. It is in use, and holds what the
@@ -58,33 +59,33 @@ static uint64_t load_session(void *of) {
 
 /* A load, and the block that it writes into. */
 typedef struct placing {
-    zimgasol_in_place_session session;
+    zimgasol_load load;
     zimgasol_buffer block;
 } placing;
 
 static void feed_placing(void *load, size_t source, const uint8_t *piece, size_t len) {
     placing *p = load;
     size_t count = 0;
-    check(zimgasol_in_place_session_feed(&p->session, &p->block, 1, source, piece, len, &count),
-        "in_place_session_feed");
+    check(zimgasol_load_feed(&p->load, &p->block, 1, source, piece, len, &count), "load_feed");
     if (count != len) give_up("a piece of the only round wasn't taken");
 }
 
 /* Loads the streams into the block. Returns how many rounds they had. */
 static uint64_t load_placing(void *of) {
     const loading *l = of;
+    const zimgasol_settings settings = {.frame = ZIMGASOL_FRAME_RAM};
     placing p = {.block = {l->block, l->guest->len}};
     zimgasol_fault fault;
-    check(zimgasol_in_place_session_new(&p.session, &l->guest->table, uuid, sizeof uuid,
-              l->sent->count, ZIMGASOL_FRAME_RAM),
-        "in_place_session_new");
+    check(zimgasol_load_new(&p.load, &l->guest->table, uuid, sizeof uuid, l->sent->count,
+              &settings),
+        "load_new");
     feed_all(l->sent, feed_placing, &p);
     for (size_t source = 0; source <= l->sent->count; source++)
-        check(zimgasol_in_place_session_end(&p.session, source), "in_place_session_end");
-    check(zimgasol_in_place_session_verdict(&p.session, &fault), "in_place_session_verdict");
+        check(zimgasol_load_end(&p.load, source), "load_end");
+    check(zimgasol_load_verdict(&p.load, &fault), "load_verdict");
     check_last_page(l->guest, l->block + l->guest->len - PAGE);
-    uint64_t rounds = zimgasol_in_place_session_rounds(&p.session);
-    zimgasol_in_place_session_free(&p.session);
+    uint64_t rounds = zimgasol_load_rounds(&p.load);
+    zimgasol_load_free(&p.load);
     return rounds;
 }
 

@@ -2,6 +2,7 @@
  * a thread of its own: by a new sender, to the end of its streams, and by one that is kept and
  * drained after each round. */
 #include "yardstick.h"
+#include <stdio.h>
 
 /* What is sent, and where. The sender and its streams are kept, or each run makes its own. */
 typedef struct sending {

@@ -4,6 +4,7 @@
 #define _GNU_SOURCE
 #include "sockets.h"
 #include <errno.h>
+#include <stdio.h>
 #include <stdlib.h>
 #include <string.h>
 #include <sys/socket.h>

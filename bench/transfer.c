@@ -1,7 +1,7 @@
 /* Moves all pages of a guest in one round over sockets, on one channel, on two and on four, with a
  * thread for each that writes and one that reads the pages to their places: by heads of packets and
- * zimgasol_apart, and plainly, which does the same but for a load. Then it does so with a receiver
- * alone, whose channels are files in memory. */
+ * zimgasol_load_claim, and plainly, which does the same but for a load. Then it does so with a
+ * receiver alone, whose channels are files in memory. */
 #define _GNU_SOURCE
 #include "sockets.h"
 #include <errno.h>
@@ -16,7 +16,7 @@
  * its channels are to come before packets are claimed. */
 typedef struct loading {
     zimgasol_buffer block;
-    zimgasol_apart load;
+    zimgasol_load load;
     size_t awaited;
     pthread_mutex_t held;
     pthread_cond_t turned;
@@ -88,11 +88,11 @@ static void feed(loading *to, size_t source, const uint8_t *bytes, size_t len) {
     size_t taken;
     pthread_mutex_lock(&to->held);
     while (len > 0) {
-        if (zimgasol_apart_claimed(&to->load) > 0 || !zimgasol_apart_takes(&to->load, source)) {
+        if (zimgasol_load_claimed(&to->load) > 0 || !zimgasol_load_takes(&to->load, source)) {
             pthread_cond_wait(&to->turned, &to->held);
             continue;
         }
-        check(zimgasol_apart_feed(&to->load, &to->block, 1, source, bytes, len, &taken), "feed");
+        check(zimgasol_load_feed(&to->load, &to->block, 1, source, bytes, len, &taken), "feed");
         bytes += taken;
         len -= taken;
         pthread_cond_broadcast(&to->turned);
@@ -112,7 +112,7 @@ static void feed_hello(loading *to, size_t number, const uint8_t *hello) {
 
 static void end(loading *to, size_t source) {
     pthread_mutex_lock(&to->held);
-    check(zimgasol_apart_end(&to->load, source), "end");
+    check(zimgasol_load_end(&to->load, source), "end");
     pthread_cond_broadcast(&to->turned);
     pthread_mutex_unlock(&to->held);
 }
@@ -121,9 +121,9 @@ static zimgasol_status claim(channel *c, const uint8_t *head, zimgasol_pages *pa
     loading *to = c->into;
     zimgasol_status status;
     pthread_mutex_lock(&to->held);
-    while (to->awaited > 0 || !zimgasol_apart_takes(&to->load, ZIMGASOL_CHANNEL(c->number)))
+    while (to->awaited > 0 || !zimgasol_load_takes(&to->load, ZIMGASOL_CHANNEL(c->number)))
         pthread_cond_wait(&to->turned, &to->held);
-    while ((status = zimgasol_apart_claim(&to->load, c->number, head, HEAD, pages)) ==
+    while ((status = zimgasol_load_claim(&to->load, c->number, head, HEAD, pages)) ==
         ZIMGASOL_IS_CLAIMED)
         pthread_cond_wait(&to->turned, &to->held);
     pthread_mutex_unlock(&to->held);
@@ -139,7 +139,7 @@ static void take(channel *c, const uint8_t *head, const zimgasol_pages *pages) {
         contents[i] = (zimgasol_lent){to->block.bytes + pages->pages[i] * PAGE, PAGE};
     pthread_mutex_lock(&to->held);
     zimgasol_status status =
-        zimgasol_apart_take(&to->load, c->number, head, HEAD, contents, pages->normal);
+        zimgasol_load_take(&to->load, c->number, head, HEAD, contents, pages->normal);
     if (status != ZIMGASOL_RUNNING) check(status, "take");
     pthread_cond_broadcast(&to->turned);
     pthread_mutex_unlock(&to->held);
@@ -167,14 +167,14 @@ static void *load_channel(void *of) {
 
 static void begin_load(loading *to, guest *of, size_t count) {
     zimgasol_settings settings = {0};
-    check(zimgasol_apart_new(&to->load, &of->table, uuid, 16, count, &settings), "apart_new");
+    check(zimgasol_load_new(&to->load, &of->table, uuid, 16, count, &settings), "load_new");
     to->awaited = count;
 }
 
 static void end_load(loading *to) {
     zimgasol_fault fault;
-    check(zimgasol_apart_verdict(&to->load, &fault), "verdict");
-    zimgasol_apart_free(&to->load);
+    check(zimgasol_load_verdict(&to->load, &fault), "verdict");
+    zimgasol_load_free(&to->load);
 }
 
 /* ---- a transfer */

@@ -1,6 +1,7 @@
 /* Times works and the copies that they are compared with, and keeps streams in memory. */
 #define _GNU_SOURCE
 #include "yardstick.h"
+#include <stdio.h>
 #include <stdlib.h>
 #include <string.h>
 #include <time.h>

@@ -16,11 +16,11 @@
  *    call gets one whose `_new` returned ZIMGASOL_DONE and that wasn't freed since. A worker's
  *    `_new` is zimgasol_multi_worker, and a zimgasol_multi_give_back that returns ZIMGASOL_DONE
  *    empties it.
- *  - Threads. One call at a time works on a handle. A handle may pass to another thread, if a lock,
- *    the start or the join of a thread, or a sequentially consistent atomic orders the calls before
- *    and after. Calls on different handles may run at once, but the table that a `_new` is passed
- *    is used by that call, too. Each call that takes a handle writes to it, also where it only
- *    reports something, so no handle is passed as `const`.
+ *  - Threads. One call at a time works on a handle. A handle may pass to another thread, if the
+ *    calls before happen before those after, as by a lock, the start or the join of a thread, or an
+ *    atomic that is released and acquired. Calls on different handles may run at once, but the
+ *    table that a `_new` is passed is used by that call, too. Each call that takes a handle writes
+ *    to it, also where it only reports something, so no handle is passed as `const`.
  *  - Signals and forks. No call is made from a signal handler, nor in the child of a `fork` of a
  *    process with threads.
  *  - Buffers. A buffer is valid for its length, and nobody writes to it while the call runs; two
@@ -36,10 +36,12 @@
  * compare bytes, and nothing else. So no call starts a thread, waits, reads or writes a file, or
  * prints, and none sets `errno` but by `malloc` and `realloc`. Proofs don't count the stack: as
  * with any C function, the system stops a thread that has too little. The library is for x86-64
- * alone, 64 bits, and is built for processors with x86-64-v2 (SSE4.2), which it doesn't check.
+ * alone, 64 bits, and is built for processors with x86-64-v2 (SSE4.2): its files are marked with
+ * that, so that the system's loader refuses a program on another one.
  *
  * A call that may be refused returns a status: ZIMGASOL_DONE, the number of a fault (1 to 65, see
- * docs/FAULTS.md), or one of the numbers from 100 on. After anything but ZIMGASOL_DONE nothing has
+ * docs/FAULTS.md), or one of the numbers from 100 on. A later version may return other numbers: a
+ * caller treats one that it doesn't know as a fault. After anything but ZIMGASOL_DONE nothing has
  * changed, unless the call says otherwise.
  *
  * Pages that are written meanwhile. The bytes that a call is passed may not change while it runs,
@@ -59,12 +61,18 @@
 #include <stdbool.h>
 #include <stddef.h>
 #include <stdint.h>
-#include <stdio.h>
 
-/* The version of this header (CHANGELOG.md), and its number: 10000 * major + 100 * minor +
- * patch. */
+/* The version of this header (CHANGELOG.md), its three parts, and its number: 10000 * major +
+ * 100 * minor + patch. */
 #define ZIMGASOL_VERSION "0.3.0"
+#define ZIMGASOL_VERSION_MAJOR 0
+#define ZIMGASOL_VERSION_MINOR 3
+#define ZIMGASOL_VERSION_PATCH 0
 #define ZIMGASOL_VERSION_NUMBER 300
+
+/* Whether this header has at least this version, also for `#if`. */
+#define ZIMGASOL_VERSION_AT_LEAST(major, minor, patch)                                             \
+    (ZIMGASOL_VERSION_NUMBER >= 10000 * (major) + 100 * (minor) + (patch))
 
 /* What stands before each call. A program may define it itself, before it includes the header. */
 #ifndef ZIMGASOL_API
@@ -75,11 +83,26 @@
 #endif
 #endif
 
+/* What stands before each call that returns a status. A compiler warns where a program ignores the
+ * status of such a call. A program may define it itself, too, as ZIMGASOL_API for no warnings. */
+#ifndef ZIMGASOL_CHECKED
+#if (defined(__cplusplus) && __cplusplus >= 201703L) ||                                            \
+    (defined(__STDC_VERSION__) && __STDC_VERSION__ >= 202311L)
+#define ZIMGASOL_CHECKED [[nodiscard]] ZIMGASOL_API
+#elif defined(__GNUC__)
+#define ZIMGASOL_CHECKED __attribute__((warn_unused_result)) ZIMGASOL_API
+#else
+#define ZIMGASOL_CHECKED ZIMGASOL_API
+#endif
+#endif
+
 #ifdef __cplusplus
 extern "C" {
 #define ZIMGASOL_ASSERT(holds, words) static_assert(holds, words)
+#define ZIMGASOL_CAST(type, value) static_cast<type>(value)
 #else
 #define ZIMGASOL_ASSERT(holds, words) _Static_assert(holds, words)
+#define ZIMGASOL_CAST(type, value) ((type)(value))
 #endif
 
 ZIMGASOL_ASSERT(sizeof(void *) == 8 && sizeof(size_t) == 8, "zimgasol is for 64 bits only");
@@ -228,13 +251,13 @@ typedef enum zimgasol_status {
     ZIMGASOL_BAD_PAGE_SIZE = 101,
     /* a limit above 2^40 */
     ZIMGASOL_BAD_LIMIT = 102,
-    /* no channel, or more than 255 */
+    /* more than 255 channels, or none where one must be */
     ZIMGASOL_BAD_CHANNELS = 103,
     /* no such source */
     ZIMGASOL_BAD_SOURCE = 104,
     /* the source is over: it was ended before */
     ZIMGASOL_IS_OVER = 105,
-    /* the stream would have 2^63 bytes or more (a source of a session: 2^64) */
+    /* the stream would have 2^63 bytes or more (a source of several channels: 2^64) */
     ZIMGASOL_TOO_LONG = 106,
     /* no such block or page, or no memory yet */
     ZIMGASOL_NO_PAGE = 107,
@@ -242,7 +265,7 @@ typedef enum zimgasol_status {
     ZIMGASOL_BAD_LENGTH = 108,
     /* a call out of turn: a round is open, or none is, or the stream is ended; a worker isn't the
      * next one, hasn't ended, has drawn no batch, or has bytes to be drained; no page comes next
-     * (zimgasol_in_place_page_read); pages are claimed, or none of this packet (zimgasol_apart) */
+     * (zimgasol_load_page_read); pages are claimed, or none of this packet (zimgasol_load_take) */
     ZIMGASOL_OUT_OF_TURN = 109,
     /* more pages than a packet has: 128 of 4096 bytes, 64 of 8192 */
     ZIMGASOL_TOO_MANY_PAGES = 110,
@@ -253,10 +276,10 @@ typedef enum zimgasol_status {
     ZIMGASOL_BAD_FRAME = 113,
     /* an end of rounds that isn't one */
     ZIMGASOL_BAD_ROUND_END = 114,
-    /* a page is claimed for a packet that wasn't taken yet (zimgasol_apart_claim) */
+    /* a page is claimed for a packet that wasn't taken yet (zimgasol_load_claim) */
     ZIMGASOL_IS_CLAIMED = 115,
     /* bytes that are to be fed: they aren't the head of a packet that is taken apart
-     * (zimgasol_apart_claim) */
+     * (zimgasol_load_claim) */
     ZIMGASOL_TO_FEED = 116
 } zimgasol_status;
 
@@ -280,7 +303,7 @@ typedef enum zimgasol_frame {
 
 ZIMGASOL_ASSERT(sizeof(zimgasol_frame) == sizeof(uint32_t), "an enum has the size of an int");
 
-/* What ends a round of a main stream (a session and a load in place of several channels).
+/* What ends a round of a main stream (a session, and a load of several channels into blocks).
  * BY_FLUSH: each FLUSH record, as the senders of this library write it, and QEMU for machine types
  * of 8.1 and newer. BY_EOS: each EOS of a section, as QEMU writes it for machine types of 8.0 and
  * older, or with `multifd-flush-after-each-section=on`, which have no FLUSH. AS_SHOWN: what the
@@ -296,8 +319,8 @@ typedef enum zimgasol_round_end {
 
 ZIMGASOL_ASSERT(sizeof(zimgasol_round_end) == sizeof(uint32_t), "an enum has the size of an int");
 
-/* What a load is passed beside its streams, where its _new says `_within`. All zeros are the
- * settings of the same call without it, in the frame RAM.
+/* What a load is passed beside its streams. All zeros are a stream of the frame RAM, whose rounds
+ * end with FLUSH, without a limit, into blocks that hold anything.
  *  - `round_end`: what ends a round of a main stream. A load of a single stream doesn't use it.
  *  - `waiting`: the most page records of one section of a single stream, or of one round of a main
  *    stream. One more is the fault STREAM_WAITING. Each channel may have as many packets and pages
@@ -384,7 +407,7 @@ typedef struct zimgasol_buffer {
     size_t len;
 } zimgasol_buffer;
 
-/* The pages of one packet, which the caller reads to their places (zimgasol_apart_claim): the block
+/* The pages of one packet, which the caller reads to their places (zimgasol_load_claim): the block
  * that all of them are of, how many have contents in the packet (`normal`), how many are to be
  * cleared (`zero`), and their numbers in the block, those with contents first. The numbers after
  * the first `normal + zero` say nothing. All pages of zeros of the packet are to be cleared, or
@@ -399,9 +422,9 @@ typedef struct zimgasol_pages {
 /* How many bytes of a channel come at once before the contents of pages: those of its hello, and
  * those of a packet's head, 1344 or 832. */
 #define ZIMGASOL_HELLO_LEN 64
-#define ZIMGASOL_HEAD_LEN(page_size) ((size_t)(320 + 8 * (524288 / (page_size))))
+#define ZIMGASOL_HEAD_LEN(page_size) (sizeof(uint64_t) * (40 + 524288 / (page_size)))
 
-/* What the next bytes of a stream are (zimgasol_in_place_wanted): `len` of them, at least 1. If
+/* What the next bytes of a stream are (zimgasol_load_wanted): `len` of them, at least 1. If
  * is_page is 1 they are the content of a page, which belongs `offset` bytes into the buffer of
  * block `block`. Else is_page, `block` and `offset` are 0. */
 typedef struct zimgasol_next {
@@ -413,14 +436,12 @@ typedef struct zimgasol_next {
 
 /* The handles. `full` is 0 if a handle is empty. Its other values, and `at`, are the library's. */
 typedef struct zimgasol_table { void *at; uint64_t full; } zimgasol_table;
+typedef struct zimgasol_load { void *at; uint64_t full; } zimgasol_load;
 typedef struct zimgasol_loader { void *at; uint64_t full; } zimgasol_loader;
-typedef struct zimgasol_in_place { void *at; uint64_t full; } zimgasol_in_place;
 typedef struct zimgasol_session { void *at; uint64_t full; } zimgasol_session;
 typedef struct zimgasol_sender { void *at; uint64_t full; } zimgasol_sender;
-typedef struct zimgasol_in_place_session { void *at; uint64_t full; } zimgasol_in_place_session;
 typedef struct zimgasol_multi { void *at; uint64_t full; } zimgasol_multi;
 typedef struct zimgasol_worker { void *at; uint64_t full; } zimgasol_worker;
-typedef struct zimgasol_apart { void *at; uint64_t full; } zimgasol_apart;
 
 /* ---- versions and texts */
 
@@ -434,52 +455,33 @@ ZIMGASOL_API void zimgasol_read_status_text(uint32_t status, zimgasol_text *out)
 
 /* Returns a few words on a status, for logs; `unknown status` of a number that is none. */
 static inline const char *zimgasol_status_text(uint32_t status) {
-    zimgasol_text text = {(const uint8_t *)"", 1};
+    static const uint8_t empty[1] = {0};
+    zimgasol_text text = {empty, 1};
     zimgasol_read_status_text(status, &text);
-    return (const char *)text.bytes;
+    const void *words = text.bytes;
+    return ZIMGASOL_CAST(const char *, words);
 }
 
-/* Writes what a fault is, what it carries and where it is, to `out` as `snprintf` does, and returns
- * what that returns. It is C of this header, of which nothing is proved. */
+/* Writes what a fault is, what it carries and where it is to `out`, of `len` bytes, as far as there
+ * is room for it, and a byte 0: so all of it in 256 bytes. Where has_at is true it says at which
+ * byte of its source the fault is, too, as the _valid_up_to calls report it. Returns the text's
+ * length without the byte 0, also where it was cut. */
+ZIMGASOL_API uint64_t zimgasol_read_fault_text(const zimgasol_fault *fault, bool has_at,
+    uint64_t at, uint8_t *out, size_t len);
+
+/* Writes a fault's text to `out` as `snprintf` does, and returns what that returns. */
 static inline int zimgasol_fault_text(const zimgasol_fault *fault, char *out, size_t len) {
-    char carried[64] = "", source[32] = "";
-    unsigned long long first = fault->first, second = fault->second;
-    switch (fault->number) {
-    case ZIMGASOL_STREAM_FLAGS:
-    case ZIMGASOL_STREAM_FILL:
-    case ZIMGASOL_CHANNEL_PACKET_FLAGS:
-        snprintf(carried, sizeof carried, " 0x%llx", first);
-        break;
-    case ZIMGASOL_ROUND_FOREIGN:
-    case ZIMGASOL_ROUND_DOUBLED:
-    case ZIMGASOL_ROUND_MISSING:
-    case ZIMGASOL_ROUND_UNKNOWN_BLOCK:
-        snprintf(carried, sizeof carried, " (packet %llu)", first);
-        break;
-    case ZIMGASOL_ROUND_OFFSET:
-        snprintf(carried, sizeof carried, " (packet %llu, offset %llu)", first, second);
-        break;
-    case ZIMGASOL_ROUND_DOUBLE_PAGE:
-        snprintf(carried, sizeof carried, " (block %llu, page %llu)", first, second);
-        break;
-    default:
-        break;
-    }
-    if (fault->source != ZIMGASOL_MAIN && fault->source != ZIMGASOL_ROUND)
-        snprintf(source, sizeof source, ", channel %llu", (unsigned long long)fault->source - 1);
-    return snprintf(out, len, "%u, %s%s%s, after %llu rounds", (unsigned)fault->number,
-        zimgasol_status_text(fault->number), carried, source, (unsigned long long)fault->round);
+    void *bytes = out;
+    return ZIMGASOL_CAST(int, zimgasol_read_fault_text(fault, false, 0,
+        ZIMGASOL_CAST(uint8_t *, bytes), len));
 }
 
-/* As zimgasol_fault_text, and says at which byte of its source the fault is: where the item at
- * fault begins, as the _valid_up_to calls report it. */
+/* As zimgasol_fault_text, and says at which byte of its source the fault is. */
 static inline int zimgasol_fault_text_at(const zimgasol_fault *fault, uint64_t at, char *out,
     size_t len) {
-    int first = zimgasol_fault_text(fault, out, len);
-    size_t used = first < 0 ? 0 : (size_t)first;
-    int more = snprintf(used < len ? out + used : NULL, used < len ? len - used : 0,
-        ", at byte %llu", (unsigned long long)at);
-    return first < 0 || more < 0 ? -1 : first + more;
+    void *bytes = out;
+    return ZIMGASOL_CAST(int, zimgasol_read_fault_text(fault, true, at,
+        ZIMGASOL_CAST(uint8_t *, bytes), len));
 }
 
 /* ---- a table: the page size of a guest, and its RAM blocks in their order */
@@ -487,8 +489,26 @@ static inline int zimgasol_fault_text_at(const zimgasol_fault *fault, uint64_t a
 /* Makes a table of `count` blocks. Returns DONE, BAD_PAGE_SIZE, NO_MEMORY, or the first thing that
  * is wrong with the blocks, 1 to 6. With 3, 4 and 5 *entry is the number of the block, from 0; with
  * 1, 2, 6 and NO_MEMORY it is 0; else it is unchanged. The blocks stay the caller's. */
-ZIMGASOL_API zimgasol_status zimgasol_table_new(zimgasol_table *table, uint64_t page_size,
+ZIMGASOL_CHECKED zimgasol_status zimgasol_table_new(zimgasol_table *table, uint64_t page_size,
     const zimgasol_block *blocks, size_t count, size_t *entry);
+
+/* Makes the table of the stream that begins with `len` bytes, read in this frame with pages of
+ * page_size bytes: a saved file's, a single stream's or a main stream's. The bytes stay the
+ * caller's, and are fed to a load again. Returns DONE; RUNNING, if more bytes are needed: the call
+ * is made again with all of them and some more (the size list of 256 blocks has less than 70,000
+ * bytes); the number of the fault that stands before the table; BAD_PAGE_SIZE, BAD_FRAME or
+ * NO_MEMORY. So a reader finds the blocks of a file, maps or allocates them, and loads into them:
+ * blocks of zeros from calloc are a memory of the reader's own. */
+ZIMGASOL_CHECKED zimgasol_status zimgasol_table_of_stream(zimgasol_table *table, uint64_t page_size,
+    zimgasol_frame frame, const uint8_t *bytes, size_t len);
+
+/* Returns how many blocks a table has. */
+ZIMGASOL_API size_t zimgasol_table_blocks(zimgasol_table *table);
+
+/* Writes the id of block `i` and its number of pages to *out. Returns DONE, or NO_PAGE, with *out
+ * unchanged, if there is no such block. */
+ZIMGASOL_CHECKED zimgasol_status zimgasol_table_block(zimgasol_table *table, size_t i,
+    zimgasol_block *out);
 
 /* Frees it. Senders and loads that were made of it keep their own copy. */
 ZIMGASOL_API void zimgasol_table_free(zimgasol_table *table);
@@ -498,11 +518,11 @@ ZIMGASOL_API void zimgasol_table_free(zimgasol_table *table);
 /* Makes a loader of a stream with pages of this size, which is read in this frame. A stream whose
  * blocks have more than `limit` bytes together is refused (fault 20): `limit` is how much one guest
  * is to get. Returns DONE, BAD_PAGE_SIZE, BAD_LIMIT, BAD_FRAME or NO_MEMORY. */
-ZIMGASOL_API zimgasol_status zimgasol_loader_new(zimgasol_loader *loader, uint64_t page_size,
+ZIMGASOL_CHECKED zimgasol_status zimgasol_loader_new(zimgasol_loader *loader, uint64_t page_size,
     uint64_t limit, zimgasol_frame frame);
 
 /* As zimgasol_loader_new, with settings. */
-ZIMGASOL_API zimgasol_status zimgasol_loader_new_within(zimgasol_loader *loader,
+ZIMGASOL_CHECKED zimgasol_status zimgasol_loader_new_within(zimgasol_loader *loader,
     uint64_t page_size, uint64_t limit, const zimgasol_settings *settings);
 
 /* Takes the next piece of the stream, of any length, and puts the sections that it makes whole into
@@ -511,12 +531,12 @@ ZIMGASOL_API zimgasol_status zimgasol_loader_new_within(zimgasol_loader *loader,
  * which the next piece and zimgasol_loader_settle ask for again; IS_OVER after zimgasol_loader_end;
  * TOO_LONG. Once the stream is closed or has a fault, bytes are only counted, and NO_MEMORY doesn't
  * come; WAITS still may. */
-ZIMGASOL_API zimgasol_status zimgasol_loader_feed(zimgasol_loader *loader, const uint8_t *piece,
+ZIMGASOL_CHECKED zimgasol_status zimgasol_loader_feed(zimgasol_loader *loader, const uint8_t *piece,
     size_t len);
 
 /* Puts the sections that wait for a refused allocation into the memory. Returns DONE, also where
  * none waits, or NO_MEMORY, where they go on waiting. */
-ZIMGASOL_API zimgasol_status zimgasol_loader_settle(zimgasol_loader *loader);
+ZIMGASOL_CHECKED zimgasol_status zimgasol_loader_settle(zimgasol_loader *loader);
 
 /* Ends the stream: no piece is fed from now on. */
 ZIMGASOL_API void zimgasol_loader_end(zimgasol_loader *loader);
@@ -525,7 +545,7 @@ ZIMGASOL_API void zimgasol_loader_end(zimgasol_loader *loader);
  * frame MACHINE the footer of RAM's END); RUNNING if it has no fault so far, and STREAM_TRUNCATED
  * (34) in its place after zimgasol_loader_end; else the number of its first fault; NO_MEMORY if
  * sections wait. *found has the same number, with where it is. */
-ZIMGASOL_API zimgasol_status zimgasol_loader_verdict(zimgasol_loader *loader,
+ZIMGASOL_CHECKED zimgasol_status zimgasol_loader_verdict(zimgasol_loader *loader,
     zimgasol_fault *found);
 
 /* Returns how many sections are in the memory. START and END count, too. */
@@ -543,7 +563,7 @@ ZIMGASOL_API uint64_t zimgasol_loader_fed(zimgasol_loader *loader);
 /* Reports in *at how many of the bytes fed the stream has: those up to its end byte, or in the
  * frame MACHINE up to the footer of RAM's END. The bytes fed after them are the caller's. Returns
  * DONE; or RUNNING if the stream isn't closed, and *at is unchanged. */
-ZIMGASOL_API zimgasol_status zimgasol_loader_closed_at(zimgasol_loader *loader, uint64_t *at);
+ZIMGASOL_CHECKED zimgasol_status zimgasol_loader_closed_at(zimgasol_loader *loader, uint64_t *at);
 
 /* Returns how many of the bytes fed are complete items without a fault, from the first byte on. If
  * the verdict is a fault of the stream (11 to 34, 46 to 49, 64), the item at fault begins after
@@ -554,141 +574,28 @@ ZIMGASOL_API uint64_t zimgasol_loader_valid_up_to(zimgasol_loader *loader);
 ZIMGASOL_API size_t zimgasol_loader_blocks(zimgasol_loader *loader);
 
 /* Reports the id and the pages of block i. Returns DONE or NO_PAGE. */
-ZIMGASOL_API zimgasol_status zimgasol_loader_block(zimgasol_loader *loader, size_t i,
+ZIMGASOL_CHECKED zimgasol_status zimgasol_loader_block(zimgasol_loader *loader, size_t i,
     zimgasol_block *out);
 
 /* Copies a page of a block to `out`, whose length `len` is the page size. Returns DONE, NO_PAGE or
  * BAD_LENGTH. */
-ZIMGASOL_API zimgasol_status zimgasol_loader_page(zimgasol_loader *loader, size_t block,
+ZIMGASOL_CHECKED zimgasol_status zimgasol_loader_page(zimgasol_loader *loader, size_t block,
     uint64_t number, uint8_t *out, size_t len);
 
 /* Copies the pages of a block from `number` on to `out`, one after another, as many as its length
  * `len` is multiples of the page size. Returns DONE; NO_PAGE where the block doesn't have as many
  * bytes from there on, or there is no such block or no memory yet; or BAD_LENGTH. */
-ZIMGASOL_API zimgasol_status zimgasol_loader_read(zimgasol_loader *loader, size_t block,
+ZIMGASOL_CHECKED zimgasol_status zimgasol_loader_read(zimgasol_loader *loader, size_t block,
     uint64_t number, uint8_t *out, size_t len);
 
 /* Reports in *found the first page of a block, from `number` on, that isn't zeros. So a memory of
  * which little was written is read without its pages of zeros. Returns DONE; or NO_PAGE, and *found
  * stays, where there is none, no such block or no memory yet. */
-ZIMGASOL_API zimgasol_status zimgasol_loader_next_nonzero(zimgasol_loader *loader, size_t block,
+ZIMGASOL_CHECKED zimgasol_status zimgasol_loader_next_nonzero(zimgasol_loader *loader, size_t block,
     uint64_t number, uint64_t *found);
 
 /* Frees it, with the memory that it loaded. */
 ZIMGASOL_API void zimgasol_loader_free(zimgasol_loader *loader);
-
-/* ---- a load of one stream into the caller's own blocks, as the memory of a machine that is to run
- *      the guest: each page written as soon as it has come
- *
- * The caller has a buffer for each block of a table, with the block's pages one after another, and
- * passes all of them to each call that feeds. No second guest is held, and no section is kept: a
- * page is written when its bytes have come. Between two calls the load has the beginning of one
- * item of the stream at most, and a bit for each page.
- *
- * At any time the blocks have all page records of the stream so far, on top of what they held at
- * first: those of the complete sections, and those of the section that isn't complete yet. So they
- * stay after a fault, and where the stream is cut: the guest may run after DONE alone. Where no
- * record writes a page, the block holds what it held at first.
- *
- * That holds if each call gets the blocks as the call before left them, but for a page that
- * zimgasol_in_place_wanted reported and the caller read. Blocks share no byte with each other, and
- * nobody reads or writes one while a call has it: the guest doesn't run yet. A page that the stream
- * declares as zeros is compared, and isn't written where the block has zeros already, so that fresh
- * pages of private anonymous memory take none of the system's.
- *
- * The stream is to have the table's blocks, the same in the same order: of another one nothing is
- * written, and the verdict is OTHER_TABLE. */
-
-/* Makes a load into blocks of a table, of which it keeps copies. Its stream is read in this frame.
- * Returns DONE, BAD_FRAME or NO_MEMORY. */
-ZIMGASOL_API zimgasol_status zimgasol_in_place_new(zimgasol_in_place *in_place,
-    zimgasol_table *table, zimgasol_frame frame);
-
-/* As zimgasol_in_place_new, with settings. */
-ZIMGASOL_API zimgasol_status zimgasol_in_place_new_within(zimgasol_in_place *in_place,
-    zimgasol_table *table, const zimgasol_settings *settings);
-
-/* Takes the next piece of the stream, of any length, and writes its pages into the blocks, of which
- * there are `count`, in the table's order. The array `blocks` stays as it is. The piece may go
- * afterwards. Returns DONE, also once the verdict is there, where bytes are only counted. Or the
- * first of these that applies, and nothing has changed: IS_OVER after zimgasol_in_place_end;
- * TOO_LONG; BAD_LENGTH (the blocks aren't the table's). Or NO_MEMORY: where the verdict is
- * NO_MEMORY then, the load has failed for good, and the blocks have the first of the stream's page
- * records, in their order; else nothing has changed, and the piece can be fed again. */
-ZIMGASOL_API zimgasol_status zimgasol_in_place_feed(zimgasol_in_place *in_place,
-    zimgasol_buffer *blocks, size_t count, const uint8_t *piece, size_t len);
-
-/* The two calls below let a caller read a page from its socket straight into its block, and no byte
- * beyond the stream:
- *
- *     while (zimgasol_in_place_wanted(&load, &next)) {
- *         if (next.is_page) {
- *             read all of next.len bytes to blocks[next.block].bytes + next.offset
- *             zimgasol_in_place_page_read(&load, blocks, count);
- *         } else {
- *             read up to next.len bytes into a piece, of any length from 1 on
- *             zimgasol_in_place_feed(&load, blocks, count, piece, len);
- *         }
- *     }
- *
- * After the loop zimgasol_in_place_end and zimgasol_in_place_verdict follow: that nothing is wanted
- * isn't success. A page may be read by several calls of `read`, and zimgasol_in_place_page_read
- * comes once all of it is there. Until then none of the page counts as fed. If the stream ends
- * before that, the block has a part of the page. Bytes that were read past a page, as by `readv`,
- * are fed after it. Instead of reading a page so, a caller may feed its bytes as any others. */
-
-/* Reports in *next what the next bytes of the stream are: those of an item that isn't complete, or
- * the content of a page, which lies within the blocks. Returns whether the stream has more: not
- * once it is closed or has a fault, is of another table, or a piece failed for good with NO_MEMORY.
- * Then *next is unchanged. It says nothing of zimgasol_in_place_end, after which no call takes
- * bytes. */
-ZIMGASOL_API bool zimgasol_in_place_wanted(zimgasol_in_place *in_place, zimgasol_next *next);
-
-/* Takes the page that comes next, whose bytes the caller has read into its block, as those of the
- * stream. The other bytes of the blocks are as the call before left them. Returns DONE. Or the
- * first of these that applies, and nothing has changed: IS_OVER after zimgasol_in_place_end;
- * OUT_OF_TURN, where no page comes next; TOO_LONG; BAD_LENGTH (the blocks aren't the table's). */
-ZIMGASOL_API zimgasol_status zimgasol_in_place_page_read(zimgasol_in_place *in_place,
-    const zimgasol_buffer *blocks, size_t count);
-
-/* Ends the stream: no piece is fed from now on. A second call changes nothing. */
-ZIMGASOL_API void zimgasol_in_place_end(zimgasol_in_place *in_place);
-
-/* Reports the verdict on the stream so far: DONE if it is closed (its end byte was read, or in the
- * frame MACHINE the footer of RAM's END); RUNNING if it has no fault so far, and STREAM_TRUNCATED
- * (34) in its place after zimgasol_in_place_end; else the number of its first fault; NO_MEMORY for
- * good if a piece failed with it. *found has the same number, with where it is. */
-ZIMGASOL_API zimgasol_status zimgasol_in_place_verdict(zimgasol_in_place *in_place,
-    zimgasol_fault *found);
-
-/* Returns how many sections are complete in the blocks, which may have records of the next one,
- * too. START and END count. */
-ZIMGASOL_API uint64_t zimgasol_in_place_rounds(zimgasol_in_place *in_place);
-
-/* Returns how many pages of the blocks no record of the stream so far named. With DONE the stream
- * doesn't have these pages: the blocks hold there what they held at first. It is 0 for a whole
- * guest; a stream of changes, or the main stream of a multifd migration without its channels,
- * leaves pages out and is DONE all the same. It is all pages with OTHER_TABLE. After NO_MEMORY the
- * number says nothing. */
-ZIMGASOL_API uint64_t zimgasol_in_place_missing(zimgasol_in_place *in_place);
-
-/* Returns how many bytes were fed. */
-ZIMGASOL_API uint64_t zimgasol_in_place_fed(zimgasol_in_place *in_place);
-
-/* Reports in *at how many of the bytes fed the stream has: those up to its end byte, or in the
- * frame MACHINE up to the footer of RAM's END. The bytes fed after them are the caller's. Returns
- * DONE; or RUNNING, with *at unchanged, if the stream isn't closed: so always with OTHER_TABLE and
- * NO_MEMORY. */
-ZIMGASOL_API zimgasol_status zimgasol_in_place_closed_at(zimgasol_in_place *in_place,
-    uint64_t *at);
-
-/* Reports in *at how many of the bytes fed are complete items without a fault, as
- * zimgasol_loader_valid_up_to does. Returns whether it is known: with OTHER_TABLE and NO_MEMORY it
- * isn't, and *at is unchanged. */
-ZIMGASOL_API bool zimgasol_in_place_valid_up_to(zimgasol_in_place *in_place, uint64_t *at);
-
-/* Frees it. The blocks stay the caller's. */
-ZIMGASOL_API void zimgasol_in_place_free(zimgasol_in_place *in_place);
 
 /* ---- a load of several channels: a main stream and its channels, which are fed in pieces and in
  *      any order */
@@ -696,11 +603,11 @@ ZIMGASOL_API void zimgasol_in_place_free(zimgasol_in_place *in_place);
 /* Makes a session of 1 to 255 channels under a UUID of 16 bytes. Its main stream is read in this
  * frame. Returns DONE, BAD_PAGE_SIZE, BAD_LIMIT, BAD_CHANNELS, BAD_LENGTH (of the UUID), BAD_FRAME
  * or NO_MEMORY. */
-ZIMGASOL_API zimgasol_status zimgasol_session_new(zimgasol_session *session, uint64_t page_size,
+ZIMGASOL_CHECKED zimgasol_status zimgasol_session_new(zimgasol_session *session, uint64_t page_size,
     const uint8_t *uuid, size_t uuid_len, size_t channels, uint64_t limit, zimgasol_frame frame);
 
 /* As zimgasol_session_new, with settings. Returns BAD_ROUND_END, too. */
-ZIMGASOL_API zimgasol_status zimgasol_session_new_within(zimgasol_session *session,
+ZIMGASOL_CHECKED zimgasol_status zimgasol_session_new_within(zimgasol_session *session,
     uint64_t page_size, const uint8_t *uuid, size_t uuid_len, size_t channels, uint64_t limit,
     const zimgasol_settings *settings);
 
@@ -708,11 +615,11 @@ ZIMGASOL_API zimgasol_status zimgasol_session_new_within(zimgasol_session *sessi
  * all sources have whole into the memory. Returns DONE, also where the load is over and bytes are
  * only counted; NO_MEMORY, and then the session has failed with it for good, with the memory of the
  * rounds counted; BAD_SOURCE, IS_OVER or TOO_LONG. */
-ZIMGASOL_API zimgasol_status zimgasol_session_feed(zimgasol_session *session, size_t source,
+ZIMGASOL_CHECKED zimgasol_status zimgasol_session_feed(zimgasol_session *session, size_t source,
     const uint8_t *piece, size_t len);
 
 /* Ends a source: no piece of it is fed from now on. Returns DONE or BAD_SOURCE. */
-ZIMGASOL_API zimgasol_status zimgasol_session_end(zimgasol_session *session, size_t source);
+ZIMGASOL_CHECKED zimgasol_status zimgasol_session_end(zimgasol_session *session, size_t source);
 
 /* Reports how the load stands on what came so far: DONE, RUNNING, or the number of the fault of the
  * first round that doesn't pass. *found has the same number, with where it is. A verdict other than
@@ -723,7 +630,7 @@ ZIMGASOL_API zimgasol_status zimgasol_session_end(zimgasol_session *session, siz
  * that is reported doesn't depend on which bytes come first. To have it at once, end the sources
  * that stall. They may be at fault then, too: the main stream's fault is reported before those of
  * channels, and these in their order. */
-ZIMGASOL_API zimgasol_status zimgasol_session_verdict(zimgasol_session *session,
+ZIMGASOL_CHECKED zimgasol_status zimgasol_session_verdict(zimgasol_session *session,
     zimgasol_fault *found);
 
 /* Reports in *count how many pages of the guest no record and no packet of the rounds in its memory
@@ -738,7 +645,8 @@ ZIMGASOL_API uint64_t zimgasol_session_fed(zimgasol_session *session, size_t sou
 /* Reports in *at how many of the bytes fed the main stream has, as zimgasol_loader_closed_at does
  * of a stream. Returns DONE; or RUNNING, with *at unchanged, if it isn't closed, or was closed only
  * after the verdict, and after NO_MEMORY. */
-ZIMGASOL_API zimgasol_status zimgasol_session_closed_at(zimgasol_session *session, uint64_t *at);
+ZIMGASOL_CHECKED zimgasol_status zimgasol_session_closed_at(zimgasol_session *session,
+    uint64_t *at);
 
 /* Reports in *at how many of a source's bytes are complete items without a fault, from the first
  * byte on. If the verdict is a fault of that source (11 to 49, 64, 65), the item at fault begins
@@ -756,7 +664,7 @@ ZIMGASOL_API bool zimgasol_session_valid_up_to(zimgasol_session *session, size_t
  * which connection broke. Returns BAD_SOURCE, with *found unchanged. What is fed once the verdict
  * is there isn't read: from then on each source has the fault that it had. After NO_MEMORY no fault
  * is known. */
-ZIMGASOL_API zimgasol_status zimgasol_session_fault_of(zimgasol_session *session, size_t source,
+ZIMGASOL_CHECKED zimgasol_status zimgasol_session_fault_of(zimgasol_session *session, size_t source,
     zimgasol_fault *found);
 
 /* Returns whether all rounds are in: the main stream is closed, each of its rounds was judged
@@ -769,30 +677,43 @@ ZIMGASOL_API bool zimgasol_session_has_all_rounds(zimgasol_session *session);
 /* As those of a loader, but that _rounds counts rounds alone: START and END are none. */
 ZIMGASOL_API uint64_t zimgasol_session_rounds(zimgasol_session *session);
 ZIMGASOL_API size_t zimgasol_session_blocks(zimgasol_session *session);
-ZIMGASOL_API zimgasol_status zimgasol_session_block(zimgasol_session *session, size_t i,
+ZIMGASOL_CHECKED zimgasol_status zimgasol_session_block(zimgasol_session *session, size_t i,
     zimgasol_block *out);
-ZIMGASOL_API zimgasol_status zimgasol_session_page(zimgasol_session *session, size_t block,
+ZIMGASOL_CHECKED zimgasol_status zimgasol_session_page(zimgasol_session *session, size_t block,
     uint64_t number, uint8_t *out, size_t len);
-ZIMGASOL_API zimgasol_status zimgasol_session_read(zimgasol_session *session, size_t block,
+ZIMGASOL_CHECKED zimgasol_status zimgasol_session_read(zimgasol_session *session, size_t block,
     uint64_t number, uint8_t *out, size_t len);
-ZIMGASOL_API zimgasol_status zimgasol_session_next_nonzero(zimgasol_session *session,
+ZIMGASOL_CHECKED zimgasol_status zimgasol_session_next_nonzero(zimgasol_session *session,
     size_t block, uint64_t number, uint64_t *found);
 
 /* Frees it, with the memory that it loaded. */
 ZIMGASOL_API void zimgasol_session_free(zimgasol_session *session);
 
-/* ---- a load of several channels into the caller's own blocks, each page written as soon as it has
- *      come
+/* ---- a load into the caller's own blocks, as the memory of a machine that is to run the guest:
+ *      of one stream, or of a main stream and its channels
  *
- * The caller has a buffer for each block of a table, as for a zimgasol_in_place, and passes all of
- * them to each call that feeds. No second guest is held, and no round is kept: a page of a channel
- * is written when its bytes have come. What is kept is a packet's head and a page of each channel,
- * 8 bytes for each packet of the round, and the main stream's page records, which few senders
- * write. So between two rounds, and at DONE, the blocks have all rounds that are counted, on top of
- * what they held at first. Within a round they may hold anything at the places that the round
- * names. After a fault that is so of the round that failed, so the guest may not run then. Each
- * call gets the blocks as the call before left them; nobody reads or writes one while a call has
- * it.
+ * The caller has a buffer for each block of a table, with the block's pages one after another, and
+ * passes all of them to each call that feeds. No second guest is held, and no section or round is
+ * kept: a page is written when its bytes have come. The load keeps a bit for each page, three of
+ * several channels, and of each source the beginning of one item at most. Of several channels it
+ * also keeps 8 bytes for each packet of the round, and the main stream's page records, which few
+ * senders write.
+ *
+ * Each call gets the blocks as the call before left them, but for pages that the caller read to
+ * their places (zimgasol_load_wanted, zimgasol_load_claim). Blocks share no byte with each other,
+ * and nobody reads or writes one while a call has it: the guest doesn't run yet. A page that a
+ * stream declares as zeros is compared, and isn't written where the block has zeros already, so
+ * that fresh pages of private anonymous memory take none of the system's. A table's stream has its
+ * blocks, the same in the same order: of another one nothing is written, and the verdict is
+ * OTHER_TABLE.
+ *
+ * Of one stream the blocks have at any time all its page records so far, on top of what they held
+ * at first: those of the complete sections, and those of the section that isn't complete yet. After
+ * NO_MEMORY for good they have the first of these, in their order. Of several channels they have
+ * all rounds that are counted between two rounds, and at DONE; within a round they may hold
+ * anything at the places that it names, and so they stay where a round fails. In both the guest may
+ * run after DONE alone. Where no record and no packet writes a page, a block holds what it held at
+ * first.
  *
  * A channel takes bytes up to the end of the current round. What follows waits with the caller
  * until all sources have the round, and it was judged: a _feed that takes fewer bytes than it is
@@ -801,107 +722,151 @@ ZIMGASOL_API void zimgasol_session_free(zimgasol_session *session);
  * and goes round until the verdict isn't RUNNING (examples/c/channels.c):
  *
  *     for (size_t source = 0; source <= channels; source++)
- *         if (zimgasol_in_place_session_takes(&load, source))
+ *         if (zimgasol_load_takes(&load, source))
  *             feed what waits of it, or read more; if its connection has ended and nothing waits,
- *             zimgasol_in_place_session_end(&load, source)
+ *             zimgasol_load_end(&load, source)
  *
  * Of a channel only the hello is taken while the main stream's size list may follow. Verdict and
- * rounds are those of a zimgasol_session of the bytes taken, but that a stream of another table is
- * refused (OTHER_TABLE), with nothing written. */
+ * rounds are those of a zimgasol_session of the bytes taken, or of one stream those of a
+ * zimgasol_loader. */
 
-/* Makes a load into blocks of a table, of which it keeps copies, from 1 to 255 channels under a
- * UUID of 16 bytes. Its main stream is read in this frame. Returns DONE, BAD_CHANNELS,
- * BAD_LENGTH (of the UUID), BAD_FRAME or NO_MEMORY. */
-ZIMGASOL_API zimgasol_status zimgasol_in_place_session_new(zimgasol_in_place_session *session,
-    zimgasol_table *table, const uint8_t *uuid, size_t uuid_len, size_t channels,
-    zimgasol_frame frame);
-
-/* As zimgasol_in_place_session_new, with settings. Returns BAD_ROUND_END, too. */
-ZIMGASOL_API zimgasol_status zimgasol_in_place_session_new_within(
-    zimgasol_in_place_session *session, zimgasol_table *table, const uint8_t *uuid,
-    size_t uuid_len, size_t channels, const zimgasol_settings *settings);
+/* Makes a load into blocks of a table, of which it keeps copies, with settings: of one stream, if
+ * `channels` is 0, where neither UUID nor round_end is looked at; or of a main stream and 1 to 255
+ * channels under a UUID of 16 bytes. Nothing is claimed. Returns DONE, or the first of these that
+ * applies: BAD_CHANNELS (more than 255), BAD_LENGTH (of the UUID), BAD_FRAME, BAD_ROUND_END,
+ * NO_MEMORY. */
+ZIMGASOL_CHECKED zimgasol_status zimgasol_load_new(zimgasol_load *load, zimgasol_table *table,
+    const uint8_t *uuid, size_t uuid_len, size_t channels, const zimgasol_settings *settings);
 
 /* Takes the first bytes of a piece of a source, ZIMGASOL_MAIN or ZIMGASOL_CHANNEL(j), and writes
- * their pages into the blocks, of which there are `count`, in the table's order. *taken is how many
- * bytes it took: with DONE all, or fewer, as above; else 0. (Where the load has failed for good
- * with NO_MEMORY, bytes of the piece may be written, and _fed counts them.) The array `blocks`
- * stays as it is. Returns DONE, also where the verdict is there and no byte is taken; BAD_SOURCE,
- * IS_OVER, TOO_LONG, or BAD_LENGTH (the blocks aren't the table's), where nothing has changed;
- * NO_MEMORY, where the verdict is NO_MEMORY and the load has failed for good, or else nothing has
- * changed, and the piece can be fed again. */
-ZIMGASOL_API zimgasol_status zimgasol_in_place_session_feed(zimgasol_in_place_session *session,
-    zimgasol_buffer *blocks, size_t count, size_t source, const uint8_t *piece, size_t len,
-    size_t *taken);
+ * their pages into the blocks, of which there are `count`, in the table's order. The piece may go
+ * afterwards, and the array `blocks` stays as it is. *taken is how many bytes it took: with DONE
+ * all, or of several channels fewer, as above; else 0. (Where the load has failed for good with
+ * NO_MEMORY, bytes of the piece may be written, and _fed counts them.)
+ *
+ * Returns DONE, also where the verdict is there: then no byte is taken of several channels, and
+ * those of one stream are only counted. Or the first of these that applies, and nothing has
+ * changed: OUT_OF_TURN, where pages are claimed; BAD_SOURCE; IS_OVER after _end; TOO_LONG;
+ * BAD_LENGTH (the blocks aren't the table's). Or NO_MEMORY: where the verdict is NO_MEMORY then,
+ * the load has failed for good; else nothing has changed, and the piece can be fed again. */
+ZIMGASOL_CHECKED zimgasol_status zimgasol_load_feed(zimgasol_load *load, zimgasol_buffer *blocks,
+    size_t count, size_t source, const uint8_t *piece, size_t len, size_t *taken);
 
-/* Returns whether bytes of a source are taken now. They aren't once the verdict is there; nor if
- * the source doesn't exist, has all of the current round, is closed or has a fault; nor of a
- * channel after its hello, before the main stream's table is known. */
-ZIMGASOL_API bool zimgasol_in_place_session_takes(zimgasol_in_place_session *session,
-    size_t source);
+/* Returns whether bytes of a source are taken now. They aren't if the source doesn't exist, was
+ * ended, is closed or has a fault. Of several channels they aren't once the verdict is there, nor
+ * if the source has all of the current round, nor of a channel after its hello before the main
+ * stream's table is known. What waits of a source is asked for again after a call with which
+ * _rounds or the verdict changed, or the main stream took bytes. */
+ZIMGASOL_API bool zimgasol_load_takes(zimgasol_load *load, size_t source);
 
 /* Ends a source, all of whose bytes were taken. Returns DONE or BAD_SOURCE. A second call changes
  * nothing. */
-ZIMGASOL_API zimgasol_status zimgasol_in_place_session_end(zimgasol_in_place_session *session,
-    size_t source);
+ZIMGASOL_CHECKED zimgasol_status zimgasol_load_end(zimgasol_load *load, size_t source);
 
-/* Returns how many bytes of a source were taken; 0 if there is no such source. */
-ZIMGASOL_API uint64_t zimgasol_in_place_session_fed(zimgasol_in_place_session *session,
-    size_t source);
-
-/* Reports how the load stands on the bytes taken, as zimgasol_session_verdict does: DONE, RUNNING,
- * or the number of the fault of the first round that doesn't pass. */
-ZIMGASOL_API zimgasol_status zimgasol_in_place_session_verdict(zimgasol_in_place_session *session,
-    zimgasol_fault *found);
-
-/* Returns how many rounds were judged lawful. The blocks have all of them. */
-ZIMGASOL_API uint64_t zimgasol_in_place_session_rounds(zimgasol_in_place_session *session);
-
-/* Reports in *at how many of the bytes taken the main stream has: those up to its end byte, or in
- * the frame MACHINE up to the footer of RAM's END. The bytes taken after them are the caller's.
- * Returns DONE; or RUNNING, with *at unchanged, if it isn't closed, and after NO_MEMORY. */
-ZIMGASOL_API zimgasol_status zimgasol_in_place_session_closed_at(
-    zimgasol_in_place_session *session, uint64_t *at);
-
-/* Reports in *at how many of the bytes taken of a source are complete items without a fault, and
- * returns whether it is known, as zimgasol_session_valid_up_to does. */
-ZIMGASOL_API bool zimgasol_in_place_session_valid_up_to(zimgasol_in_place_session *session,
-    size_t source, uint64_t *at);
+/* Reports how the load stands on the bytes taken: DONE, RUNNING, or the number of a fault. *found
+ * has the same number, with where it is. NO_MEMORY is for good.
+ *
+ * One stream is DONE once it is closed (its end byte was read, or in the frame MACHINE the footer
+ * of RAM's END). It is RUNNING if it has no fault so far, and STREAM_TRUNCATED (34) in its place
+ * after _end; else the number of its first fault.
+ *
+ * Several channels stand as in zimgasol_session_verdict: DONE needs the main stream closed, and
+ * every channel ended after as many rounds; the fault is that of the first round that doesn't
+ * pass. */
+ZIMGASOL_CHECKED zimgasol_status zimgasol_load_verdict(zimgasol_load *load, zimgasol_fault *found);
 
 /* Reports in *found the fault of the bytes taken of a source by themselves, whatever other sources
  * have, and returns its number, or DONE if they have none. It is known at once, where the verdict
- * is RUNNING as long as another source may still have bytes, and then names the first source with a
- * fault. A source that was ended too early has STREAM_TRUNCATED, CHANNEL_TRUNCATED, or behind a
- * packet without SYNC CHANNEL_UNSYNCED: so it says which connection broke. Returns BAD_SOURCE, with
- * *found unchanged. After NO_MEMORY no fault is known. */
-ZIMGASOL_API zimgasol_status zimgasol_in_place_session_fault_of(
-    zimgasol_in_place_session *session, size_t source, zimgasol_fault *found);
+ * on several channels is RUNNING as long as another source may still have bytes, and then names the
+ * first source with a fault. A source that was ended too early has STREAM_TRUNCATED,
+ * CHANNEL_TRUNCATED, or behind a packet without SYNC CHANNEL_UNSYNCED: so it says which connection
+ * broke. Another table is no fault of a main stream's own, but of one stream it is OTHER_TABLE.
+ * Returns BAD_SOURCE, with *found unchanged. After NO_MEMORY no fault of several channels is known,
+ * and that of one stream is NO_MEMORY. */
+ZIMGASOL_CHECKED zimgasol_status zimgasol_load_fault_of(zimgasol_load *load, size_t source,
+    zimgasol_fault *found);
 
 /* Returns whether all rounds are in: the main stream is closed, each of its rounds was judged
  * lawful, and no packet of a further round has begun. The blocks have all rounds, and nothing else.
  * QEMU with a return path ends its channels only after the answer, and DONE waits for their ends.
- * So answer where this is true. Then the channels end, and the verdict is DONE. */
-ZIMGASOL_API bool zimgasol_in_place_session_has_all_rounds(zimgasol_in_place_session *session);
+ * So answer where this is true. Then the channels end, and the verdict is DONE. One stream has all
+ * rounds once it is closed. */
+ZIMGASOL_API bool zimgasol_load_has_all_rounds(zimgasol_load *load);
 
-/* Returns how many pages of the blocks no record and no packet of the rounds counted named. With
- * DONE, or where all rounds are in, the streams don't have these pages: the blocks hold there what
- * they held at first. It is 0 for a whole guest; a stream of changes, or a main stream whose
- * channels were lost, leaves pages out and is DONE all the same. After NO_MEMORY the number says
- * nothing. */
-ZIMGASOL_API uint64_t zimgasol_in_place_session_missing(zimgasol_in_place_session *session);
+/* Returns how many rounds of several channels were judged lawful: the blocks have all of them. Of
+ * one stream it is how many sections are complete in the blocks, which may have records of the next
+ * one, too. START and END count. */
+ZIMGASOL_API uint64_t zimgasol_load_rounds(zimgasol_load *load);
+
+/* Returns how many pages of the blocks no record and no packet of the rounds counted, or of the one
+ * stream so far, named. With DONE, or where all rounds are in, the streams don't have these pages:
+ * the blocks hold there what they held at first. It is 0 for a whole guest; a stream of changes, or
+ * a main stream whose channels were lost, leaves pages out and is DONE all the same. It is all
+ * pages with OTHER_TABLE. After NO_MEMORY the number says nothing. */
+ZIMGASOL_API uint64_t zimgasol_load_missing(zimgasol_load *load);
+
+/* Returns how many bytes of a source were taken; 0 if there is no such source. */
+ZIMGASOL_API uint64_t zimgasol_load_fed(zimgasol_load *load, size_t source);
+
+/* Reports in *at how many of the bytes taken the main stream has: those up to its end byte, or in
+ * the frame MACHINE up to the footer of RAM's END. The bytes taken after them are the caller's.
+ * Returns DONE; or RUNNING, with *at unchanged, if it isn't closed: so always with NO_MEMORY, and
+ * of one stream with OTHER_TABLE. */
+ZIMGASOL_CHECKED zimgasol_status zimgasol_load_closed_at(zimgasol_load *load, uint64_t *at);
+
+/* Reports in *at how many of the bytes taken of a source are complete items without a fault, from
+ * the first byte on: the item at fault begins after them. Returns whether it is known: not if there
+ * is no such source, nor after NO_MEMORY, nor of one stream with OTHER_TABLE; then *at is
+ * unchanged. */
+ZIMGASOL_API bool zimgasol_load_valid_up_to(zimgasol_load *load, size_t source, uint64_t *at);
 
 /* Frees it. The blocks stay the caller's. */
-ZIMGASOL_API void zimgasol_in_place_session_free(zimgasol_in_place_session *session);
+ZIMGASOL_API void zimgasol_load_free(zimgasol_load *load);
 
-/* ---- a load of several channels into the caller's own blocks, whose pages the caller's threads
- *      read straight to their places, apart from the calls
+/* ---- pages of one stream that the caller reads straight to their places
  *
- * It is a load into blocks as the one above, but for the pages of packets: no call copies them.
- * Each channel has a thread of its own, as has the main stream, and one lock of the caller's is
- * around each call. Under it a channel's thread passes the head of its next packet, and the load
- * claims the places of the packet's pages. Without it the thread reads the pages from its
- * connection to their places. Under it again the thread says that they are there. No place is
- * claimed for two packets at once, and as long as pages are claimed no call gets the blocks. So a
- * claimed page is its thread's alone.
+ * The two calls below let a caller read a page from its socket straight into its block, and no byte
+ * beyond the stream:
+ *
+ *     while (zimgasol_load_wanted(&load, &next)) {
+ *         if (next.is_page) {
+ *             read all of next.len bytes to blocks[next.block].bytes + next.offset
+ *             zimgasol_load_page_read(&load, blocks, count);
+ *         } else {
+ *             read up to next.len bytes into a piece, of any length from 1 on
+ *             zimgasol_load_feed(&load, blocks, count, ZIMGASOL_MAIN, piece, len, &taken);
+ *         }
+ *     }
+ *
+ * After the loop zimgasol_load_end and zimgasol_load_verdict follow: that nothing is wanted isn't
+ * success. A page may be read by several calls of `read`, and zimgasol_load_page_read comes once
+ * all of it is there. Until then none of the page counts as fed. If the stream ends before that,
+ * the block has a part of the page. Bytes that were read past a page, as by `readv`, are fed after
+ * it. Instead of reading a page so, a caller may feed its bytes as any others. */
+
+/* Reports in *next what the next bytes of one stream are: those of an item that isn't complete, or
+ * the content of a page, which lies within the blocks. Returns whether the stream has more: not
+ * once it is closed or has a fault, is of another table, or a piece failed for good with NO_MEMORY;
+ * and never of several channels. Then *next is unchanged. It says nothing of _end, after which no
+ * call takes bytes. */
+ZIMGASOL_API bool zimgasol_load_wanted(zimgasol_load *load, zimgasol_next *next);
+
+/* Takes the page that comes next, whose bytes the caller has read into its block, as those of the
+ * stream. The other bytes of the blocks are as the call before left them. Returns DONE. Of several
+ * channels it is OUT_OF_TURN. Of one stream it is the first of these that applies, and nothing has
+ * changed: IS_OVER after _end; OUT_OF_TURN, where no page comes next; TOO_LONG; BAD_LENGTH (the
+ * blocks aren't the table's). */
+ZIMGASOL_CHECKED zimgasol_status zimgasol_load_page_read(zimgasol_load *load,
+    const zimgasol_buffer *blocks, size_t count);
+
+/* ---- pages of several channels that the caller's threads read straight to their places
+ *
+ * With the calls below no call copies the pages of packets. Each channel has a thread of its own,
+ * as has the main stream, and one lock of the caller's is around each call. Under it a channel's
+ * thread passes the head of its next packet, and the load claims the places of the packet's pages.
+ * Without it the thread reads the pages from its connection to their places. Under it again the
+ * thread says that they are there. No place is claimed for two packets at once, and as long as
+ * pages are claimed no call gets the blocks. So a claimed page is its thread's alone.
  *
  * All other bytes are fed, while nothing is claimed: hellos, SYNC packets, the main stream, and
  * what has a fault. Channels that come to a SYNC wait for each other there in any case. Let
@@ -947,12 +912,6 @@ ZIMGASOL_API void zimgasol_in_place_session_free(zimgasol_in_place_session *sess
  * the fault of the channel. The blocks may hold anything at the places that the round names, as
  * after every fault. */
 
-/* Makes a load into blocks of a table, of which it keeps copies, from 1 to 255 channels under a
- * UUID of 16 bytes, with settings. Nothing is claimed. Returns DONE, BAD_CHANNELS, BAD_LENGTH (of
- * the UUID), BAD_FRAME, BAD_ROUND_END or NO_MEMORY. */
-ZIMGASOL_API zimgasol_status zimgasol_apart_new(zimgasol_apart *load, zimgasol_table *table,
-    const uint8_t *uuid, size_t uuid_len, size_t channels, const zimgasol_settings *settings);
-
 /* Claims the places of the next packet of channel `channel`, from 0 on, by its head, of
  * ZIMGASOL_HEAD_LEN bytes. Returns
  *  - RUNNING: *pages has them. From now on the bytes of these pages are the caller's to write,
@@ -964,7 +923,7 @@ ZIMGASOL_API zimgasol_status zimgasol_apart_new(zimgasol_apart *load, zimgasol_t
  *    The caller passes the bytes to _feed, which says what they are;
  *  - BAD_SOURCE: there is no such channel.
  * But for RUNNING nothing is claimed, and *pages stays as it is. */
-ZIMGASOL_API zimgasol_status zimgasol_apart_claim(zimgasol_apart *load, size_t channel,
+ZIMGASOL_CHECKED zimgasol_status zimgasol_load_claim(zimgasol_load *load, size_t channel,
     const uint8_t *head, size_t len, zimgasol_pages *pages);
 
 /* Takes the packet that was claimed with this head, once its pages are at their places: those of
@@ -973,33 +932,11 @@ ZIMGASOL_API zimgasol_status zimgasol_apart_claim(zimgasol_apart *load, size_t c
  * the channel's next one, its pages aren't claimed, or there isn't a content of the page size for
  * each of its `normal`; BAD_SOURCE; or NO_MEMORY. But for RUNNING nothing has changed: after
  * NO_MEMORY the call can be made again. */
-ZIMGASOL_API zimgasol_status zimgasol_apart_take(zimgasol_apart *load, size_t channel,
+ZIMGASOL_CHECKED zimgasol_status zimgasol_load_take(zimgasol_load *load, size_t channel,
     const uint8_t *head, size_t len, const zimgasol_lent *contents, size_t count);
 
 /* Returns how many pages are claimed. */
-ZIMGASOL_API uint64_t zimgasol_apart_claimed(zimgasol_apart *load);
-
-/* Takes the first bytes of a piece of a source, as zimgasol_in_place_session_feed does, while
- * nothing is claimed. Returns what that does, and OUT_OF_TURN where pages are claimed: *taken is 0
- * then, and nothing else has changed. */
-ZIMGASOL_API zimgasol_status zimgasol_apart_feed(zimgasol_apart *load, zimgasol_buffer *blocks,
-    size_t count, size_t source, const uint8_t *piece, size_t len, size_t *taken);
-
-/* These are as those of a zimgasol_in_place_session. */
-ZIMGASOL_API bool zimgasol_apart_takes(zimgasol_apart *load, size_t source);
-ZIMGASOL_API zimgasol_status zimgasol_apart_end(zimgasol_apart *load, size_t source);
-ZIMGASOL_API uint64_t zimgasol_apart_fed(zimgasol_apart *load, size_t source);
-ZIMGASOL_API zimgasol_status zimgasol_apart_verdict(zimgasol_apart *load, zimgasol_fault *found);
-ZIMGASOL_API uint64_t zimgasol_apart_rounds(zimgasol_apart *load);
-ZIMGASOL_API zimgasol_status zimgasol_apart_closed_at(zimgasol_apart *load, uint64_t *at);
-ZIMGASOL_API bool zimgasol_apart_valid_up_to(zimgasol_apart *load, size_t source, uint64_t *at);
-ZIMGASOL_API zimgasol_status zimgasol_apart_fault_of(zimgasol_apart *load, size_t source,
-    zimgasol_fault *found);
-ZIMGASOL_API bool zimgasol_apart_has_all_rounds(zimgasol_apart *load);
-ZIMGASOL_API uint64_t zimgasol_apart_missing(zimgasol_apart *load);
-
-/* Frees it. The blocks stay the caller's. */
-ZIMGASOL_API void zimgasol_apart_free(zimgasol_apart *load);
+ZIMGASOL_API uint64_t zimgasol_load_claimed(zimgasol_load *load);
 
 /* ---- a sender of one stream, whose rounds are put page by page, as they are read of a guest that
  *      runs on
@@ -1009,39 +946,40 @@ ZIMGASOL_API void zimgasol_apart_free(zimgasol_apart *load);
  * those ended were drained adds to them. */
 
 /* Makes a sender of a table, of which it keeps a copy. Returns DONE or NO_MEMORY. */
-ZIMGASOL_API zimgasol_status zimgasol_sender_new(zimgasol_sender *sender, zimgasol_table *table);
+ZIMGASOL_CHECKED zimgasol_status zimgasol_sender_new(zimgasol_sender *sender,
+    zimgasol_table *table);
 
 /* Makes a sender of a machine's stream: a configuration with the machine's name, of at most 1,024
  * bytes, follows the file header. QEMU refuses a stream with another name than its own machine's.
  * Returns DONE, BAD_LENGTH (of the name) or NO_MEMORY. */
-ZIMGASOL_API zimgasol_status zimgasol_sender_new_named(zimgasol_sender *sender,
+ZIMGASOL_CHECKED zimgasol_status zimgasol_sender_new_named(zimgasol_sender *sender,
     zimgasol_table *table, const uint8_t *name, size_t name_len);
 
 /* Begins a round. Returns DONE, NO_MEMORY, or OUT_OF_TURN where one is open or the stream is
  * ended. */
-ZIMGASOL_API zimgasol_status zimgasol_sender_begin_round(zimgasol_sender *sender);
+ZIMGASOL_CHECKED zimgasol_status zimgasol_sender_begin_round(zimgasol_sender *sender);
 
 /* Sends a page of a block, of `len` bytes, the page size. Pages come in any order; of several at
  * one place the last one counts. Returns DONE, NO_MEMORY (the round is open as before, without the
  * page), NO_PAGE, BAD_LENGTH, or OUT_OF_TURN where no round is open. */
-ZIMGASOL_API zimgasol_status zimgasol_sender_put_page(zimgasol_sender *sender, size_t block,
+ZIMGASOL_CHECKED zimgasol_status zimgasol_sender_put_page(zimgasol_sender *sender, size_t block,
     uint64_t number, const uint8_t *bytes, size_t len);
 
 /* Ends the round, which becomes a section of the stream. Returns DONE, NO_MEMORY (the round is open
  * as before) or OUT_OF_TURN. */
-ZIMGASOL_API zimgasol_status zimgasol_sender_end_round(zimgasol_sender *sender);
+ZIMGASOL_CHECKED zimgasol_status zimgasol_sender_end_round(zimgasol_sender *sender);
 
 /* Leaves the round out, with all its pages. Returns DONE or OUT_OF_TURN. */
-ZIMGASOL_API zimgasol_status zimgasol_sender_cancel_round(zimgasol_sender *sender);
+ZIMGASOL_CHECKED zimgasol_status zimgasol_sender_cancel_round(zimgasol_sender *sender);
 
 /* Ends the stream. What waits of it is still to be drained. Returns DONE, NO_MEMORY, or OUT_OF_TURN
  * where a round is open or it is ended. */
-ZIMGASOL_API zimgasol_status zimgasol_sender_finish(zimgasol_sender *sender);
+ZIMGASOL_CHECKED zimgasol_status zimgasol_sender_finish(zimgasol_sender *sender);
 
 /* Ends the stream with the footer of RAM's END, and leaves out the end byte: the caller goes on
  * with the sections of devices and the end byte, once all was drained. Returns as
  * zimgasol_sender_finish. */
-ZIMGASOL_API zimgasol_status zimgasol_sender_finish_open(zimgasol_sender *sender);
+ZIMGASOL_CHECKED zimgasol_status zimgasol_sender_finish_open(zimgasol_sender *sender);
 
 /* Copies the next bytes of the stream to `out`, at most `len`, and returns how many; 0 if none
  * waits. What it gives, piece after piece, is the stream. If it returns 0 to a buffer with room,
@@ -1107,21 +1045,21 @@ ZIMGASOL_API void zimgasol_sender_free(zimgasol_sender *sender);
 /* Makes a sender of a table, of which it keeps a copy, on 1 to 255 channels under a UUID of 16
  * bytes, with at most `limit` pages to a packet (1 to 128 of 4096 bytes, 1 to 64 of 8192). Returns
  * DONE, BAD_LENGTH (of the UUID), CHANNELS, BATCH_LIMIT or NO_MEMORY. */
-ZIMGASOL_API zimgasol_status zimgasol_multi_new(zimgasol_multi *multi, zimgasol_table *table,
+ZIMGASOL_CHECKED zimgasol_status zimgasol_multi_new(zimgasol_multi *multi, zimgasol_table *table,
     const uint8_t *uuid, size_t uuid_len, size_t channels, size_t limit);
 
 /* Makes a sender as zimgasol_multi_new does, whose main stream is a machine's: a configuration with
  * the machine's name, of at most 1,024 bytes, follows the file header. The channels are the same.
  * QEMU refuses a stream with another name than its own machine's. Returns DONE, BAD_LENGTH (of the
  * UUID or the name), CHANNELS, BATCH_LIMIT or NO_MEMORY. */
-ZIMGASOL_API zimgasol_status zimgasol_multi_new_named(zimgasol_multi *multi,
+ZIMGASOL_CHECKED zimgasol_status zimgasol_multi_new_named(zimgasol_multi *multi,
     zimgasol_table *table, const uint8_t *uuid, size_t uuid_len, size_t channels, size_t limit,
     const uint8_t *name, size_t name_len);
 
 /* Begins a round of `count` dirty pages, 0 too, in any order, of which each counts once. Returns
  * DONE, OUT_OF_TURN if a round is open or the streams are ended, NO_PAGE if the table lacks one of
  * them, or NO_MEMORY. */
-ZIMGASOL_API zimgasol_status zimgasol_multi_begin_round(zimgasol_multi *multi,
+ZIMGASOL_CHECKED zimgasol_status zimgasol_multi_begin_round(zimgasol_multi *multi,
     const zimgasol_place *dirty, size_t count);
 
 /* Begins a round as zimgasol_multi_begin_round does, of the pages whose bit is set in the bitmap of
@@ -1130,30 +1068,31 @@ ZIMGASOL_API zimgasol_status zimgasol_multi_begin_round(zimgasol_multi *multi,
  * keeps one copy of the bitmaps and no list of pages, so they may change once the call returns.
  * Returns DONE, OUT_OF_TURN if a round is open or the streams are ended, BAD_LENGTH if there are
  * more or fewer bitmaps than blocks or one of them is too short, or NO_MEMORY. */
-ZIMGASOL_API zimgasol_status zimgasol_multi_begin_round_bitmaps(zimgasol_multi *multi,
+ZIMGASOL_CHECKED zimgasol_status zimgasol_multi_begin_round_bitmaps(zimgasol_multi *multi,
     const zimgasol_bitmap *bitmaps, size_t count);
 
 /* Takes the open round back, of which no worker was made: it sends nothing, and the sender is as it
  * was before the round was begun. Returns DONE, or OUT_OF_TURN if no round is open or a worker of
  * it was made. */
-ZIMGASOL_API zimgasol_status zimgasol_multi_take_back_round(zimgasol_multi *multi);
+ZIMGASOL_CHECKED zimgasol_status zimgasol_multi_take_back_round(zimgasol_multi *multi);
 
 /* Makes the worker of the next channel, from channel 0 on, in an empty handle. Its bytes
  * begin with those of its channel that weren't drained before, at first the hello. Returns DONE,
  * NO_MEMORY, or OUT_OF_TURN if no round is open or each channel's worker was made. */
-ZIMGASOL_API zimgasol_status zimgasol_multi_worker(zimgasol_multi *multi, zimgasol_worker *worker);
+ZIMGASOL_CHECKED zimgasol_status zimgasol_multi_worker(zimgasol_multi *multi,
+    zimgasol_worker *worker);
 
 /* Takes back the worker of the next channel, from channel 0 on, once it has ended; its handle is
  * empty then. What wasn't drained of it is its channel's in the next round. Returns DONE,
  * NO_MEMORY, or OUT_OF_TURN where no round is open, where the worker isn't the next one or
  * hasn't ended, or where a drain gave a part of its bytes: the others are drained first. After
  * anything but DONE the handle has the worker as before. */
-ZIMGASOL_API zimgasol_status zimgasol_multi_give_back(zimgasol_multi *multi,
+ZIMGASOL_CHECKED zimgasol_status zimgasol_multi_give_back(zimgasol_multi *multi,
     zimgasol_worker *worker);
 
 /* Ends the round with a FLUSH on the main stream. Returns DONE, NO_MEMORY (the round is open as
  * before), or OUT_OF_TURN where no round is open or not all workers are back. */
-ZIMGASOL_API zimgasol_status zimgasol_multi_end_round(zimgasol_multi *multi);
+ZIMGASOL_CHECKED zimgasol_status zimgasol_multi_end_round(zimgasol_multi *multi);
 
 /* Gives up the streams in the middle of a round, as where a channel broke, or where the migration
  * is cancelled. Packets of the round may have been drained already, and no call takes them back
@@ -1162,16 +1101,16 @@ ZIMGASOL_API zimgasol_status zimgasol_multi_end_round(zimgasol_multi *multi);
  * of the main stream lacks its END, without which no load is DONE. Workers that are out stay: each
  * may be stepped and drained as before, also by another thread meanwhile, and is freed on its own.
  * Returns DONE, or OUT_OF_TURN where no round is open. */
-ZIMGASOL_API zimgasol_status zimgasol_multi_cancel_round(zimgasol_multi *multi);
+ZIMGASOL_CHECKED zimgasol_status zimgasol_multi_cancel_round(zimgasol_multi *multi);
 
 /* Ends the streams. What waits of them is still to be drained. Returns DONE, NO_MEMORY, or
  * OUT_OF_TURN where a round is open or they are ended. */
-ZIMGASOL_API zimgasol_status zimgasol_multi_finish(zimgasol_multi *multi);
+ZIMGASOL_CHECKED zimgasol_status zimgasol_multi_finish(zimgasol_multi *multi);
 
 /* Ends the streams, the main stream with the footer of RAM's END, and leaves out its end byte: the
  * caller goes on with the sections of devices and the end byte on the main stream, once all was
  * drained. Returns as zimgasol_multi_finish. */
-ZIMGASOL_API zimgasol_status zimgasol_multi_finish_open(zimgasol_multi *multi);
+ZIMGASOL_CHECKED zimgasol_status zimgasol_multi_finish_open(zimgasol_multi *multi);
 
 /* Copies the next bytes of the main stream to `out`, at most `len`, and returns how many, as
  * zimgasol_sender_drain does; 0 if none waits. There is no peek: the caller keeps what its socket
@@ -1192,7 +1131,7 @@ ZIMGASOL_API void zimgasol_multi_free(zimgasol_multi *multi);
  * Returns RUNNING, where the channel goes on; DONE, where the worker has ended, and once more
  * changes nothing; NO_MEMORY, where nothing was written and the next call writes the packet; or
  * BAD_LENGTH, where the blocks aren't the table's. */
-ZIMGASOL_API zimgasol_status zimgasol_worker_step(zimgasol_worker *worker,
+ZIMGASOL_CHECKED zimgasol_status zimgasol_worker_step(zimgasol_worker *worker,
     const zimgasol_lent *blocks, size_t count);
 
 /* The three calls below are zimgasol_worker_step in two halves, for a guest that runs on. _next
@@ -1207,7 +1146,7 @@ ZIMGASOL_API zimgasol_status zimgasol_worker_step(zimgasol_worker *worker,
  * no batch is left it writes the channel's SYNC packet. Returns RUNNING, with a batch; DONE, where
  * the worker has ended, and once more changes nothing; or NO_MEMORY, where nothing was written, and
  * the next call writes the SYNC packet. With DONE and NO_MEMORY *batch stays as it is. */
-ZIMGASOL_API zimgasol_status zimgasol_worker_next(zimgasol_worker *worker,
+ZIMGASOL_CHECKED zimgasol_status zimgasol_worker_next(zimgasol_worker *worker,
     zimgasol_batch *batch);
 
 /* Writes the head of the packet of the batch that zimgasol_worker_next reported to the front of
@@ -1224,7 +1163,7 @@ ZIMGASOL_API zimgasol_status zimgasol_worker_next(zimgasol_worker *worker,
  * anything but RUNNING nothing was written, the batch still waits for its packet, and *written
  * stays. After RUNNING the pages have to be sent before the channel's next bytes: a caller who
  * can't send them gives the streams up (zimgasol_multi_cancel_round). */
-ZIMGASOL_API zimgasol_status zimgasol_worker_head(zimgasol_worker *worker, const uint8_t *zeros,
+ZIMGASOL_CHECKED zimgasol_status zimgasol_worker_head(zimgasol_worker *worker, const uint8_t *zeros,
     size_t zeros_len, uint8_t *out, size_t len, size_t *written);
 
 /* Writes the packet of the batch that zimgasol_worker_next reported into the worker's channel.
@@ -1232,7 +1171,7 @@ ZIMGASOL_API zimgasol_status zimgasol_worker_head(zimgasol_worker *worker, const
  * NO_MEMORY, where nothing was written and the next call writes the packet; OUT_OF_TURN, where no
  * batch is drawn, or its packet is written (a _step that returned NO_MEMORY has drawn one); or
  * BAD_LENGTH, where `len` isn't that of as many pages. */
-ZIMGASOL_API zimgasol_status zimgasol_worker_pack(zimgasol_worker *worker, const uint8_t *pages,
+ZIMGASOL_CHECKED zimgasol_status zimgasol_worker_pack(zimgasol_worker *worker, const uint8_t *pages,
     size_t len);
 
 /* Copies the next bytes of the worker's channel to `out`, at most `len`, and returns how many; 0 if
@@ -1249,7 +1188,7 @@ ZIMGASOL_API void zimgasol_worker_free(zimgasol_worker *worker);
 
 /* Writes the hello of channel `id`, of a UUID of 16 bytes, into a buffer of 64. Returns DONE or
  * BAD_LENGTH. */
-ZIMGASOL_API zimgasol_status zimgasol_hello(const uint8_t *uuid, size_t uuid_len, uint8_t id,
+ZIMGASOL_CHECKED zimgasol_status zimgasol_hello(const uint8_t *uuid, size_t uuid_len, uint8_t id,
     uint8_t *out, size_t len);
 
 /* Writes one packet to the front of `out`: of a block's id, which has no byte 0 (a reader takes it
@@ -1258,7 +1197,7 @@ ZIMGASOL_API zimgasol_status zimgasol_hello(const uint8_t *uuid, size_t uuid_len
  * Returns DONE, BAD_PAGE_SIZE, TOO_MANY_PAGES, NO_MEMORY, or BAD_LENGTH: of the contents (the
  * normal pages' together), of the id (at most 255), or of `out`. With DONE, and where `out` alone
  * is too short, *written is how many bytes the packet has; else it stays. */
-ZIMGASOL_API zimgasol_status zimgasol_put_packet(uint64_t page_size, uint64_t number, bool sync,
+ZIMGASOL_CHECKED zimgasol_status zimgasol_put_packet(uint64_t page_size, uint64_t number, bool sync,
     const uint8_t *id, size_t id_len, const uint64_t *normal, size_t normal_len,
     const uint8_t *contents, size_t contents_len, const uint64_t *zero, size_t zero_len,
     uint8_t *out, size_t len, size_t *written);

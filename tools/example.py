@@ -59,7 +59,7 @@ def symbols():
         if len(kind) == 1:
             names.setdefault(kind, set()).add(name)
     header = re.sub(r"/\*.*?\*/", "", (TOP / "include/zimgasol.h").read_text(), flags=re.S)
-    declared = set(re.findall(r"^ZIMGASOL_API \w+ (zimgasol_\w+)\(", header, re.M))
+    declared = set(re.findall(r"^ZIMGASOL_(?:API|CHECKED) \w+ (zimgasol_\w+)\(", header, re.M))
     others = set().union(*(found for kind, found in names.items() if kind != "U")) - declared
     if others or declared - names["T"] or names["U"] - WANTED:
         sys.exit(f"names: {others} aren't the header's, {declared - names['T']} are missing, {names['U'] - WANTED} are wanted")
@@ -77,6 +77,11 @@ class Fault(ctypes.Structure):
 
 class Handle(ctypes.Structure):
     _fields_ = [("at", ctypes.c_void_p), ("full", ctypes.c_uint64)]
+
+
+class Settings(ctypes.Structure):
+    _fields_ = [("frame", ctypes.c_uint32), ("round_end", ctypes.c_uint32), ("waiting", ctypes.c_uint64), ("zero_blocks", ctypes.c_uint64),
+                ("reserved", ctypes.c_uint64 * 5)]
 
 
 class Buffer(ctypes.Structure):
@@ -98,11 +103,11 @@ class Library:
         self.calls = ctypes.CDLL(str(TOP / "out/libzimgasol.so"))
         for name in ("sender_drain", "loader_blocks", "session_blocks"):
             getattr(self.calls, "zimgasol_" + name).restype = ctypes.c_size_t
-        for name in ("loader_rounds", "in_place_rounds", "session_rounds"):
+        for name in ("loader_rounds", "load_rounds", "session_rounds", "read_fault_text"):
             getattr(self.calls, "zimgasol_" + name).restype = ctypes.c_uint64
-        for name in ("table_new", "sender_new", "in_place_new", "in_place_feed", "in_place_page_read", "hello", "put_packet"):
+        for name in ("table_new", "sender_new", "load_new", "load_feed", "load_end", "load_page_read", "hello", "put_packet"):
             getattr(self.calls, "zimgasol_" + name).restype = ctypes.c_uint32
-        self.calls.zimgasol_in_place_wanted.restype = ctypes.c_bool
+        self.calls.zimgasol_load_wanted.restype = ctypes.c_bool
 
     def call(self, name, *arguments):
         return getattr(self.calls, "zimgasol_" + name)(*arguments)
@@ -417,37 +422,45 @@ def load_single(library, page_size, limit, frame, text, cut):
     return asked.answer(page_size)
 
 
+def feed_load(library, load, blocks, piece):
+    """Feeds the next piece of one stream to a load into blocks, which takes all of it."""
+    taken = size(0)
+    library.done("load_feed", ctypes.byref(load), blocks, size(len(blocks)), size(0), piece, size(len(piece)), ctypes.byref(taken))
+    if taken.value != len(piece):
+        raise RuntimeError(f"load_feed: {taken.value} of {len(piece)} bytes were taken")
+
+
 def read_straight(library, load, blocks, text):
     """Reads each page that comes next into its block, and feeds what stands between them: no byte past the stream's end. What
     is left of a page that isn't there whole is fed."""
     at, following = 0, Next()
-    while library.call("in_place_wanted", ctypes.byref(load), ctypes.byref(following)):
+    while library.call("load_wanted", ctypes.byref(load), ctypes.byref(following)):
         piece = text[at:at + following.len]
         at += len(piece)
         if following.is_page and len(piece) == following.len:
             ctypes.memmove(blocks[following.block].bytes + following.offset, piece, len(piece))
-            library.done("in_place_page_read", ctypes.byref(load), blocks, size(len(blocks)))
+            library.done("load_page_read", ctypes.byref(load), blocks, size(len(blocks)))
         elif piece:
-            library.done("in_place_feed", ctypes.byref(load), blocks, size(len(blocks)), piece, size(len(piece)))
+            feed_load(library, load, blocks, piece)
         else:
             break
 
 
 def load_in_place(library, page_size, named, frame, text, cut):
     """A load into blocks of our own, which are zeros at first: what is told of it. Without a cut it is read by what comes next."""
-    table, load, fault = library.table(page_size, named), Handle(), Fault()
-    library.done("in_place_new", ctypes.byref(load), ctypes.byref(table), frame)
+    table, load, fault, settings = library.table(page_size, named), Handle(), Fault(), Settings(frame=frame)
+    library.done("load_new", ctypes.byref(load), ctypes.byref(table), b"", size(0), size(0), ctypes.byref(settings))
     library.call("table_free", ctypes.byref(table))
     buffers = [ctypes.create_string_buffer(pages * page_size) for pages, _ in named]
     blocks = (Buffer * len(buffers))(*(Buffer(ctypes.addressof(it), len(it)) for it in buffers))
     if cut is None:
         read_straight(library, load, blocks, text)
     for piece in pieces(text, cut) if cut is not None else ():
-        library.done("in_place_feed", ctypes.byref(load), blocks, size(len(blocks)), piece, size(len(piece)))
-    library.call("in_place_end", ctypes.byref(load))
-    library.call("in_place_verdict", ctypes.byref(load), ctypes.byref(fault))
-    rounds = library.call("in_place_rounds", ctypes.byref(load))
-    library.call("in_place_free", ctypes.byref(load))
+        feed_load(library, load, blocks, piece)
+    library.done("load_end", ctypes.byref(load), size(0))
+    library.call("load_verdict", ctypes.byref(load), ctypes.byref(fault))
+    rounds = library.call("load_rounds", ctypes.byref(load))
+    library.call("load_free", ctypes.byref(load))
     page = slice(page_size)
     pages = ((i, n, buffer.raw[n * page_size:][page]) for i, buffer in enumerate(buffers) for n in range(len(buffer) // page_size))
     return f"{verdict_name(fault)}; rounds {rounds}; {memory_name(pages)}"
@@ -785,7 +798,33 @@ def version_and_texts(library):
         texts[number] = ctypes.string_at(text.bytes, text.bytes_len)
     if any((texts[n] != b"unknown status\0") != (n in known) or texts[n].count(b"\0") != 1 or not texts[n].endswith(b"\0") for n in texts):
         sys.exit("a status without a text, or a text of none")
-    return f"a text for each of {len(known)} statuses"
+    return f"a text for each of {len(known)} statuses, and of {fault_texts(library, texts)} faults"
+
+
+def fault_texts(library, texts):
+    """The texts of faults of each number are those that Python writes, in room of each length. Returns how many were compared."""
+    fault = Fault()
+    places = [(0, 0, 0, 0), (3, 0, 0x7f, 5), (2**64 - 1, 256, 2**64 - 1, 2**64 - 1), (12, 2**64 - 1, 10, 0x1000)]
+    compared = 0
+    for number in range(201):
+        message = texts[number][:-1].decode()
+        for round_, source, first, second in places:
+            fault.round, fault.source, fault.number, fault.first, fault.second = round_, source, number, first, second
+            carried = {27: f" 0x{first:x}", 31: f" 0x{first:x}", 41: f" 0x{first:x}", 54: f" (packet {first})", 55: f" (packet {first})",
+                       56: f" (packet {first})", 57: f" (packet {first})", 58: f" (packet {first}, offset {second})",
+                       59: f" (block {first}, page {second})"}.get(number, "")
+            channel = "" if source in (0, 2**64 - 1) else f", channel {source - 1}"
+            for at in (None, 0, 2**64 - 1):
+                place = "" if at is None else f", at byte {at}"
+                wanted = f"{number}, {message}{carried}{channel}, after {round_} rounds{place}".encode()
+                for room in (0, 1, 7, len(wanted), len(wanted) + 1, 256):
+                    out = ctypes.create_string_buffer(b"\xAA" * 300, 300)
+                    found = library.call("read_fault_text", ctypes.byref(fault), ctypes.c_bool(at is not None), ctypes.c_uint64(at or 0), out, ctypes.c_size_t(room))
+                    kept = (wanted[:room - 1] + b"\0") if room else b""
+                    if found != len(wanted) or out.raw != kept + b"\xAA" * (300 - len(kept)):
+                        sys.exit(f"the text of fault {number} in room of {room}: {out.raw!r}, not {wanted!r}")
+                compared += 1
+    return compared
 
 
 def from_rust():
@@ -839,6 +878,7 @@ def main():
     build("heads", "examples/c/tests/heads.c")
     build("round_ends", "examples/c/tests/round_ends.c")
     build("zero_blocks", "examples/c/tests/zero_blocks.c")
+    build("loads", "examples/c/tests/loads.c")
     build("apart", "examples/c/tests/apart.c", "-pthread")
     build("apart_asan", "examples/c/tests/apart.c", "-pthread", "-fsanitize=address,undefined")
     build("apart_tsan", "examples/c/tests/apart.c", "-pthread", "-fsanitize=thread")
@@ -846,6 +886,7 @@ def main():
     build("held", "examples/c/tests/held.c")
     build("send_failing", "examples/c/send.c", TOP / "examples/c/tests/failing_read.c", "-Wl,--wrap=fread")
     build("refused", "examples/c/tests/refused.c", REFUSING)
+    build("tables", "examples/c/tests/tables.c", REFUSING)
     build("channels_refused", "examples/c/tests/channels_refused.c", REFUSING)
     print(symbols())
     library = Library()
@@ -865,6 +906,8 @@ def main():
         print(run(*before, OUT / "heads").decode().strip() + under)
         print(run(*before, OUT / "round_ends").decode().strip() + under)
         print(run(*before, OUT / "zero_blocks").decode().strip() + under)
+        print(run(*before, OUT / "loads").decode().strip() + under)
+        print(run(*before, OUT / "tables").decode().strip() + under)
         print(run(*before, OUT / "apart").decode().strip() + under)
     failing_read()
     live()

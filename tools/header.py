@@ -5,7 +5,8 @@ Each export is written as C would declare it: a slice as a pointer and a length,
 pointer, a `Global` as nothing. The names of arguments have to be the same, except for a slice's
 length. The structs that are passed and the numbers of the statuses are compared, too, and so are
 the numbers and names of faults, with their definitions. Each status has the message that
-docs/FAULTS.md lists, and no two have the same.
+docs/FAULTS.md lists, and no two have the same. ZIMGASOL_CHECKED stands before the calls that return
+a status, and before no other.
 """
 
 import pathlib
@@ -17,13 +18,11 @@ PLAIN = {"u8": "uint8_t", "u32": "uint32_t", "u64": "uint64_t", "usize": "size_t
 STRUCTS = {
     "TableHandle": "zimgasol_table",
     "LoaderHandle": "zimgasol_loader",
-    "InPlaceHandle": "zimgasol_in_place",
+    "LoadHandle": "zimgasol_load",
     "SessionHandle": "zimgasol_session",
     "SenderHandle": "zimgasol_sender",
-    "InPlaceSessionHandle": "zimgasol_in_place_session",
     "MultiHandle": "zimgasol_multi",
     "WorkerHandle": "zimgasol_worker",
-    "ApartHandle": "zimgasol_apart",
     "ClaimedPages": "zimgasol_pages",
     "NamedPlace": "zimgasol_place",
     "NamedBatch": "zimgasol_batch",
@@ -41,7 +40,7 @@ SLICES = {
     "&mut [&mut [u8]]": ("zimgasol_buffer", ["uint8_t *bytes", "size_t len"]),
 }
 EXPORT = re.compile(r'pub (?:unsafe )?extern "C" fn (\w+)\s*\((.*?)\)\s*(?:->\s*([\w ]+?))?\s*(?=\n?\s*(?:requires|ensures|\{))', re.S)
-DECLARED = re.compile(r"^ZIMGASOL_API (void|zimgasol_status|uint32_t|uint64_t|size_t|bool) (zimgasol_\w+)\((.*?)\);", re.S | re.M)
+DECLARED = re.compile(r"^ZIMGASOL_(?:API|CHECKED) (void|zimgasol_status|uint32_t|uint64_t|size_t|bool) (zimgasol_\w+)\((.*?)\);", re.S | re.M)
 FIELD = re.compile(r"pub (\w+): ([^,]+),")
 
 
@@ -91,7 +90,7 @@ def declared():
             kind = kind.replace("zimgasol_frame", "uint32_t")
             listed.append((kind + (" *" if star else ""), label))
         found[name] = (result.replace("zimgasol_status", "uint32_t"), listed)
-    if text.count("ZIMGASOL_API ") != len(found) + text.count("#define ZIMGASOL_API "):
+    if len(re.findall(r"(?<!#define )ZIMGASOL_(?:API|CHECKED) ", text)) != len(found):
         sys.exit("zimgasol.h: a declaration that can't be read")
     return found
 
@@ -169,17 +168,28 @@ def long_lines():
     return [i for i, line in enumerate(lines, 1) if len(line) > 100]
 
 
+def unchecked():
+    """The calls whose status may be ignored without a warning, and those that have no status to ignore."""
+    header = (TOP / "include/zimgasol.h").read_text()
+    calls = re.findall(r"^ZIMGASOL_(API|CHECKED) (\w+) (zimgasol_\w+)\(", header, re.M)
+    return [name for macro, result, name in calls if (macro == "CHECKED") != (result == "zimgasol_status")]
+
+
 def versions():
     """What of the version isn't the same everywhere."""
     header = (TOP / "include/zimgasol.h").read_text()
     major, minor, patch = (int(part) for part in re.search(r'VERSION "(.*)"', header)[1].split("."))
     number = 10000 * major + 100 * minor + patch
+    parts = [f"version: {part} isn't {wanted}" for part, wanted in (("MAJOR", major), ("MINOR", minor), ("PATCH", patch))
+             if not re.search(rf"^#define ZIMGASOL_VERSION_{part} {wanted}$", header, re.M)]
+    if not re.search(rf"^ZIMGASOL_{major}\.{minor} {{$", (TOP / "tools/package/zimgasol.map").read_text(), re.M):
+        parts.append(f"version: tools/package/zimgasol.map has no ZIMGASOL_{major}.{minor}")
     places = {
         "the header's number": re.search(r"VERSION_NUMBER (\d+)", header)[1],
         "src/text.rt": re.search(r"const VERSION: u32 = (\d+);", (TOP / "crates/mig_c_calls/src/text.rt").read_text())[1],
         "specs/Texts.antt": re.search(r"^version = (\d+)$", (TOP / "crates/mig_c_calls/specs/Texts.antt").read_text(), re.M)[1],
     }
-    return [f"version: {place} has {found}, not {number}" for place, found in places.items() if int(found) != number]
+    return parts + [f"version: {place} has {found}, not {number}" for place, found in places.items() if int(found) != number]
 
 
 def messages():
@@ -208,6 +218,7 @@ def main():
     wrong += [f"struct {name}: {a} here, {b} in the header" for name, a, b in struct_fields() if a != b]
     wrong += [f"status {name}: {a}, {b} in the header, {c} in specs" for name, a, b, c in statuses() if not a == b == c]
     wrong += versions() + messages()
+    wrong += [f"{name}: ZIMGASOL_CHECKED stands before what returns no status, or is missing" for name in unchecked()]
     wrong += [f"fault {name}: {a}, {b} in the header" for name, a, b in faults() if a != b]
     wrong += [f"status {name} stands behind a larger one" for name in out_of_order()]
     wrong += [f"line {i} of the header is longer than 100 characters" for i in long_lines()]

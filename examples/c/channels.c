@@ -373,7 +373,7 @@ static char why[200];
 
 /* The load, with the lock around its calls. */
 static struct loader {
-    zimgasol_apart load;
+    zimgasol_load load;
     pthread_mutex_t held;
     pthread_cond_t turned;
     zimgasol_buffer into[BLOCKS];
@@ -384,7 +384,7 @@ static struct loader {
 /* Whether more is taken. The caller holds the lock. */
 static bool goes_on(void) {
     zimgasol_fault fault;
-    return !loader.given_up && zimgasol_apart_verdict(&loader.load, &fault) == ZIMGASOL_RUNNING;
+    return !loader.given_up && zimgasol_load_verdict(&loader.load, &fault) == ZIMGASOL_RUNNING;
 }
 
 /* Gives the load up if a source has a fault: the verdict would wait for the other sources, and
@@ -423,16 +423,15 @@ static bool feed(size_t source, const uint8_t *bytes, size_t len) {
     pthread_mutex_lock(&loader.held);
     while (len > 0 && goes_on()) {
         size_t count;
-        if (zimgasol_apart_claimed(&loader.load) > 0 ||
-            !zimgasol_apart_takes(&loader.load, source)) {
+        if (zimgasol_load_claimed(&loader.load) > 0 || !zimgasol_load_takes(&loader.load, source)) {
             pthread_cond_wait(&loader.turned, &loader.held);
             continue;
         }
-        check(zimgasol_apart_feed(&loader.load, loader.into, BLOCKS, source, bytes, len, &count),
+        check(zimgasol_load_feed(&loader.load, loader.into, BLOCKS, source, bytes, len, &count),
             "feed");
         bytes += count;
         len -= count;
-        give_up_on(zimgasol_apart_fault_of(&loader.load, source, &fault), &fault);
+        give_up_on(zimgasol_load_fault_of(&loader.load, source, &fault), &fault);
         pthread_cond_broadcast(&loader.turned);
     }
     pthread_mutex_unlock(&loader.held);
@@ -444,12 +443,12 @@ static bool feed(size_t source, const uint8_t *bytes, size_t len) {
 static void end_source(size_t source, bool is_claimed) {
     zimgasol_fault fault;
     pthread_mutex_lock(&loader.held);
-    check(zimgasol_apart_end(&loader.load, source), "end");
-    zimgasol_status status = zimgasol_apart_fault_of(&loader.load, source, &fault);
+    check(zimgasol_load_end(&loader.load, source), "end");
+    zimgasol_status status = zimgasol_load_fault_of(&loader.load, source, &fault);
     if (is_claimed) {
         status = fault.number = ZIMGASOL_CHANNEL_TRUNCATED;
         fault.source = source;
-        fault.round = zimgasol_apart_rounds(&loader.load);
+        fault.round = zimgasol_load_rounds(&loader.load);
     }
     give_up_on(status, &fault);
     pthread_cond_broadcast(&loader.turned);
@@ -474,10 +473,10 @@ static bool feed_hello(size_t source) {
 static zimgasol_status claim(size_t source, const uint8_t *head, zimgasol_pages *pages) {
     zimgasol_status status = ZIMGASOL_IS_CLAIMED;
     pthread_mutex_lock(&loader.held);
-    while (goes_on() && (loader.hellos < channels || !zimgasol_apart_takes(&loader.load, source)))
+    while (goes_on() && (loader.hellos < channels || !zimgasol_load_takes(&loader.load, source)))
         pthread_cond_wait(&loader.turned, &loader.held);
     while (goes_on()) {
-        status = zimgasol_apart_claim(&loader.load, source - 1, head, HEAD, pages);
+        status = zimgasol_load_claim(&loader.load, source - 1, head, HEAD, pages);
         if (status != ZIMGASOL_IS_CLAIMED) break;
         pthread_cond_wait(&loader.turned, &loader.held);
     }
@@ -505,7 +504,7 @@ static bool take(size_t source, const uint8_t *head, const zimgasol_pages *pages
     if (!read_pages(source, pages, contents)) return false;
     pthread_mutex_lock(&loader.held);
     zimgasol_status status =
-        zimgasol_apart_take(&loader.load, source - 1, head, HEAD, contents, pages->normal);
+        zimgasol_load_take(&loader.load, source - 1, head, HEAD, contents, pages->normal);
     if (status != ZIMGASOL_RUNNING) check(status, "take");
     pthread_cond_broadcast(&loader.turned);
     pthread_mutex_unlock(&loader.held);
@@ -578,15 +577,15 @@ static void *load_apart(void *table) {
     zimgasol_fault fault;
     for (size_t b = 0; b < BLOCKS; b++)
         loader.into[b] = (zimgasol_buffer){rams[b].loaded, rams[b].pages * PAGE};
-    check(zimgasol_apart_new(&loader.load, table, uuid, 16, channels, &settings), "apart_new");
+    check(zimgasol_load_new(&loader.load, table, uuid, 16, channels, &settings), "load_new");
     loader.hellos = 0;
     for (size_t s = 0; s <= channels; s++)
         start(&threads[s], s == ZIMGASOL_MAIN ? load_main : load_channel, (void *)s);
     for (size_t s = 0; s <= channels; s++) pthread_join(threads[s], NULL);
-    is_loaded = zimgasol_apart_verdict(&loader.load, &fault) == ZIMGASOL_DONE &&
-        zimgasol_apart_missing(&loader.load) == 0;
+    is_loaded = zimgasol_load_verdict(&loader.load, &fault) == ZIMGASOL_DONE &&
+        zimgasol_load_missing(&loader.load) == 0;
     if (!loader.given_up) zimgasol_fault_text(&fault, why, sizeof why);
-    zimgasol_apart_free(&loader.load);
+    zimgasol_load_free(&loader.load);
     return NULL;
 }
 
@@ -595,7 +594,7 @@ static void *load_apart(void *table) {
 /* The load, and of each source the bytes that were read and weren't taken yet. A source that has
  * ended isn't open. */
 static struct turns {
-    zimgasol_in_place_session load;
+    zimgasol_load load;
     zimgasol_buffer into[BLOCKS];
     uint8_t kept[1 + MOST][PIECE];
     size_t from[1 + MOST], to[1 + MOST];
@@ -605,7 +604,7 @@ static struct turns {
 /* Gives the load up if a source has a fault, as above. */
 static void test_source(struct turns *t, size_t s) {
     zimgasol_fault fault;
-    zimgasol_status status = zimgasol_in_place_session_fault_of(&t->load, s, &fault);
+    zimgasol_status status = zimgasol_load_fault_of(&t->load, s, &fault);
     if (t->given_up || status == ZIMGASOL_DONE) return;
     t->given_up = true;
     zimgasol_fault_text(&fault, why, sizeof why);
@@ -616,8 +615,8 @@ static bool feed_kept(struct turns *t) {
     bool moved = false;
     for (size_t s = 0; s <= channels; s++) {
         size_t count = 0;
-        if (t->from[s] == t->to[s] || !zimgasol_in_place_session_takes(&t->load, s)) continue;
-        check(zimgasol_in_place_session_feed(&t->load, t->into, BLOCKS, s, t->kept[s] + t->from[s],
+        if (t->from[s] == t->to[s] || !zimgasol_load_takes(&t->load, s)) continue;
+        check(zimgasol_load_feed(&t->load, t->into, BLOCKS, s, t->kept[s] + t->from[s],
                   t->to[s] - t->from[s], &count),
             "feed");
         t->from[s] += count;
@@ -634,7 +633,7 @@ static void read_source(struct turns *t, size_t s) {
     t->from[s] = 0;
     t->to[s] = len > 0 ? (size_t)len : 0;
     if (len > 0) return;
-    check(zimgasol_in_place_session_end(&t->load, s), "end");
+    check(zimgasol_load_end(&t->load, s), "end");
     t->is_open[s] = false;
     test_source(t, s);
 }
@@ -665,15 +664,14 @@ static void *load_by_turns(void *table) {
     for (size_t b = 0; b < BLOCKS; b++)
         t->into[b] = (zimgasol_buffer){rams[b].loaded, rams[b].pages * PAGE};
     for (size_t s = 0; s <= channels; s++) t->is_open[s] = true;
-    check(zimgasol_in_place_session_new_within(&t->load, table, uuid, 16, channels, &settings),
-        "in_place_session_new_within");
-    while (zimgasol_in_place_session_verdict(&t->load, &fault) == ZIMGASOL_RUNNING && !t->given_up)
+    check(zimgasol_load_new(&t->load, table, uuid, 16, channels, &settings), "load_new");
+    while (zimgasol_load_verdict(&t->load, &fault) == ZIMGASOL_RUNNING && !t->given_up)
         if (!feed_kept(t) && !read_some(t)) break;
     shut_down(LOADER);
-    is_loaded = zimgasol_in_place_session_verdict(&t->load, &fault) == ZIMGASOL_DONE &&
-        zimgasol_in_place_session_missing(&t->load) == 0;
+    is_loaded = zimgasol_load_verdict(&t->load, &fault) == ZIMGASOL_DONE &&
+        zimgasol_load_missing(&t->load) == 0;
     if (!t->given_up) zimgasol_fault_text(&fault, why, sizeof why);
-    zimgasol_in_place_session_free(&t->load);
+    zimgasol_load_free(&t->load);
     return NULL;
 }
 

@@ -52,17 +52,17 @@ static void unmap(machine *m) {
 
 /* Feeds all of standard input. Returns how many bytes that were. If it can't go on it prints why,
  * and returns -1. */
-static long long feed_input(zimgasol_in_place *load, machine *m, size_t cut) {
+static long long feed_input(zimgasol_load *load, machine *m, size_t cut) {
     uint8_t *piece = malloc(cut);
     long long total = 0;
-    size_t len;
+    size_t len, taken;
     uint32_t status = piece == NULL ? ZIMGASOL_NO_MEMORY : ZIMGASOL_DONE;
     while (status == ZIMGASOL_DONE && (len = fread(piece, 1, cut, stdin)) > 0) {
-        status = zimgasol_in_place_feed(load, m->buffers, m->count, piece, len);
+        status = zimgasol_load_feed(load, m->buffers, m->count, ZIMGASOL_MAIN, piece, len, &taken);
         total += (long long)len;
     }
     free(piece);
-    zimgasol_in_place_end(load);
+    if (status == ZIMGASOL_DONE) status = zimgasol_load_end(load, ZIMGASOL_MAIN);
     if (status != ZIMGASOL_DONE) fprintf(stderr, "a piece was refused: %u\n", status);
     else if (ferror(stdin)) perror("standard input");
     else return total;
@@ -79,19 +79,21 @@ static int write_blocks(const machine *m, const char *name) {
     return done;
 }
 
-/* Makes a load into the machine's blocks. */
-static uint32_t begin(zimgasol_in_place *load, const machine *m, uint64_t page_size) {
+/* Makes a load of one stream into the machine's blocks. */
+static uint32_t begin(zimgasol_load *load, const machine *m, uint64_t page_size) {
+    const zimgasol_settings settings = {.frame = ZIMGASOL_FRAME_RAM};
     zimgasol_table table = {0};
     size_t entry = 0;
     uint32_t status = zimgasol_table_new(&table, page_size, m->blocks, m->count, &entry);
     if (status != ZIMGASOL_DONE) return status;
-    status = zimgasol_in_place_new(load, &table, ZIMGASOL_FRAME_RAM);
+    /* no channels: one stream, which has no UUID */
+    status = zimgasol_load_new(load, &table, (const uint8_t *)"", 0, 0, &settings);
     zimgasol_table_free(&table);
     return status;
 }
 
 static int load_into(machine *m, uint64_t page_size, size_t cut, const char *output) {
-    zimgasol_in_place load = {0};
+    zimgasol_load load = {0};
     zimgasol_fault fault;
     uint32_t status = begin(&load, m, page_size);
     if (status != ZIMGASOL_DONE) {
@@ -100,19 +102,19 @@ static int load_into(machine *m, uint64_t page_size, size_t cut, const char *out
     }
     long long bytes = feed_input(&load, m, cut);
     status = bytes < 0 ? 3 : 0;
-    if (bytes >= 0 && zimgasol_in_place_verdict(&load, &fault) != ZIMGASOL_DONE) {
+    if (bytes >= 0 && zimgasol_load_verdict(&load, &fault) != ZIMGASOL_DONE) {
         printf("fault %u round %llu\n", fault.number, (unsigned long long)fault.round);
         status = 1;
     } else if (bytes >= 0) {
         printf("single %lld sections %llu\n", bytes,
-            (unsigned long long)zimgasol_in_place_rounds(&load));
+            (unsigned long long)zimgasol_load_rounds(&load));
     }
     if (fflush(stdout) != 0) {
         perror("standard output");
         status = 3;
     }
     if (bytes >= 0 && output != NULL && !write_blocks(m, output)) status = 3;
-    zimgasol_in_place_free(&load);
+    zimgasol_load_free(&load);
     return (int)status;
 }
 

@@ -227,31 +227,34 @@ typedef struct receiver {
 } receiver;
 
 /* Feeds pieces as they come. */
-static zimgasol_status feed_pieces(zimgasol_in_place *load, zimgasol_buffer *blocks, int socket) {
+static zimgasol_status feed_pieces(zimgasol_load *load, zimgasol_buffer *blocks, int socket) {
     uint8_t piece[PIECE];
     zimgasol_status status = ZIMGASOL_DONE;
     ssize_t len;
+    size_t taken;
     while (status == ZIMGASOL_DONE && (len = read(socket, piece, sizeof piece)) > 0)
-        status = zimgasol_in_place_feed(load, blocks, BLOCKS, piece, (size_t)len);
+        status =
+            zimgasol_load_feed(load, blocks, BLOCKS, ZIMGASOL_MAIN, piece, (size_t)len, &taken);
     return status;
 }
 
 /* Reads each page into its block, and feeds what stands between the pages. */
-static zimgasol_status read_pages(zimgasol_in_place *load, zimgasol_buffer *blocks, int socket) {
+static zimgasol_status read_pages(zimgasol_load *load, zimgasol_buffer *blocks, int socket) {
     uint8_t piece[64];
     zimgasol_status status = ZIMGASOL_DONE;
     zimgasol_next next;
-    size_t there = 0; /* bytes of the next page that were read */
-    while (status == ZIMGASOL_DONE && zimgasol_in_place_wanted(load, &next)) {
+    size_t taken, there = 0; /* `there`: bytes of the next page that were read */
+    while (status == ZIMGASOL_DONE && zimgasol_load_wanted(load, &next)) {
         uint8_t *to = next.is_page ? blocks[next.block].bytes + next.offset + there : piece;
         size_t most = next.len - there;
         if (!next.is_page && most > sizeof piece) most = sizeof piece;
         ssize_t len = read(socket, to, most);
         if (len <= 0) break;
         if (!next.is_page) {
-            status = zimgasol_in_place_feed(load, blocks, BLOCKS, piece, (size_t)len);
+            status =
+                zimgasol_load_feed(load, blocks, BLOCKS, ZIMGASOL_MAIN, piece, (size_t)len, &taken);
         } else if ((there += (size_t)len) == next.len) {
-            status = zimgasol_in_place_page_read(load, blocks, BLOCKS);
+            status = zimgasol_load_page_read(load, blocks, BLOCKS);
             there = 0;
         }
     }
@@ -260,19 +263,21 @@ static zimgasol_status read_pages(zimgasol_in_place *load, zimgasol_buffer *bloc
 
 static void *receive(void *given) {
     receiver *r = given;
-    zimgasol_in_place load = {0};
+    const zimgasol_settings settings = {.frame = ZIMGASOL_FRAME_RAM};
+    zimgasol_load load = {0};
     zimgasol_buffer blocks[BLOCKS];
     zimgasol_fault fault;
     for (size_t b = 0; b < BLOCKS; b++)
         blocks[b] = (zimgasol_buffer){bytes_of(&r->m.rams[b]), r->m.rams[b].pages * PAGE};
-    r->status = zimgasol_in_place_new(&load, r->table, ZIMGASOL_FRAME_RAM);
+    /* no channels: one stream, which has no UUID */
+    r->status = zimgasol_load_new(&load, r->table, (const uint8_t *)"", 0, 0, &settings);
     if (r->status == ZIMGASOL_DONE) {
         r->status = (r->straight ? read_pages : feed_pieces)(&load, blocks, r->socket);
-        zimgasol_in_place_end(&load);
-        if (r->status == ZIMGASOL_DONE) r->status = zimgasol_in_place_verdict(&load, &fault);
-        r->sections = zimgasol_in_place_rounds(&load);
-        r->missing = zimgasol_in_place_missing(&load);
-        zimgasol_in_place_free(&load);
+        if (r->status == ZIMGASOL_DONE) r->status = zimgasol_load_end(&load, ZIMGASOL_MAIN);
+        if (r->status == ZIMGASOL_DONE) r->status = zimgasol_load_verdict(&load, &fault);
+        r->sections = zimgasol_load_rounds(&load);
+        r->missing = zimgasol_load_missing(&load);
+        zimgasol_load_free(&load);
     }
     /* where it gave up early the sender's next write fails */
     close(r->socket);

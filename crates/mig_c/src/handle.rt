@@ -114,10 +114,10 @@ pub struct LoaderHandle {
     ghost says: { full ≡ 0 ↔ handle.value ≡ None },
 }
 
-/// A load of one stream into blocks of C, or none.
+/// A load into blocks of C, or none.
 #[repr(C)]
 #[derive(Drop)]
-pub struct InPlaceHandle {
+pub struct LoadHandle {
     /// The handle of the object.
     pub handle: Handle,
     /// 0 if there is no object, else 1.
@@ -147,17 +147,6 @@ pub struct SenderHandle {
     ghost says: { full ≡ 0 ↔ handle.value ≡ None },
 }
 
-/// A load of several channels into blocks of C, or none.
-#[repr(C)]
-#[derive(Drop)]
-pub struct InPlaceSessionHandle {
-    /// The handle of the object.
-    pub handle: Handle,
-    /// 0 if there is no object, else 1.
-    pub full: u64,
-    ghost says: { full ≡ 0 ↔ handle.value ≡ None },
-}
-
 /// A sender on several channels, or none.
 #[repr(C)]
 #[derive(Drop)]
@@ -180,17 +169,6 @@ pub struct WorkerHandle {
     ghost says: { full ≡ 0 ↔ handle.value ≡ None },
 }
 
-/// A load of several channels whose pages C reads to their places, or none.
-#[repr(C)]
-#[derive(Drop)]
-pub struct ApartHandle {
-    /// The handle of the object.
-    pub handle: Handle,
-    /// 0 if there is no object, else 1.
-    pub full: u64,
-    ghost says: { full ≡ 0 ↔ handle.value ≡ None },
-}
-
 // Asks the prover for the proof that values of the type may go to another thread. The line `unsafe
 // impl Send` doesn't ask for one.
 fn crosses<T: Send>(_: &T) {}
@@ -201,21 +179,17 @@ fn crosses<T: Send>(_: &T) {}
 pub(crate) fn all_cross(
     table: &TableHandle,
     loader: &LoaderHandle,
-    in_place: &InPlaceHandle,
+    load: &LoadHandle,
     session: &SessionHandle,
     sender: &SenderHandle,
-    in_place_session: &InPlaceSessionHandle,
     multi: &MultiHandle,
     worker: &WorkerHandle,
-    apart: &ApartHandle,
 ) {
     crosses(table);
     crosses(loader);
-    crosses(in_place);
+    crosses(load);
     crosses(session);
     crosses(sender);
-    crosses(in_place_session);
     crosses(multi);
     crosses(worker);
-    crosses(apart);
 }

@@ -10,10 +10,8 @@
 //! the same name, and put it back.
 #![tactic(auto)]
 
-mod apart;
 mod handle;
-mod in_place;
-mod in_place_session;
+mod load;
 mod loader;
 mod loose;
 mod multi;

@@ -1,7 +1,7 @@
 //! The objects of handles.
 
 use mig_c_calls::{HeldWorker, Multi, Sender};
-use mig_c_loads::{HeldApart, HeldLoad, HeldSession};
+use mig_c_loads::{HeldApart, HeldLoad};
 use mig_mem::Table;
 use mig_session::Session;
 use mig_single_load::SingleLoader;
@@ -15,19 +15,17 @@ pub enum Object {
     /// A loader of one stream.
     Loader(SingleLoader<Global>),
     /// A load of one stream into blocks of C.
-    InPlace(HeldLoad),
+    One(HeldLoad),
     /// A load of several channels.
     Session(Session<Global>),
     /// A sender of one stream.
     Sender(Sender),
-    /// A load of several channels into blocks of C.
-    InPlaceSession(HeldSession),
     /// A sender on several channels.
     Multi(Multi),
     /// A worker of a round on several channels.
     Worker(HeldWorker),
-    /// A load of several channels whose pages C reads to their places.
-    Apart(HeldApart),
+    /// A load of several channels into blocks of C, which may read pages to their places itself.
+    Several(HeldApart),
     /// No worker yet: room for one.
     Empty,
 }

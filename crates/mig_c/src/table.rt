@@ -1,18 +1,24 @@
-//! The calls of a table, which is created from ids and pages.
+//! The calls of a table, which is created from ids and pages, or from the first bytes of a stream.
 
-ghost use Rattle.std.specs.Prelude.{◌≡◌, ◌≢◌, ◌⊎◌, None, Some, IsSome, IfOk, IfErr, OnOk};
+ghost use Rattle.std.specs.Prelude.{◌≡◌, ◌≢◌, ◌⊎◌, None, Some, IsSome, IfOk, IfErr, IfSome, OnOk, length};
+ghost use Rattle.std.specs.Option.{option_map};
 ghost use Rattle.mig_mem.specs.PageSize.{IsPageSize};
 ghost use Rattle.mig_mem.specs.declared.fault.TableFault.TheVariants.{NoMemory as fault_no_memory};
 ghost use Rattle.mig_mem.specs.Refusal.{refusal};
 ghost use Rattle.mig_c_calls.specs.Blocks.{table_of};
-ghost use Rattle.mig_c.specs.Kinds.{table_in};
+ghost use Rattle.mig_c_calls.specs.Status.{done};
+ghost use Rattle.mig_c_loads.specs.FirstTable.{FindsTable, table_settings, status_of, MakesFirst, GivesTableBlock};
+ghost use Rattle.mig_stream.specs.declared.item.StreamState.{StreamState};
+ghost use Rattle.mig_c.specs.Kinds.{table_in, Tells};
 ghost use Rattle.mig_c.specs.Tables.{IsAt, Makes};
 
 use crate::handle::{Handle, TableHandle};
 use crate::object::Object;
-use mig_c_calls::status::{BAD_PAGE_SIZE, DONE, NO_MEMORY};
+use mig_c_calls::status::{BAD_FRAME, BAD_PAGE_SIZE, DONE, NO_MEMORY};
 use mig_c_calls::{NamedBlock, entries};
+use mig_c_loads::{find_table, frame_of, read_table_block, table_status};
 use mig_mem::{NoMemory, Table, TableFault, is_page_size};
+use mig_stream::Frame;
 use std::alloc::Global;
 
 // Returns the number of the bad entry, if the fault has one, else 0.
@@ -72,6 +78,108 @@ pub extern "C" fn zimgasol_table_new(
             u32::from(fault.number())
         }
     }
+}
+
+// Creates the table of a stream's first bytes in a box, if they have it. Returns it with a status.
+fn made_first(
+    alloc: Global,
+    frame: Frame,
+    page_size: u64,
+    bytes: &[u8],
+) -> Result<(Option<Box<Object>>, u32), NoMemory>
+    requires { IsPageSize page_size }
+    ensures done { IfOk result (λ made. IfSome made.0 (λ _. made.1 ≡ done)) }
+    ensures finds { IfOk result (λ made. (state : StreamState) × FindsTable (table_settings frame page_size) bytes.now (table_in (option_map (λ b. b.value) made.0)) state
+        × (made.1 ≡ status_of (table_in (option_map (λ b. b.value) made.0)) state)) }
+{
+    let (found, state) = find_table(alloc, frame, page_size, bytes)?;
+    let status = table_status(&found, state);
+    match found {
+        Some(table) => Ok((Some(boxed(alloc, table)?), status)),
+        None => Ok((None, status)),
+    }
+}
+
+/// Creates the table of the stream that begins with these bytes, read in a frame, if they have it.
+/// Returns RUNNING if more bytes are needed, or the number of the fault that stands before it.
+#[unsafe(no_mangle)]
+pub extern "C" fn zimgasol_table_of_stream(
+    alloc: Global,
+    table: &mut TableHandle,
+    page_size: u64,
+    frame: u32,
+    bytes: &[u8],
+) -> u32
+    requires none { table.old.handle.value ≡ None }
+    ensures makes { MakesFirst page_size frame bytes.now result (table_in table.new.handle.value) }
+    ensures none { result ≢ done → table.new.handle.value ≡ None }
+{
+    if !is_page_size(page_size) {
+        return BAD_PAGE_SIZE;
+    }
+    let Some(frame) = frame_of(frame) else {
+        return BAD_FRAME;
+    };
+    let (made, status) = match made_first(alloc, frame, page_size, bytes) {
+        Ok(found) => found,
+        Err(NoMemory) => return NO_MEMORY,
+    };
+    if let Some(object) = made {
+        table.handle = Handle::of(object);
+        table.full = 1;
+    }
+    status
+}
+
+fn count(object: &Object) -> usize
+    requires { IsSome (table_in (Some object.now)) }
+    ensures { Tells (λ t. result ≡ length t.blocks) (table_in (Some object.now)) }
+{
+    match object {
+        Object::Table(table) => table.len(),
+        _ => unreachable!(),
+    }
+}
+
+/// Returns how many blocks a table has.
+#[unsafe(no_mangle)]
+pub extern "C" fn zimgasol_table_blocks(alloc: Global, table: &mut TableHandle) -> usize
+    requires table { IsSome (table_in table.old.handle.value) }
+    ensures same { table.new.handle.value ≡ table.old.handle.value }
+    ensures count { Tells (λ t. result ≡ length t.blocks) (table_in table.old.handle.value) }
+{
+    let object = table.handle.take().into_box(alloc);
+    let number = count(&object);
+    table.handle = Handle::of(object);
+    number
+}
+
+fn block(object: &Object, i: usize, out: &mut NamedBlock) -> u32
+    requires { IsSome (table_in (Some object.now)) }
+    ensures { Tells (GivesTableBlock i result out.old out.new) (table_in (Some object.now)) }
+{
+    match object {
+        Object::Table(table) => read_table_block(table, i, out),
+        _ => unreachable!(),
+    }
+}
+
+/// Reports the id of a table's block, and its number of pages.
+#[unsafe(no_mangle)]
+pub extern "C" fn zimgasol_table_block(
+    alloc: Global,
+    table: &mut TableHandle,
+    i: usize,
+    out: &mut NamedBlock,
+) -> u32
+    requires table { IsSome (table_in table.old.handle.value) }
+    ensures same { table.new.handle.value ≡ table.old.handle.value }
+    ensures gives { Tells (GivesTableBlock i result out.old out.new) (table_in table.old.handle.value) }
+{
+    let object = table.handle.take().into_box(alloc);
+    let status = block(&object, i, out);
+    table.handle = Handle::of(object);
+    status
 }
 
 /// Frees a table. An empty handle stays as it is.

@@ -42,7 +42,6 @@ pub struct DealtRound {
 
 /// The bytes of ended streams that weren't drained, and how many of each channel were copied out
 /// since.
-#[derive(Drop)]
 pub struct EndedStreams {
     /// The bytes that weren't drained before the end.
     pub(crate) sent: Sent<Global>,
@@ -50,6 +49,17 @@ pub struct EndedStreams {
     pub(crate) given: Vec<usize>,
     /// Whether the main stream was left open after RAM's END.
     pub(crate) left_open: bool,
+}
+
+// Written out, so that a caller's proof passes a call where a value is dropped.
+impl Drop for EndedStreams {
+    fn drop(self) {
+        let EndedStreams {
+            sent: _,
+            given: _,
+            left_open: _,
+        } = self;
+    }
 }
 
 /// The state of a sender on several channels.
@@ -64,12 +74,18 @@ pub enum MultiState {
 }
 
 /// A sender on several channels, and the bytes that were drained of its main stream last.
-#[derive(Drop)]
 pub struct Multi {
     /// The state of the sender.
     pub(crate) state: MultiState,
     /// The bytes that were drained of its main stream last.
     pub(crate) main: Waiting,
+}
+
+// Written out, so that a caller's proof passes a call where a value is dropped.
+impl Drop for Multi {
+    fn drop(self) {
+        let Multi { state: _, main: _ } = self;
+    }
 }
 
 /// A worker, and the bytes that were drained of its channel last. The table is kept next to it, for

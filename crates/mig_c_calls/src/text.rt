@@ -1,5 +1,6 @@
 //! Short messages for statuses, and the version.
 
+ghost use Rattle.std.specs.Prelude.{◌≤◌, length};
 ghost use Rattle.mig_c_calls.specs.Texts.{IsText};
 
 /// A message of the library's own, which lasts as long as the program.
@@ -15,7 +16,8 @@ pub const VERSION: u32 = 300;
 
 // Returns the message of a fault of a table.
 fn of_table(status: u32) -> &'static [u8]
-    ensures { IsText result.now }
+    ensures text { IsText result.now }
+    ensures short { length result.now ≤ 64 }
 {
     match status {
         1 => b"no block\0",
@@ -30,7 +32,8 @@ fn of_table(status: u32) -> &'static [u8]
 
 // Returns the message of a fault of a stream.
 fn of_stream(status: u32) -> &'static [u8]
-    ensures { IsText result.now }
+    ensures text { IsText result.now }
+    ensures short { length result.now ≤ 64 }
 {
     match status {
         11 => b"stream: no QEVM\0",
@@ -63,7 +66,8 @@ fn of_stream(status: u32) -> &'static [u8]
 
 // Returns the message of a fault of a channel.
 fn of_channel(status: u32) -> &'static [u8]
-    ensures { IsText result.now }
+    ensures text { IsText result.now }
+    ensures short { length result.now ≤ 64 }
 {
     match status {
         35 => b"channel: bad hello magic\0",
@@ -83,7 +87,8 @@ fn of_channel(status: u32) -> &'static [u8]
 
 // Returns the message of a fault of a machine's stream, of channels together, or of a round.
 fn of_load(status: u32) -> &'static [u8]
-    ensures { IsText result.now }
+    ensures text { IsText result.now }
+    ensures short { length result.now ≤ 64 }
 {
     match status {
         46 => b"machine: unknown subsection\0",
@@ -110,7 +115,8 @@ fn of_load(status: u32) -> &'static [u8]
 
 // Returns the message of a load's state, or of a refused call.
 fn of_call(status: u32) -> &'static [u8]
-    ensures { IsText result.now }
+    ensures text { IsText result.now }
+    ensures short { length result.now ≤ 64 }
 {
     match status {
         0 => b"done\0",
@@ -137,7 +143,8 @@ fn of_call(status: u32) -> &'static [u8]
 
 /// Returns the message of any status.
 pub fn text_of(status: u32) -> &'static [u8]
-    ensures { IsText result.now }
+    ensures text { IsText result.now }
+    ensures short { length result.now ≤ 64 }
 {
     match status {
         1..=10 => of_table(status),

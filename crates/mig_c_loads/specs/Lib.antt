@@ -1,13 +1,15 @@
 -- To read first: a fault as C sees it, and what C passes to a load beside its streams; then pages
--- and blocks that are read out, a loader, blocks that were zeros, a load in place, a session, a
--- session in place, and a load whose pages C reads to their places.
+-- and blocks that are read out, the table of a stream's first bytes, a loader, blocks that were zeros, a load of one stream into blocks,
+-- a session, and a load of several channels into blocks, whose pages C may read to their places.
 pub mod Found
 pub mod Frames
 pub mod Reading
+pub mod FirstTable
 pub mod Loading
 pub mod ZeroBlocks
 pub mod InPlace
 pub mod NextBytes
+pub mod OneStream
 pub mod Sessions
 pub mod InPlaceSessions
 pub mod Filling

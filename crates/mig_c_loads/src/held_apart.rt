@@ -17,8 +17,8 @@ ghost use Rattle.mig_c_loads.specs.ZeroBlocks.{AreZerosBut, filled_at_first};
 use crate::claimed_pages::{ClaimedPages, list_packet};
 use crate::fault::FoundFault;
 use crate::filling::{fill_packet, leave_out_zeros};
-use crate::held_session::{closed_at, refusal, report_fault, seen_verdict, valid_up_to};
 use crate::lent::{LentBlocks, nothing_filled, put_back, taken_out};
+use crate::seen::{closed_at, refusal, report_fault, seen_verdict, valid_up_to};
 use mig_apart::{ApartSession, Claim};
 use mig_c_calls::status::{
     BAD_SOURCE, DONE, IS_CLAIMED, MAX_LIMIT, NO_MEMORY, OUT_OF_TURN, RUNNING, TO_FEED,
@@ -35,13 +35,23 @@ use uuid::Uuid;
 
 /// The values that a load keeps between its calls. The table is kept next to the state, for the
 /// memory that a call makes of C's blocks.
-#[derive(Drop)]
 pub struct HeldApart {
     session: ApartSession<Global>,
     // Some between two calls
     table: Option<Table<Global>>,
     // the pages that may hold something else than zeros, if the blocks were zeros
     filled: Option<Dirty<Global>>,
+}
+
+// Written out, so that a caller's proof passes a call where a value is dropped.
+impl Drop for HeldApart {
+    fn drop(self) {
+        let HeldApart {
+            session: _,
+            table: _,
+            filled: _,
+        } = self;
+    }
 }
 
 impl Model for HeldApart {

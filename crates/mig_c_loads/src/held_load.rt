@@ -24,13 +24,23 @@ use std::marker::Model;
 
 /// The values that a load keeps between its calls. The table is kept next to the state, for the
 /// memory that a call makes of C's blocks.
-#[derive(Drop)]
 pub struct HeldLoad {
     state: InPlaceState<Global>,
     // there between two calls
     table: Option<Table<Global>>,
     // the pages that may hold something else than zeros, if the blocks were zeros
     filled: Option<Dirty<Global>>,
+}
+
+// Written out, so that a caller's proof passes a call where a value is dropped.
+impl Drop for HeldLoad {
+    fn drop(self) {
+        let HeldLoad {
+            state: _,
+            table: _,
+            filled: _,
+        } = self;
+    }
 }
 
 impl Model for HeldLoad {
@@ -250,6 +260,13 @@ impl HeldLoad {
         ensures { TellsVerdict result self.now.load }
     {
         of_verdict(self.state.verdict(), self.state.ended())
+    }
+
+    /// Returns whether the stream was ended.
+    pub(crate) fn ended(&self) -> bool
+        ensures { result ≡ self.now.load.ended }
+    {
+        self.state.ended()
     }
 
     /// Returns how many bytes were fed.

@@ -1,39 +1,42 @@
 //! The calls of loads of the library for C, without handles and pointers: `mig_c` exports them.
 //!
 //! They work on a loader of one stream (`loading`), a session (`sources`), and the loads into
-//! blocks of C (`held_load`, `held_session`). The blocks are lent to a call (`lent`), which writes
-//! pages into their bytes (`putting`). Of a load whose pages C reads to their places
-//! (`held_apart`) C sees which pages it claimed (`claimed_pages`), and which of them may hold
-//! something else than zeros (`filling`). C passes the numbers of a frame
-//! and of what ends rounds, and settings (`frame`, `round_end`, `settings`). It sees a load's
-//! fault (`fault`) and what the next bytes are (`next_bytes`), and reads the pages of the memory
-//! (`reading`). Statuses are those of `mig_c_calls`. What C's senders sent, these loads load
-//! (`laws`).
+//! blocks of C: of one stream (`held_load`, and by its source `one_stream`), and of several channels
+//! (`held_apart`). The blocks are lent to a call (`lent`), which writes pages into their bytes
+//! (`putting`). Of several channels C may read the pages to their places itself: it sees which it
+//! claimed (`claimed_pages`), and which of them may hold something else than zeros (`filling`). C
+//! passes the numbers of a frame and of what ends rounds, and settings (`frame`, `round_end`,
+//! `settings`). It sees a load's fault (`fault`), how a load of several channels stands (`seen`),
+//! and what the next bytes are (`next_bytes`), and reads the pages of the memory (`reading`), and the
+//! blocks of a table, which may be that of a stream's first bytes (`first_table`).
+//! Statuses are those of `mig_c_calls`. What C's senders sent, these loads load (`laws`).
 #![tactic(auto)]
 
 mod claimed_pages;
 mod fault;
 mod filling;
+mod first_table;
 mod frame;
 mod held_apart;
 mod held_load;
-mod held_session;
 mod laws;
 mod lent;
 mod loading;
 mod next_bytes;
+mod one_stream;
 mod putting;
 mod reading;
 mod round_end;
+mod seen;
 mod settings;
 mod sources;
 
 pub use claimed_pages::ClaimedPages;
 pub use fault::FoundFault;
+pub use first_table::{find_table, read_table_block, table_status};
 pub use frame::frame_of;
 pub use held_apart::HeldApart;
 pub use held_load::HeldLoad;
-pub use held_session::HeldSession;
 pub use laws::{
     drained_channels_are_loaded, drained_is_loaded, drained_machine_is_loaded,
     drained_machine_stream_is_loaded, pages_read_are_noted,

@@ -149,8 +149,8 @@ pub fn count_blocks(memory: Option<&Memory<Global>>) -> usize
     }
 }
 
-// Returns a block's id, then zeros.
-fn filled(id: &[u8]) -> [u8; 256]
+/// Returns a block's id, then zeros.
+pub(crate) fn filled(id: &[u8]) -> [u8; 256]
     requires { length id.now ≤ 255 }
     ensures { result ≡ named_id id.now }
 {

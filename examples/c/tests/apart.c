@@ -1,7 +1,7 @@
 /* Channels whose pages are read to their places by threads, a thread for each channel and one for
  * the main stream, behind one lock. A guest is loaded, pages of 4096 and of 8192 bytes; and
- * streams with a page twice, or that are cut, end with the fault that a load in place finds. The
- * connections are buffers in memory. Each status of a call out of turn is asked for. */
+ * streams with a page twice, or that are cut, end with the fault of a load that is fed all bytes.
+ * The connections are buffers in memory. Each status of a call out of turn is asked for. */
 #include "zimgasol.h"
 #include <pthread.h>
 #include <sched.h>
@@ -28,6 +28,7 @@ typedef struct streams {
 static size_t page_len, head_len;
 static uint8_t guest[2][PAGES * LARGE], loaded[2][PAGES * LARGE];
 static const uint8_t uuid[16] = {3, 2, 1};
+static const zimgasol_settings settings = {.round_end = ZIMGASOL_AS_SHOWN};
 
 static uint8_t *page_of(size_t block, uint64_t page) {
     return guest[block] + page * page_len;
@@ -96,7 +97,7 @@ static int send_guest(zimgasol_table *table, streams *to) {
 
 /* A load, with the lock around its calls, and the connections. */
 static struct apart {
-    zimgasol_apart load;
+    zimgasol_load load;
     pthread_mutex_t held;
     pthread_cond_t turned;
     zimgasol_buffer blocks[2];
@@ -125,7 +126,7 @@ static size_t read_up_to(source *from, void *to, size_t len) {
 /* Whether the load goes on. The caller holds the lock. */
 static bool is_running(void) {
     zimgasol_fault fault;
-    return !run.given_up && zimgasol_apart_verdict(&run.load, &fault) == ZIMGASOL_RUNNING;
+    return !run.given_up && zimgasol_load_verdict(&run.load, &fault) == ZIMGASOL_RUNNING;
 }
 
 static void wait_for_turn(void) {
@@ -137,13 +138,12 @@ static bool feed(const source *from, const uint8_t *bytes, size_t len) {
     pthread_mutex_lock(&run.held);
     while (len > 0 && is_running()) {
         size_t taken;
-        if (zimgasol_apart_claimed(&run.load) > 0 ||
-            !zimgasol_apart_takes(&run.load, from->number)) {
+        if (zimgasol_load_claimed(&run.load) > 0 || !zimgasol_load_takes(&run.load, from->number)) {
             wait_for_turn();
             continue;
         }
         zimgasol_status status =
-            zimgasol_apart_feed(&run.load, run.blocks, 2, from->number, bytes, len, &taken);
+            zimgasol_load_feed(&run.load, run.blocks, 2, from->number, bytes, len, &taken);
         if (status != ZIMGASOL_DONE) run.wrong = status;
         bytes += taken;
         len -= taken;
@@ -155,7 +155,7 @@ static bool feed(const source *from, const uint8_t *bytes, size_t len) {
 
 static void end(const source *from) {
     pthread_mutex_lock(&run.held);
-    zimgasol_status status = zimgasol_apart_end(&run.load, from->number);
+    zimgasol_status status = zimgasol_load_end(&run.load, from->number);
     if (status != ZIMGASOL_DONE) run.wrong = status;
     pthread_cond_broadcast(&run.turned);
     pthread_mutex_unlock(&run.held);
@@ -178,9 +178,9 @@ static void *load_main(void *arg) {
 static zimgasol_status claim(const source *from, const uint8_t *head, zimgasol_pages *pages) {
     zimgasol_status status = ZIMGASOL_IS_CLAIMED;
     pthread_mutex_lock(&run.held);
-    while (is_running() && !zimgasol_apart_takes(&run.load, from->number)) wait_for_turn();
+    while (is_running() && !zimgasol_load_takes(&run.load, from->number)) wait_for_turn();
     while (is_running()) {
-        status = zimgasol_apart_claim(&run.load, from->number - 1, head, head_len, pages);
+        status = zimgasol_load_claim(&run.load, from->number - 1, head, head_len, pages);
         if (status != ZIMGASOL_IS_CLAIMED) break;
         wait_for_turn();
     }
@@ -201,7 +201,7 @@ static bool take(source *from, const uint8_t *head, const zimgasol_pages *pages)
         memset(block + pages->pages[pages->normal + i] * page_len, 0, page_len);
     pthread_mutex_lock(&run.held);
     zimgasol_status status =
-        zimgasol_apart_take(&run.load, from->number - 1, head, head_len, contents, pages->normal);
+        zimgasol_load_take(&run.load, from->number - 1, head, head_len, contents, pages->normal);
     if (status != ZIMGASOL_RUNNING) run.wrong = status;
     run.taken++;
     pthread_cond_broadcast(&run.turned);
@@ -258,7 +258,6 @@ static void *load_channel(void *arg) {
 }
 
 static int begin(zimgasol_table *table, const streams *from) {
-    zimgasol_settings settings = {0};
     memset(loaded, 0xEE, sizeof loaded);
     run.blocks[0] = (zimgasol_buffer){loaded[0], PAGES * page_len};
     run.blocks[1] = (zimgasol_buffer){loaded[1], OTHER * page_len};
@@ -266,14 +265,7 @@ static int begin(zimgasol_table *table, const streams *from) {
     run.given_up = false;
     run.taken = 0;
     run.wrong = ZIMGASOL_DONE;
-    settings.round_end = 3;
-    WANT(zimgasol_apart_new(&run.load, table, uuid, 16, CHANNELS, &settings) ==
-        ZIMGASOL_BAD_ROUND_END);
-    settings.round_end = ZIMGASOL_AS_SHOWN;
-    WANT(
-        zimgasol_apart_new(&run.load, table, uuid, 15, CHANNELS, &settings) == ZIMGASOL_BAD_LENGTH);
-    WANT(zimgasol_apart_new(&run.load, table, uuid, 16, 0, &settings) == ZIMGASOL_BAD_CHANNELS);
-    WANT(zimgasol_apart_new(&run.load, table, uuid, 16, CHANNELS, &settings) == ZIMGASOL_DONE);
+    WANT(zimgasol_load_new(&run.load, table, uuid, 16, CHANNELS, &settings) == ZIMGASOL_DONE);
     return 0;
 }
 
@@ -292,45 +284,44 @@ static int load_apart(zimgasol_table *table, const streams *from) {
     return 0;
 }
 
-/* Loads the same streams in place, and returns the verdict and the number of rounds. */
-static int load_in_place(zimgasol_table *table, const streams *from, zimgasol_fault *fault,
+/* Loads the same streams by feeding them, and returns the verdict and the number of rounds. */
+static int load_fed(zimgasol_table *table, const streams *from, zimgasol_fault *fault,
     uint64_t *rounds) {
     static uint8_t copy[2][PAGES * LARGE];
     zimgasol_buffer into[2] = {{copy[0], PAGES * page_len}, {copy[1], OTHER * page_len}};
-    zimgasol_in_place_session load = {0};
+    zimgasol_load load = {0};
     size_t given[1 + CHANNELS] = {0}, taken;
-    WANT(zimgasol_in_place_session_new(&load, table, uuid, 16, CHANNELS, ZIMGASOL_FRAME_RAM) ==
-        ZIMGASOL_DONE);
+    WANT(zimgasol_load_new(&load, table, uuid, 16, CHANNELS, &settings) == ZIMGASOL_DONE);
     for (bool moved = true; moved;) {
         moved = false;
         for (size_t s = 0; s <= CHANNELS; s++) {
             size_t len = from->len[s] - given[s];
-            if (len == 0 || !zimgasol_in_place_session_takes(&load, s)) continue;
-            WANT(zimgasol_in_place_session_feed(&load, into, 2, s, from->bytes[s] + given[s], len,
-                     &taken) == ZIMGASOL_DONE);
+            if (len == 0 || !zimgasol_load_takes(&load, s)) continue;
+            WANT(zimgasol_load_feed(&load, into, 2, s, from->bytes[s] + given[s], len, &taken) ==
+                ZIMGASOL_DONE);
             given[s] += taken;
             moved = moved || taken > 0;
         }
     }
-    for (size_t s = 0; s <= CHANNELS; s++)
-        WANT(zimgasol_in_place_session_end(&load, s) == ZIMGASOL_DONE);
-    zimgasol_in_place_session_verdict(&load, fault);
-    *rounds = zimgasol_in_place_session_rounds(&load);
-    zimgasol_in_place_session_free(&load);
+    for (size_t s = 0; s <= CHANNELS; s++) WANT(zimgasol_load_end(&load, s) == ZIMGASOL_DONE);
+    zimgasol_status verdict = zimgasol_load_verdict(&load, fault);
+    WANT(verdict == fault->number);
+    *rounds = zimgasol_load_rounds(&load);
+    zimgasol_load_free(&load);
     return 0;
 }
 
-/* The fault of streams is that of a load in place. */
+/* The fault of streams is that of a load which is fed all bytes. */
 static int same_fault(zimgasol_table *table, const streams *from, zimgasol_status wanted) {
     zimgasol_fault fault = {0}, other = {0};
     uint64_t rounds;
-    if (load_in_place(table, from, &other, &rounds) || load_apart(table, from)) return 1;
-    WANT(zimgasol_apart_verdict(&run.load, &fault) == wanted);
+    if (load_fed(table, from, &other, &rounds) || load_apart(table, from)) return 1;
+    WANT(zimgasol_load_verdict(&run.load, &fault) == wanted);
     WANT(other.number == wanted && fault.number == wanted && fault.round == other.round &&
         fault.source == other.source && fault.first == other.first && fault.second == other.second);
-    WANT(zimgasol_apart_rounds(&run.load) == rounds && !zimgasol_apart_has_all_rounds(&run.load));
-    WANT(zimgasol_apart_claimed(&run.load) == 0);
-    zimgasol_apart_free(&run.load);
+    WANT(zimgasol_load_rounds(&run.load) == rounds && !zimgasol_load_has_all_rounds(&run.load));
+    WANT(zimgasol_load_claimed(&run.load) == 0);
+    zimgasol_load_free(&run.load);
     return 0;
 }
 
@@ -338,19 +329,19 @@ static int load_guest(zimgasol_table *table, const streams *from) {
     zimgasol_fault fault;
     uint64_t at;
     if (load_apart(table, from)) return 1;
-    WANT(zimgasol_apart_verdict(&run.load, &fault) == ZIMGASOL_DONE);
-    WANT(zimgasol_apart_rounds(&run.load) == ROUNDS && zimgasol_apart_has_all_rounds(&run.load));
-    WANT(zimgasol_apart_missing(&run.load) == 0);
-    WANT(zimgasol_apart_claimed(&run.load) == 0 && run.taken == ROUNDS * (PAGES / LIMIT + 1));
-    WANT(zimgasol_apart_closed_at(&run.load, &at) == ZIMGASOL_DONE && at == from->len[0]);
+    WANT(zimgasol_load_verdict(&run.load, &fault) == ZIMGASOL_DONE);
+    WANT(zimgasol_load_rounds(&run.load) == ROUNDS && zimgasol_load_has_all_rounds(&run.load));
+    WANT(zimgasol_load_missing(&run.load) == 0);
+    WANT(zimgasol_load_claimed(&run.load) == 0 && run.taken == ROUNDS * (PAGES / LIMIT + 1));
+    WANT(zimgasol_load_closed_at(&run.load, &at) == ZIMGASOL_DONE && at == from->len[0]);
     for (size_t s = 0; s <= CHANNELS; s++) {
-        WANT(zimgasol_apart_fed(&run.load, s) == from->len[s]);
-        WANT(zimgasol_apart_valid_up_to(&run.load, s, &at) && at == from->len[s]);
+        WANT(zimgasol_load_fed(&run.load, s) == from->len[s]);
+        WANT(zimgasol_load_valid_up_to(&run.load, s, &at) && at == from->len[s]);
     }
-    WANT(!zimgasol_apart_valid_up_to(&run.load, 1 + CHANNELS, &at) && at == from->len[CHANNELS]);
+    WANT(!zimgasol_load_valid_up_to(&run.load, 1 + CHANNELS, &at) && at == from->len[CHANNELS]);
     WANT(memcmp(loaded[0], guest[0], PAGES * page_len) == 0 &&
         memcmp(loaded[1], guest[1], OTHER * page_len) == 0);
-    zimgasol_apart_free(&run.load);
+    zimgasol_load_free(&run.load);
     return 0;
 }
 
@@ -362,12 +353,12 @@ static int cut_page(zimgasol_table *table, streams *from) {
     zimgasol_status status;
     from->len[2] = ZIMGASOL_HELLO_LEN + head_len + first + head_len + page_len / 2;
     if (load_apart(table, from)) return 1;
-    WANT(run.given_up && zimgasol_apart_claimed(&run.load) > 0);
-    status = zimgasol_apart_verdict(&run.load, &fault);
+    WANT(run.given_up && zimgasol_load_claimed(&run.load) > 0);
+    status = zimgasol_load_verdict(&run.load, &fault);
     WANT(status == ZIMGASOL_RUNNING || status == ZIMGASOL_CHANNEL_UNSYNCED);
-    WANT(zimgasol_apart_fault_of(&run.load, ZIMGASOL_CHANNEL(1), &fault) ==
+    WANT(zimgasol_load_fault_of(&run.load, ZIMGASOL_CHANNEL(1), &fault) ==
         ZIMGASOL_CHANNEL_UNSYNCED);
-    zimgasol_apart_free(&run.load);
+    zimgasol_load_free(&run.load);
     from->len[2] = whole;
     return 0;
 }
@@ -379,16 +370,16 @@ static int feed_fronts(const uint8_t *head, zimgasol_pages *pages) {
     const streams *from = run.from;
     size_t taken;
     for (size_t j = 0; j < CHANNELS; j++)
-        WANT(zimgasol_apart_feed(&run.load, run.blocks, 2, ZIMGASOL_CHANNEL(j), from->bytes[1 + j],
+        WANT(zimgasol_load_feed(&run.load, run.blocks, 2, ZIMGASOL_CHANNEL(j), from->bytes[1 + j],
                  ZIMGASOL_HELLO_LEN, &taken) == ZIMGASOL_DONE &&
             taken == ZIMGASOL_HELLO_LEN);
-    WANT(zimgasol_apart_claim(&run.load, 0, head, head_len, pages) == ZIMGASOL_TO_FEED);
-    WANT(!zimgasol_apart_takes(&run.load, ZIMGASOL_CHANNEL(0)));
-    WANT(zimgasol_apart_feed(&run.load, run.blocks, 2, ZIMGASOL_MAIN, from->bytes[0], 100,
-             &taken) == ZIMGASOL_DONE);
-    WANT(zimgasol_apart_takes(&run.load, ZIMGASOL_CHANNEL(0)));
-    WANT(zimgasol_apart_claim(&run.load, CHANNELS, head, head_len, pages) == ZIMGASOL_BAD_SOURCE);
-    WANT(zimgasol_apart_claim(&run.load, 0, head, head_len - 1, pages) == ZIMGASOL_TO_FEED);
+    WANT(zimgasol_load_claim(&run.load, 0, head, head_len, pages) == ZIMGASOL_TO_FEED);
+    WANT(!zimgasol_load_takes(&run.load, ZIMGASOL_CHANNEL(0)));
+    WANT(zimgasol_load_feed(&run.load, run.blocks, 2, ZIMGASOL_MAIN, from->bytes[0], 100, &taken) ==
+        ZIMGASOL_DONE);
+    WANT(zimgasol_load_takes(&run.load, ZIMGASOL_CHANNEL(0)));
+    WANT(zimgasol_load_claim(&run.load, CHANNELS, head, head_len, pages) == ZIMGASOL_BAD_SOURCE);
+    WANT(zimgasol_load_claim(&run.load, 0, head, head_len - 1, pages) == ZIMGASOL_TO_FEED);
     return 0;
 }
 
@@ -400,30 +391,29 @@ static int ask_out_of_turn(zimgasol_table *table, const streams *from) {
     if (begin(table, from)) return 1;
     for (size_t i = 0; i < count; i++) lent[i] = (zimgasol_lent){contents + i * page_len, page_len};
     if (feed_fronts(head, &pages)) return 1;
-    WANT(pages.normal == 0 && zimgasol_apart_claimed(&run.load) == 0);
-    WANT(zimgasol_apart_take(&run.load, 0, head, head_len, lent, count) == ZIMGASOL_OUT_OF_TURN);
-    WANT(zimgasol_apart_claim(&run.load, 0, head, head_len, &pages) == ZIMGASOL_RUNNING);
+    WANT(pages.normal == 0 && zimgasol_load_claimed(&run.load) == 0);
+    WANT(zimgasol_load_take(&run.load, 0, head, head_len, lent, count) == ZIMGASOL_OUT_OF_TURN);
+    WANT(zimgasol_load_claim(&run.load, 0, head, head_len, &pages) == ZIMGASOL_RUNNING);
     WANT(pages.normal == count && pages.normal + pages.zero == LIMIT && pages.block == 0);
-    WANT(zimgasol_apart_claimed(&run.load) == LIMIT);
-    WANT(zimgasol_apart_claim(&run.load, 0, head, head_len, &pages) == ZIMGASOL_IS_CLAIMED);
-    WANT(zimgasol_apart_feed(&run.load, run.blocks, 2, ZIMGASOL_MAIN, from->bytes[0] + 100, 10,
+    WANT(zimgasol_load_claimed(&run.load) == LIMIT);
+    WANT(zimgasol_load_claim(&run.load, 0, head, head_len, &pages) == ZIMGASOL_IS_CLAIMED);
+    WANT(zimgasol_load_feed(&run.load, run.blocks, 2, ZIMGASOL_MAIN, from->bytes[0] + 100, 10,
              &taken) == ZIMGASOL_OUT_OF_TURN &&
         taken == 0);
-    WANT(zimgasol_apart_take(&run.load, CHANNELS, head, head_len, lent, count) ==
+    WANT(zimgasol_load_take(&run.load, CHANNELS, head, head_len, lent, count) ==
         ZIMGASOL_BAD_SOURCE);
-    WANT(
-        zimgasol_apart_take(&run.load, 0, head, head_len, lent, count - 1) == ZIMGASOL_OUT_OF_TURN);
+    WANT(zimgasol_load_take(&run.load, 0, head, head_len, lent, count - 1) == ZIMGASOL_OUT_OF_TURN);
     lent[0].len--;
-    WANT(zimgasol_apart_take(&run.load, 0, head, head_len, lent, count) == ZIMGASOL_OUT_OF_TURN);
+    WANT(zimgasol_load_take(&run.load, 0, head, head_len, lent, count) == ZIMGASOL_OUT_OF_TURN);
     lent[0].len++;
-    WANT(zimgasol_apart_claimed(&run.load) == LIMIT);
-    WANT(zimgasol_apart_take(&run.load, 0, head, head_len, lent, count) == ZIMGASOL_RUNNING);
-    WANT(zimgasol_apart_claimed(&run.load) == 0);
-    WANT(zimgasol_apart_fed(&run.load, ZIMGASOL_CHANNEL(0)) ==
+    WANT(zimgasol_load_claimed(&run.load) == LIMIT);
+    WANT(zimgasol_load_take(&run.load, 0, head, head_len, lent, count) == ZIMGASOL_RUNNING);
+    WANT(zimgasol_load_claimed(&run.load) == 0);
+    WANT(zimgasol_load_fed(&run.load, ZIMGASOL_CHANNEL(0)) ==
         ZIMGASOL_HELLO_LEN + head_len + count * page_len);
-    WANT(zimgasol_apart_take(&run.load, 0, head, head_len, lent, count) == ZIMGASOL_OUT_OF_TURN);
-    zimgasol_apart_free(&run.load);
-    zimgasol_apart_free(&run.load);
+    WANT(zimgasol_load_take(&run.load, 0, head, head_len, lent, count) == ZIMGASOL_OUT_OF_TURN);
+    zimgasol_load_free(&run.load);
+    zimgasol_load_free(&run.load);
     return 0;
 }
 

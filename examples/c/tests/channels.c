@@ -1,6 +1,6 @@
 /* The calls for several channels, in both directions: a guest of two blocks is sent in rounds, by
- * workers that are stepped by turns, and loaded in place, with the bytes that a source doesn't take
- * kept until it does. Each status that a call has is asked for once, and what stands after it. */
+ * workers that are stepped by turns, and loaded into blocks. The bytes that a source doesn't take
+ * are kept until it does. Each status of a call is asked for once, and what stands after it. */
 #include "zimgasol.h"
 #include <stdio.h>
 #include <stdlib.h>
@@ -27,6 +27,7 @@ static uint8_t guest[2][PAGES * PAGE], loaded[2][PAGES * PAGE];
 static uint8_t stream[1 + CHANNELS][MOST];
 static size_t length[1 + CHANNELS], given[1 + CHANNELS];
 static const uint8_t uuid[16] = {1, 2, 3};
+static const zimgasol_settings plain = {.frame = ZIMGASOL_FRAME_RAM};
 
 static zimgasol_lent lent[2] = {{guest[0], sizeof guest[0]}, {guest[1], OTHER_LEN}};
 static zimgasol_buffer into[2] = {{loaded[0], sizeof loaded[0]}, {loaded[1], OTHER_LEN}};
@@ -194,19 +195,19 @@ static int send_none(zimgasol_table *table) {
 
 /* Feeds all streams in pieces of `cut` bytes, each source by turns as long as it takes some, and
  * ends them. */
-static int feed_all(zimgasol_in_place_session *load, size_t cut) {
+static int feed_all(zimgasol_load *load, size_t cut) {
     size_t taken = 7;
     memset(given, 0, sizeof given);
     for (int moved = 1; moved;) {
         moved = 0;
         for (size_t source = 0; source <= CHANNELS; source++) {
             size_t left = length[source] - given[source], len = left < cut ? left : cut;
-            if (len == 0 || !zimgasol_in_place_session_takes(load, source)) continue;
-            WANT(zimgasol_in_place_session_feed(load, into, 2, source,
-                     stream[source] + given[source], len, &taken) == ZIMGASOL_DONE);
+            if (len == 0 || !zimgasol_load_takes(load, source)) continue;
+            WANT(zimgasol_load_feed(load, into, 2, source, stream[source] + given[source], len,
+                     &taken) == ZIMGASOL_DONE);
             WANT(taken <= len);
             given[source] += taken;
-            WANT(zimgasol_in_place_session_fed(load, source) == given[source]);
+            WANT(zimgasol_load_fed(load, source) == given[source]);
             moved = moved || taken > 0;
         }
         /* the array of the blocks stays as it is */
@@ -214,12 +215,11 @@ static int feed_all(zimgasol_in_place_session *load, size_t cut) {
             into[1].bytes == loaded[1] && into[1].len == OTHER * PAGE);
     }
     /* all rounds are in before a source ends */
-    WANT(zimgasol_in_place_session_has_all_rounds(load));
+    WANT(zimgasol_load_has_all_rounds(load));
     for (size_t source = 0; source <= CHANNELS; source++) {
         WANT(given[source] == length[source]);
-        WANT(zimgasol_in_place_session_end(load, source) == ZIMGASOL_DONE);
-        WANT(zimgasol_in_place_session_feed(load, into, 2, source, stream[0], 1, &taken) ==
-                ZIMGASOL_IS_OVER &&
+        WANT(zimgasol_load_end(load, source) == ZIMGASOL_DONE);
+        WANT(zimgasol_load_feed(load, into, 2, source, stream[0], 1, &taken) == ZIMGASOL_IS_OVER &&
             taken == 0);
     }
     return 0;
@@ -254,7 +254,7 @@ static int send_named(zimgasol_table *table) {
     static uint8_t named[1 + CHANNELS][LITTLE];
     size_t named_length[1 + CHANNELS], rest = 8 + sizeof configuration;
     zimgasol_settings settings = {.frame = ZIMGASOL_FRAME_MACHINE};
-    zimgasol_in_place_session load = {0};
+    zimgasol_load load = {0};
     zimgasol_multi multi = {0};
     zimgasol_fault fault;
     uint64_t at = 7;
@@ -288,16 +288,14 @@ static int send_named(zimgasol_table *table) {
     memcpy(stream[0] + named_length[0], "\4 and so on", 11);
     length[0] = named_length[0] + 11;
     memset(loaded, 0, sizeof loaded);
-    WANT(zimgasol_in_place_session_new_within(&load, table, uuid, 16, CHANNELS, &settings) ==
-        ZIMGASOL_DONE);
+    WANT(zimgasol_load_new(&load, table, uuid, 16, CHANNELS, &settings) == ZIMGASOL_DONE);
     if (feed_all(&load, 777)) return 1;
-    WANT(zimgasol_in_place_session_verdict(&load, &fault) == ZIMGASOL_DONE &&
-        zimgasol_in_place_session_rounds(&load) == 1);
-    WANT(zimgasol_in_place_session_closed_at(&load, &at) == ZIMGASOL_DONE && at == named_length[0]);
+    WANT(zimgasol_load_verdict(&load, &fault) == ZIMGASOL_DONE && zimgasol_load_rounds(&load) == 1);
+    WANT(zimgasol_load_closed_at(&load, &at) == ZIMGASOL_DONE && at == named_length[0]);
     WANT(memcmp(loaded[0] + PAGE, guest[0] + PAGE, PAGE) == 0 &&
         memcmp(loaded[0] + 7 * PAGE, guest[0] + 7 * PAGE, PAGE) == 0);
     WANT(memcmp(loaded[1], guest[1], PAGE) == 0);
-    zimgasol_in_place_session_free(&load);
+    zimgasol_load_free(&load);
     return 0;
 }
 
@@ -348,108 +346,94 @@ static int give_up(zimgasol_table *table) {
 
 /* Loads all streams, fed in pieces of `cut` bytes. */
 static int load_all(zimgasol_table *table, size_t cut) {
-    zimgasol_in_place_session load = {0};
+    zimgasol_load load = {0};
     zimgasol_fault fault;
     size_t taken = 7;
     uint64_t pages = 0, at = 7;
     memset(loaded, 0xEE, sizeof loaded);
-    WANT(zimgasol_in_place_session_new(&load, table, uuid, 16, 0, ZIMGASOL_FRAME_RAM) ==
-        ZIMGASOL_BAD_CHANNELS);
-    WANT(zimgasol_in_place_session_new(&load, table, uuid, 17, 256, ZIMGASOL_FRAME_RAM) ==
-        ZIMGASOL_BAD_CHANNELS);
-    WANT(zimgasol_in_place_session_new(&load, table, uuid, 17, CHANNELS, ZIMGASOL_FRAME_RAM) ==
-        ZIMGASOL_BAD_LENGTH);
-    WANT(zimgasol_in_place_session_new(&load, table, uuid, 16, CHANNELS, (zimgasol_frame)2) ==
-            ZIMGASOL_BAD_FRAME &&
-        load.full == 0);
-    WANT(zimgasol_in_place_session_new(&load, table, uuid, 16, CHANNELS, ZIMGASOL_FRAME_RAM) ==
-        ZIMGASOL_DONE);
-    WANT(zimgasol_in_place_session_verdict(&load, &fault) == ZIMGASOL_RUNNING);
-    WANT(zimgasol_in_place_session_closed_at(&load, &at) == ZIMGASOL_RUNNING && at == 7);
-    WANT(!zimgasol_in_place_session_has_all_rounds(&load));
-    WANT(!zimgasol_in_place_session_takes(&load, 1 + CHANNELS));
-    WANT(zimgasol_in_place_session_feed(&load, into, 2, 1 + CHANNELS, stream[0], 1, &taken) ==
+    WANT(zimgasol_load_new(&load, table, uuid, 16, CHANNELS, &plain) == ZIMGASOL_DONE);
+    WANT(zimgasol_load_verdict(&load, &fault) == ZIMGASOL_RUNNING);
+    WANT(zimgasol_load_closed_at(&load, &at) == ZIMGASOL_RUNNING && at == 7);
+    WANT(!zimgasol_load_has_all_rounds(&load));
+    WANT(!zimgasol_load_takes(&load, 1 + CHANNELS));
+    WANT(zimgasol_load_feed(&load, into, 2, 1 + CHANNELS, stream[0], 1, &taken) ==
             ZIMGASOL_BAD_SOURCE &&
         taken == 0);
-    WANT(zimgasol_in_place_session_feed(&load, into, 1, 0, stream[0], 1, &taken) ==
-            ZIMGASOL_BAD_LENGTH &&
+    WANT(zimgasol_load_feed(&load, into, 1, 0, stream[0], 1, &taken) == ZIMGASOL_BAD_LENGTH &&
         taken == 0);
-    WANT(zimgasol_in_place_session_end(&load, 1 + CHANNELS) == ZIMGASOL_BAD_SOURCE);
+    WANT(zimgasol_load_end(&load, 1 + CHANNELS) == ZIMGASOL_BAD_SOURCE);
     if (feed_all(&load, cut)) return 1;
-    WANT(zimgasol_in_place_session_verdict(&load, &fault) == ZIMGASOL_DONE && fault.number == 0);
-    WANT(zimgasol_in_place_session_rounds(&load) == 2);
-    WANT(zimgasol_in_place_session_closed_at(&load, &at) == ZIMGASOL_DONE && at == length[0]);
+    WANT(zimgasol_load_verdict(&load, &fault) == ZIMGASOL_DONE && fault.number == 0);
+    WANT(zimgasol_load_rounds(&load) == 2);
+    WANT(zimgasol_load_closed_at(&load, &at) == ZIMGASOL_DONE && at == length[0]);
     for (size_t source = 0; source <= CHANNELS; source++)
-        WANT(zimgasol_in_place_session_valid_up_to(&load, source, &at) && at == length[source]);
+        WANT(zimgasol_load_valid_up_to(&load, source, &at) && at == length[source]);
     for (size_t p = 0; p < PAGES; p++)
         pages += memcmp(loaded[0] + p * PAGE, guest[0] + p * PAGE, PAGE) != 0;
     WANT(pages == 0);
     WANT(memcmp(loaded[1], guest[1], OTHER * PAGE) == 0);
-    zimgasol_in_place_session_free(&load);
+    zimgasol_load_free(&load);
     WANT(load.full == 0);
     return 0;
 }
 
 /* A packet that comes twice is found at the round's end, and nothing more is taken. */
 static int load_wrong(zimgasol_table *table) {
-    zimgasol_in_place_session load = {0};
+    zimgasol_load load = {0};
     zimgasol_fault fault;
     size_t taken;
     uint64_t at = 7;
-    WANT(zimgasol_in_place_session_new(&load, table, uuid, 16, CHANNELS, ZIMGASOL_FRAME_RAM) ==
-        ZIMGASOL_DONE);
+    WANT(zimgasol_load_new(&load, table, uuid, 16, CHANNELS, &plain) == ZIMGASOL_DONE);
     stream[2][64] ^= 1; /* the first byte of a packet's magic */
     for (size_t source = 0; source <= CHANNELS; source++)
-        WANT(zimgasol_in_place_session_feed(&load, into, 2, source, stream[source], length[source],
-                 &taken) == ZIMGASOL_DONE);
+        WANT(zimgasol_load_feed(&load, into, 2, source, stream[source], length[source], &taken) ==
+            ZIMGASOL_DONE);
     stream[2][64] ^= 1;
-    WANT(zimgasol_in_place_session_verdict(&load, &fault) == ZIMGASOL_CHANNEL_PACKET_MAGIC);
+    WANT(zimgasol_load_verdict(&load, &fault) == ZIMGASOL_CHANNEL_PACKET_MAGIC);
     WANT(fault.source == ZIMGASOL_CHANNEL(1) && fault.round == 0 &&
         fault.number == ZIMGASOL_CHANNEL_PACKET_MAGIC);
-    WANT(zimgasol_in_place_session_fault_of(&load, ZIMGASOL_CHANNEL(1), &fault) ==
+    WANT(zimgasol_load_fault_of(&load, ZIMGASOL_CHANNEL(1), &fault) ==
         ZIMGASOL_CHANNEL_PACKET_MAGIC);
-    WANT(zimgasol_in_place_session_fault_of(&load, ZIMGASOL_CHANNEL(0), &fault) == ZIMGASOL_DONE);
-    WANT(!zimgasol_in_place_session_has_all_rounds(&load));
-    WANT(zimgasol_in_place_session_valid_up_to(&load, ZIMGASOL_CHANNEL(1), &at) && at == 64);
+    WANT(zimgasol_load_fault_of(&load, ZIMGASOL_CHANNEL(0), &fault) == ZIMGASOL_DONE);
+    WANT(!zimgasol_load_has_all_rounds(&load));
+    WANT(zimgasol_load_valid_up_to(&load, ZIMGASOL_CHANNEL(1), &at) && at == 64);
     at = 7;
-    WANT(!zimgasol_in_place_session_valid_up_to(&load, ZIMGASOL_CHANNEL(CHANNELS), &at) && at == 7);
-    WANT(!zimgasol_in_place_session_valid_up_to(&load, ZIMGASOL_ROUND, &at) && at == 7);
+    WANT(!zimgasol_load_valid_up_to(&load, ZIMGASOL_CHANNEL(CHANNELS), &at) && at == 7);
+    WANT(!zimgasol_load_valid_up_to(&load, ZIMGASOL_ROUND, &at) && at == 7);
     /* the main stream was taken whole, and is closed */
-    WANT(zimgasol_in_place_session_closed_at(&load, &at) == ZIMGASOL_DONE && at == length[0]);
-    WANT(!zimgasol_in_place_session_takes(&load, 0));
-    WANT(zimgasol_in_place_session_feed(&load, into, 2, 0, stream[0], 1, &taken) == ZIMGASOL_DONE &&
-        taken == 0);
-    WANT(zimgasol_in_place_session_rounds(&load) == 0);
-    zimgasol_in_place_session_free(&load);
+    WANT(zimgasol_load_closed_at(&load, &at) == ZIMGASOL_DONE && at == length[0]);
+    WANT(!zimgasol_load_takes(&load, 0));
+    WANT(
+        zimgasol_load_feed(&load, into, 2, 0, stream[0], 1, &taken) == ZIMGASOL_DONE && taken == 0);
+    WANT(zimgasol_load_rounds(&load) == 0);
+    zimgasol_load_free(&load);
     return 0;
 }
 
 /* A channel that ends within its hello is reported as cut at once, while the load goes on. */
 static int load_cut(zimgasol_table *table) {
-    zimgasol_in_place_session load = {0};
+    zimgasol_load load = {0};
     zimgasol_fault fault = {.number = 7};
     size_t taken;
-    WANT(zimgasol_in_place_session_new(&load, table, uuid, 16, CHANNELS, ZIMGASOL_FRAME_RAM) ==
-        ZIMGASOL_DONE);
-    WANT(zimgasol_in_place_session_fault_of(&load, 1 + CHANNELS, &fault) == ZIMGASOL_BAD_SOURCE &&
+    WANT(zimgasol_load_new(&load, table, uuid, 16, CHANNELS, &plain) == ZIMGASOL_DONE);
+    WANT(zimgasol_load_fault_of(&load, 1 + CHANNELS, &fault) == ZIMGASOL_BAD_SOURCE &&
         fault.number == 7);
-    WANT(zimgasol_in_place_session_feed(&load, into, 2, ZIMGASOL_CHANNEL(1), stream[2], 20,
-             &taken) == ZIMGASOL_DONE);
-    WANT(zimgasol_in_place_session_fault_of(&load, ZIMGASOL_CHANNEL(1), &fault) == ZIMGASOL_DONE &&
+    WANT(zimgasol_load_feed(&load, into, 2, ZIMGASOL_CHANNEL(1), stream[2], 20, &taken) ==
+        ZIMGASOL_DONE);
+    WANT(zimgasol_load_fault_of(&load, ZIMGASOL_CHANNEL(1), &fault) == ZIMGASOL_DONE &&
         fault.number == 0);
-    WANT(zimgasol_in_place_session_end(&load, ZIMGASOL_CHANNEL(1)) == ZIMGASOL_DONE);
-    WANT(zimgasol_in_place_session_fault_of(&load, ZIMGASOL_CHANNEL(1), &fault) ==
-        ZIMGASOL_CHANNEL_TRUNCATED);
+    WANT(zimgasol_load_end(&load, ZIMGASOL_CHANNEL(1)) == ZIMGASOL_DONE);
+    WANT(zimgasol_load_fault_of(&load, ZIMGASOL_CHANNEL(1), &fault) == ZIMGASOL_CHANNEL_TRUNCATED);
     WANT(fault.source == ZIMGASOL_CHANNEL(1) && fault.round == 0 &&
         fault.number == ZIMGASOL_CHANNEL_TRUNCATED);
-    WANT(zimgasol_in_place_session_fault_of(&load, ZIMGASOL_MAIN, &fault) == ZIMGASOL_DONE);
-    WANT(zimgasol_in_place_session_verdict(&load, &fault) == ZIMGASOL_RUNNING);
-    zimgasol_in_place_session_free(&load);
+    WANT(zimgasol_load_fault_of(&load, ZIMGASOL_MAIN, &fault) == ZIMGASOL_DONE);
+    WANT(zimgasol_load_verdict(&load, &fault) == ZIMGASOL_RUNNING);
+    zimgasol_load_free(&load);
     return 0;
 }
 
-/* In a session a channel that lacks its last byte is reported as cut while the main stream goes on, and
- * still once the verdict is there. */
+/* In a session a channel that lacks its last byte is reported as cut while the main stream goes on,
+ * and still once the verdict is there. */
 static int session_cut(void) {
     zimgasol_session load = {0};
     zimgasol_fault fault = {.number = 7};
@@ -507,29 +491,26 @@ static int session_ends(void) {
  * fault, after the hello's 64 bytes. Of `PAGES` and `OTHER` pages twice as many and one are enough.
  */
 static int load_limited(zimgasol_table *table) {
-    zimgasol_in_place_session load = {0};
+    zimgasol_load load = {0};
     zimgasol_settings settings = {.frame = ZIMGASOL_FRAME_RAM, .waiting = 16};
     zimgasol_fault fault;
     size_t taken;
     uint64_t at = 7;
-    WANT(zimgasol_in_place_session_new_within(&load, table, uuid, 16, CHANNELS, &settings) ==
-        ZIMGASOL_DONE);
+    WANT(zimgasol_load_new(&load, table, uuid, 16, CHANNELS, &settings) == ZIMGASOL_DONE);
     for (size_t source = 0; source <= CHANNELS; source++)
-        WANT(zimgasol_in_place_session_feed(&load, into, 2, source, stream[source], length[source],
-                 &taken) == ZIMGASOL_DONE);
-    WANT(zimgasol_in_place_session_verdict(&load, &fault) == ZIMGASOL_CHANNEL_WAITING);
+        WANT(zimgasol_load_feed(&load, into, 2, source, stream[source], length[source], &taken) ==
+            ZIMGASOL_DONE);
+    WANT(zimgasol_load_verdict(&load, &fault) == ZIMGASOL_CHANNEL_WAITING);
     WANT(fault.source == ZIMGASOL_CHANNEL(0) && fault.round == 0 &&
         fault.number == ZIMGASOL_CHANNEL_WAITING);
-    WANT(zimgasol_in_place_session_valid_up_to(&load, fault.source, &at) && at == 64);
-    WANT(zimgasol_in_place_session_rounds(&load) == 0);
-    zimgasol_in_place_session_free(&load);
+    WANT(zimgasol_load_valid_up_to(&load, fault.source, &at) && at == 64);
+    WANT(zimgasol_load_rounds(&load) == 0);
+    zimgasol_load_free(&load);
     settings.waiting = 2 * (PAGES + OTHER) + 1;
-    WANT(zimgasol_in_place_session_new_within(&load, table, uuid, 16, CHANNELS, &settings) ==
-        ZIMGASOL_DONE);
+    WANT(zimgasol_load_new(&load, table, uuid, 16, CHANNELS, &settings) == ZIMGASOL_DONE);
     if (feed_all(&load, 4096)) return 1;
-    WANT(zimgasol_in_place_session_verdict(&load, &fault) == ZIMGASOL_DONE &&
-        zimgasol_in_place_session_rounds(&load) == 2);
-    zimgasol_in_place_session_free(&load);
+    WANT(zimgasol_load_verdict(&load, &fault) == ZIMGASOL_DONE && zimgasol_load_rounds(&load) == 2);
+    zimgasol_load_free(&load);
     return 0;
 }
 
@@ -549,7 +530,7 @@ static int foreign(zimgasol_table *table) {
     static zimgasol_place all[PAGES];
     zimgasol_multi other = {0}, multi = {0};
     zimgasol_worker stray = {0}, workers[CHANNELS] = {{0}};
-    zimgasol_in_place_session load = {0};
+    zimgasol_load load = {0};
     zimgasol_fault fault;
     size_t len, taken;
     for (size_t p = 0; p < PAGES; p++) all[p] = (zimgasol_place){0, p};
@@ -577,14 +558,13 @@ static int foreign(zimgasol_table *table) {
         while ((len = zimgasol_multi_drain_channel(&multi, j, stream[1 + j] + length[1 + j],
                     10000)) > 0)
             length[1 + j] += len;
-    WANT(zimgasol_in_place_session_new(&load, table, uuid, 16, CHANNELS, ZIMGASOL_FRAME_RAM) ==
-        ZIMGASOL_DONE);
+    WANT(zimgasol_load_new(&load, table, uuid, 16, CHANNELS, &plain) == ZIMGASOL_DONE);
     for (size_t source = 0; source <= CHANNELS; source++)
-        WANT(zimgasol_in_place_session_feed(&load, into, 2, source, stream[source], length[source],
-                 &taken) == ZIMGASOL_DONE);
-    WANT(zimgasol_in_place_session_verdict(&load, &fault) == ZIMGASOL_ROUND_DOUBLED &&
-        fault.first == 1 && fault.round == 0);
-    zimgasol_in_place_session_free(&load);
+        WANT(zimgasol_load_feed(&load, into, 2, source, stream[source], length[source], &taken) ==
+            ZIMGASOL_DONE);
+    WANT(zimgasol_load_verdict(&load, &fault) == ZIMGASOL_ROUND_DOUBLED && fault.first == 1 &&
+        fault.round == 0);
+    zimgasol_load_free(&load);
     zimgasol_worker_free(&workers[0]);
     zimgasol_multi_free(&multi);
     zimgasol_multi_free(&other);

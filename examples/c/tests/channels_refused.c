@@ -14,6 +14,7 @@ static uint8_t guest[PAGES * PAGE], loaded[PAGES * PAGE];
 static uint8_t stream[SOURCES][MOST], first[SOURCES][MOST];
 static size_t length[SOURCES], first_length[SOURCES];
 static const uint8_t uuid[16] = {4, 5};
+static const zimgasol_settings plain = {.frame = ZIMGASOL_FRAME_RAM};
 static zimgasol_lent lent[1] = {{guest, sizeof guest}};
 static zimgasol_buffer into[1] = {{loaded, sizeof loaded}};
 
@@ -151,21 +152,21 @@ static void send_named(zimgasol_table *table) {
 
 /* Feeds all sources by turns, and ends them. Returns whether the load goes on or is done: no where
  * it has failed for good. */
-static int feeds(zimgasol_in_place_session *load, size_t cut) {
+static int feeds(zimgasol_load *load, size_t cut) {
     size_t given[SOURCES] = {0}, taken;
     zimgasol_fault fault;
     for (int moved = 1; moved;) {
         moved = 0;
         for (size_t source = 0; source < SOURCES; source++) {
             size_t left = length[source] - given[source], len = left < cut ? left : cut;
-            if (len == 0 || !zimgasol_in_place_session_takes(load, source)) continue;
-            uint32_t status = zimgasol_in_place_session_feed(load, into, 1, source,
+            if (len == 0 || !zimgasol_load_takes(load, source)) continue;
+            uint32_t status = zimgasol_load_feed(load, into, 1, source,
                 stream[source] + given[source], len, &taken);
             WANT(into[0].bytes == loaded && into[0].len == sizeof loaded);
             if (status == ZIMGASOL_NO_MEMORY) {
                 WANT(refusals == 1 && taken == 0);
-                if (zimgasol_in_place_session_verdict(load, &fault) == ZIMGASOL_NO_MEMORY) return 0;
-                WANT(zimgasol_in_place_session_fed(load, source) == given[source]);
+                if (zimgasol_load_verdict(load, &fault) == ZIMGASOL_NO_MEMORY) return 0;
+                WANT(zimgasol_load_fed(load, source) == given[source]);
             } else {
                 WANT(status == ZIMGASOL_DONE);
             }
@@ -175,41 +176,41 @@ static int feeds(zimgasol_in_place_session *load, size_t cut) {
     }
     for (size_t source = 0; source < SOURCES; source++) {
         WANT(given[source] == length[source]);
-        WANT(zimgasol_in_place_session_end(load, source) == ZIMGASOL_DONE);
+        WANT(zimgasol_load_end(load, source) == ZIMGASOL_DONE);
     }
     return 1;
 }
 
 static void load(zimgasol_table *table, size_t cut) {
-    zimgasol_in_place_session load = {0};
+    zimgasol_load load = {0};
     zimgasol_fault fault;
     memset(loaded, 0xEE, sizeof loaded);
-    AGAIN(zimgasol_in_place_session_new(&load, table, uuid, 16, CHANNELS, ZIMGASOL_FRAME_RAM));
+    AGAIN(zimgasol_load_new(&load, table, uuid, 16, CHANNELS, &plain));
     if (!feeds(&load, cut)) {
-        WANT(zimgasol_in_place_session_rounds(&load) <= 2);
-        zimgasol_in_place_session_free(&load);
-        AGAIN(zimgasol_in_place_session_new(&load, table, uuid, 16, CHANNELS, ZIMGASOL_FRAME_RAM));
+        WANT(zimgasol_load_rounds(&load) <= 2);
+        zimgasol_load_free(&load);
+        AGAIN(zimgasol_load_new(&load, table, uuid, 16, CHANNELS, &plain));
         WANT(feeds(&load, cut));
     }
-    WANT(zimgasol_in_place_session_verdict(&load, &fault) == ZIMGASOL_DONE && fault.number == 0);
-    WANT(zimgasol_in_place_session_rounds(&load) == 2 && memcmp(loaded, guest, sizeof guest) == 0);
-    zimgasol_in_place_session_free(&load);
+    WANT(zimgasol_load_verdict(&load, &fault) == ZIMGASOL_DONE && fault.number == 0);
+    WANT(zimgasol_load_rounds(&load) == 2 && memcmp(loaded, guest, sizeof guest) == 0);
+    zimgasol_load_free(&load);
 }
 
 /* ---- the pages copied to their places here */
 
 /* Takes the next packet of a channel, again where it was refused. Returns how many bytes it has, or
  * 0 where they are to be fed. */
-static size_t take_packet(zimgasol_apart *load, size_t source, const uint8_t *head, size_t left) {
+static size_t take_packet(zimgasol_load *load, size_t source, const uint8_t *head, size_t left) {
     zimgasol_lent contents[2];
     zimgasol_pages pages;
     uint64_t claimed;
     uint32_t status;
     if (left < HEAD) return 0;
-    status = zimgasol_apart_claim(load, source - 1, head, HEAD, &pages);
+    status = zimgasol_load_claim(load, source - 1, head, HEAD, &pages);
     if (status == ZIMGASOL_TO_FEED) return 0;
     WANT(status == ZIMGASOL_RUNNING && pages.block == 0);
-    claimed = zimgasol_apart_claimed(load); /* pages of zeros that needn't be cleared, too */
+    claimed = zimgasol_load_claimed(load); /* pages of zeros that needn't be cleared, too */
     WANT(claimed <= 2 && claimed >= pages.normal + pages.zero);
     for (size_t i = 0; i < pages.normal + pages.zero; i++) {
         uint8_t *page = loaded + pages.pages[i] * PAGE;
@@ -217,66 +218,66 @@ static size_t take_packet(zimgasol_apart *load, size_t source, const uint8_t *he
         else memset(page, 0, PAGE);
         if (i < pages.normal) contents[i] = (zimgasol_lent){page, PAGE};
     }
-    status = zimgasol_apart_take(load, source - 1, head, HEAD, contents, pages.normal);
+    status = zimgasol_load_take(load, source - 1, head, HEAD, contents, pages.normal);
     if (status == ZIMGASOL_NO_MEMORY) {
-        WANT(refusals == 1 && zimgasol_apart_claimed(load) == claimed);
-        status = zimgasol_apart_take(load, source - 1, head, HEAD, contents, pages.normal);
+        WANT(refusals == 1 && zimgasol_load_claimed(load) == claimed);
+        status = zimgasol_load_take(load, source - 1, head, HEAD, contents, pages.normal);
     }
-    WANT(status == ZIMGASOL_RUNNING && zimgasol_apart_claimed(load) == 0);
+    WANT(status == ZIMGASOL_RUNNING && zimgasol_load_claimed(load) == 0);
     return HEAD + pages.normal * PAGE;
 }
 
 /* Feeds the next bytes of a source, up to a packet's end. Returns how many were taken: none where
  * the allocation was refused. */
-static size_t feed_apart(zimgasol_apart *load, size_t source, size_t at) {
+static size_t feed_next(zimgasol_load *load, size_t source, size_t at) {
     size_t left = length[source] - at, len = source == 0 ? 100 : at == 0 ? 64 : HEAD, taken;
     zimgasol_fault fault;
-    uint32_t status = zimgasol_apart_feed(load, into, 1, source, stream[source] + at,
+    uint32_t status = zimgasol_load_feed(load, into, 1, source, stream[source] + at,
         left < len ? left : len, &taken);
     if (status == ZIMGASOL_DONE) return taken;
     WANT(status == ZIMGASOL_NO_MEMORY && refusals == 1 && taken == 0);
-    if (zimgasol_apart_verdict(load, &fault) != ZIMGASOL_NO_MEMORY)
-        WANT(zimgasol_apart_fed(load, source) == at);
+    if (zimgasol_load_verdict(load, &fault) != ZIMGASOL_NO_MEMORY)
+        WANT(zimgasol_load_fed(load, source) == at);
     return 0;
 }
 
 /* Passes all sources on by turns, and ends them. Returns whether the load is done: no where it has
  * failed for good. */
-static int loads_apart(zimgasol_apart *load) {
+static int passes(zimgasol_load *load) {
     size_t given[SOURCES] = {0}, source = 0, idle = 0;
     zimgasol_fault fault;
     for (; idle <= 2 * SOURCES; source = (source + 1) % SOURCES) {
         size_t at = given[source], left = length[source] - at, len = 0;
-        if (left > 0 && zimgasol_apart_takes(load, source)) {
+        if (left > 0 && zimgasol_load_takes(load, source)) {
             if (source > 0) len = take_packet(load, source, stream[source] + at, left);
-            given[source] += len > 0 ? len : feed_apart(load, source, at);
+            given[source] += len > 0 ? len : feed_next(load, source, at);
         }
         idle = given[source] > at ? 0 : idle + 1;
     }
-    if (zimgasol_apart_verdict(load, &fault) == ZIMGASOL_NO_MEMORY) return 0;
+    if (zimgasol_load_verdict(load, &fault) == ZIMGASOL_NO_MEMORY) return 0;
     for (source = 0; source < SOURCES; source++) {
         WANT(given[source] == length[source]);
-        WANT(zimgasol_apart_end(load, source) == ZIMGASOL_DONE);
+        WANT(zimgasol_load_end(load, source) == ZIMGASOL_DONE);
     }
     return 1;
 }
 
 /* Loads into blocks that are zeros, of which the load is told, or hold something else. */
-static void load_apart(zimgasol_table *table, bool zeros) {
-    zimgasol_apart load = {0};
+static void load_claimed(zimgasol_table *table, bool zeros) {
+    zimgasol_load load = {0};
     zimgasol_settings settings = {.zero_blocks = zeros};
     zimgasol_fault fault;
     memset(loaded, zeros ? 0 : 0xEE, sizeof loaded);
-    AGAIN(zimgasol_apart_new(&load, table, uuid, 16, CHANNELS, &settings));
-    if (!loads_apart(&load)) {
-        zimgasol_apart_free(&load);
+    AGAIN(zimgasol_load_new(&load, table, uuid, 16, CHANNELS, &settings));
+    if (!passes(&load)) {
+        zimgasol_load_free(&load);
         memset(loaded, zeros ? 0 : 0xEE, sizeof loaded);
-        AGAIN(zimgasol_apart_new(&load, table, uuid, 16, CHANNELS, &settings));
-        WANT(loads_apart(&load));
+        AGAIN(zimgasol_load_new(&load, table, uuid, 16, CHANNELS, &settings));
+        WANT(passes(&load));
     }
-    WANT(zimgasol_apart_verdict(&load, &fault) == ZIMGASOL_DONE && fault.number == 0);
-    WANT(zimgasol_apart_rounds(&load) == 2 && memcmp(loaded, guest, sizeof guest) == 0);
-    zimgasol_apart_free(&load);
+    WANT(zimgasol_load_verdict(&load, &fault) == ZIMGASOL_DONE && fault.number == 0);
+    WANT(zimgasol_load_rounds(&load) == 2 && memcmp(loaded, guest, sizeof guest) == 0);
+    zimgasol_load_free(&load);
 }
 
 int main(void) {
@@ -295,8 +296,8 @@ int main(void) {
         send_named(&table);
         load(&table, MOST);
         load(&table, 1000);
-        load_apart(&table, false);
-        load_apart(&table, true);
+        load_claimed(&table, false);
+        load_claimed(&table, true);
         zimgasol_table_free(&table);
         WANT(held == 0);
         runs++;

@@ -199,31 +199,29 @@ static int send_guest(zimgasol_table *table, way by, streams *to) {
 }
 
 static int load_guest(zimgasol_table *table, const streams *from) {
-    zimgasol_in_place_session load = {0};
+    const zimgasol_settings settings = {.frame = ZIMGASOL_FRAME_RAM};
+    zimgasol_load load = {0};
     zimgasol_buffer into[2] = {{loaded[0], PAGES * page_len}, {loaded[1], OTHER * page_len}};
     zimgasol_fault fault;
     size_t given[1 + CHANNELS] = {0}, taken;
     memset(loaded, 0xEE, sizeof loaded);
-    WANT(zimgasol_in_place_session_new(&load, table, uuid, 16, CHANNELS, ZIMGASOL_FRAME_RAM) ==
-        ZIMGASOL_DONE);
+    WANT(zimgasol_load_new(&load, table, uuid, 16, CHANNELS, &settings) == ZIMGASOL_DONE);
     for (bool moved = true; moved;) {
         moved = false;
         for (size_t s = 0; s <= CHANNELS; s++) {
             size_t len = from->len[s] - given[s];
-            if (len == 0 || !zimgasol_in_place_session_takes(&load, s)) continue;
-            WANT(zimgasol_in_place_session_feed(&load, into, 2, s, from->bytes[s] + given[s], len,
-                     &taken) == ZIMGASOL_DONE);
+            if (len == 0 || !zimgasol_load_takes(&load, s)) continue;
+            WANT(zimgasol_load_feed(&load, into, 2, s, from->bytes[s] + given[s], len, &taken) ==
+                ZIMGASOL_DONE);
             given[s] += taken;
             moved = moved || taken > 0;
         }
     }
-    for (size_t s = 0; s <= CHANNELS; s++)
-        WANT(zimgasol_in_place_session_end(&load, s) == ZIMGASOL_DONE);
-    WANT(zimgasol_in_place_session_verdict(&load, &fault) == ZIMGASOL_DONE &&
-        zimgasol_in_place_session_rounds(&load) == 2);
+    for (size_t s = 0; s <= CHANNELS; s++) WANT(zimgasol_load_end(&load, s) == ZIMGASOL_DONE);
+    WANT(zimgasol_load_verdict(&load, &fault) == ZIMGASOL_DONE && zimgasol_load_rounds(&load) == 2);
     WANT(memcmp(loaded[0], guest[0], PAGES * page_len) == 0 &&
         memcmp(loaded[1], guest[1], OTHER * page_len) == 0);
-    zimgasol_in_place_session_free(&load);
+    zimgasol_load_free(&load);
     return 0;
 }
 

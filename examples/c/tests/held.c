@@ -57,43 +57,33 @@ static void fill(source *of) {
     of->ended = len == 0;
 }
 
-static zimgasol_status load_one(zimgasol_table *table, source *main) {
-    zimgasol_in_place load = {0};
-    zimgasol_status status = zimgasol_in_place_new(&load, table, ZIMGASOL_FRAME_RAM);
-    for (fill(main); status == ZIMGASOL_DONE && !main->ended; fill(main)) {
-        status = zimgasol_in_place_feed(&load, &block, 1, main->bytes, main->to);
-        main->from = main->to;
-    }
-    zimgasol_in_place_end(&load);
-    if (status == ZIMGASOL_DONE) status = zimgasol_in_place_verdict(&load, &fault);
-    zimgasol_in_place_free(&load);
-    return status;
-}
-
 /* Gives a source its turn. */
-static void take_turn(zimgasol_in_place_session *load, source *sources, size_t s) {
+static void take_turn(zimgasol_load *load, source *sources, size_t s) {
     size_t taken;
     source *of = &sources[s];
-    if (!zimgasol_in_place_session_takes(load, s)) return;
+    if (!zimgasol_load_takes(load, s)) return;
     fill(of);
+    zimgasol_status status;
     if (of->ended) {
-        zimgasol_in_place_session_end(load, s);
+        status = zimgasol_load_end(load, s);
+        if (status != ZIMGASOL_DONE) give_up(zimgasol_status_text(status));
         return;
     }
-    zimgasol_status status = zimgasol_in_place_session_feed(load, &block, 1, s,
-        of->bytes + of->from, of->to - of->from, &taken);
+    status =
+        zimgasol_load_feed(load, &block, 1, s, of->bytes + of->from, of->to - of->from, &taken);
     if (status != ZIMGASOL_DONE) give_up(zimgasol_status_text(status));
     of->from += taken;
 }
 
-static zimgasol_status load_channels(zimgasol_table *table, source *sources, size_t channels) {
-    zimgasol_in_place_session load = {0};
-    zimgasol_status status =
-        zimgasol_in_place_session_new(&load, table, uuid, 16, channels, ZIMGASOL_FRAME_RAM);
+/* Loads one stream, if there are no channels, or the main stream and these. */
+static zimgasol_status load(zimgasol_table *table, source *sources, size_t channels) {
+    const zimgasol_settings settings = {.frame = ZIMGASOL_FRAME_RAM};
+    zimgasol_load load = {0};
+    zimgasol_status status = zimgasol_load_new(&load, table, uuid, 16, channels, &settings);
     if (status != ZIMGASOL_DONE) return status;
-    while ((status = zimgasol_in_place_session_verdict(&load, &fault)) == ZIMGASOL_RUNNING)
+    while ((status = zimgasol_load_verdict(&load, &fault)) == ZIMGASOL_RUNNING)
         for (size_t s = 0; s <= channels; s++) take_turn(&load, sources, s);
-    zimgasol_in_place_session_free(&load);
+    zimgasol_load_free(&load);
     return status;
 }
 
@@ -111,8 +101,7 @@ int main(int count, char **words) {
     if (block.bytes == MAP_FAILED) give_up("no memory");
     memset(block.bytes, 1, block.len);
     long before = status_of("VmRSS:");
-    zimgasol_status status =
-        channels == 0 ? load_one(&table, sources) : load_channels(&table, sources, channels);
+    zimgasol_status status = load(&table, sources, channels);
     if (status != ZIMGASOL_DONE) give_up(zimgasol_status_text(status));
     printf("%ld KiB beside the guest\n", status_of("VmHWM:") - before);
     munmap(block.bytes, block.len);

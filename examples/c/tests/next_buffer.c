@@ -31,37 +31,40 @@ static double now(void) {
 }
 
 /* Reads the page that comes next into its block, and the head of the next record. */
-static zimgasol_status read_page(zimgasol_in_place *load, zimgasol_buffer *block,
+static zimgasol_status read_page(zimgasol_load *load, zimgasol_buffer *block,
     const zimgasol_next *next, int file) {
     uint8_t head[HEAD];
     struct iovec parts[2] = {{block->bytes + next->offset, next->len}, {head, HEAD}};
+    size_t taken;
     ssize_t len = readv(file, parts, 2);
     if (len < (ssize_t)next->len) return ZIMGASOL_STREAM_TRUNCATED;
-    zimgasol_status status = zimgasol_in_place_page_read(load, block, 1);
+    zimgasol_status status = zimgasol_load_page_read(load, block, 1);
     if (status != ZIMGASOL_DONE) return status;
-    return zimgasol_in_place_feed(load, block, 1, head, (size_t)len - next->len);
+    return zimgasol_load_feed(load, block, 1, ZIMGASOL_MAIN, head, (size_t)len - next->len, &taken);
 }
 
 /* Reads other bytes of the stream. */
-static zimgasol_status read_bytes(zimgasol_in_place *load, zimgasol_buffer *block, size_t len,
+static zimgasol_status read_bytes(zimgasol_load *load, zimgasol_buffer *block, size_t len,
     int file) {
     uint8_t piece[64];
+    size_t taken;
     ssize_t count = read(file, piece, len < sizeof piece ? len : sizeof piece);
     if (count <= 0) return ZIMGASOL_STREAM_TRUNCATED;
-    return zimgasol_in_place_feed(load, block, 1, piece, (size_t)count);
+    return zimgasol_load_feed(load, block, 1, ZIMGASOL_MAIN, piece, (size_t)count, &taken);
 }
 
 static int load_pages(int file) {
-    zimgasol_in_place load = {0};
+    const zimgasol_settings settings = {.frame = ZIMGASOL_FRAME_RAM};
+    zimgasol_load load = {0};
     zimgasol_buffer block = {ram, ram_len};
     zimgasol_next next;
     zimgasol_fault fault;
-    zimgasol_status status = zimgasol_in_place_new(&load, &table, ZIMGASOL_FRAME_RAM);
-    while (status == ZIMGASOL_DONE && zimgasol_in_place_wanted(&load, &next))
+    zimgasol_status status = zimgasol_load_new(&load, &table, (const uint8_t *)"", 0, 0, &settings);
+    while (status == ZIMGASOL_DONE && zimgasol_load_wanted(&load, &next))
         status = next.is_page ? read_page(&load, &block, &next, file)
                               : read_bytes(&load, &block, next.len, file);
-    if (status == ZIMGASOL_DONE) status = zimgasol_in_place_verdict(&load, &fault);
-    zimgasol_in_place_free(&load);
+    if (status == ZIMGASOL_DONE) status = zimgasol_load_verdict(&load, &fault);
+    zimgasol_load_free(&load);
     return status == ZIMGASOL_DONE;
 }
 

@@ -8,6 +8,8 @@
 
 enum { PAGE = 4096, MOST = 1 << 17 };
 
+static const zimgasol_settings plain = {.frame = ZIMGASOL_FRAME_RAM};
+
 static uint8_t page[PAGE], text[MOST], main_text[MOST], channel_text[MOST];
 static size_t text_len, main_len, channel_len;
 
@@ -171,12 +173,12 @@ static int is_filled(const uint8_t *bytes, size_t len, uint8_t byte) {
     return 1;
 }
 
-static void make_in_place(zimgasol_in_place *load) {
+static void make_in_place(zimgasol_load *load) {
     zimgasol_block blocks[2] = {{.id = "a", .pages = 3}, {.id = "pc.ram", .pages = 2}};
     zimgasol_table table = {0};
     size_t entry;
     AGAIN(zimgasol_table_new(&table, PAGE, blocks, 2, &entry));
-    AGAIN(zimgasol_in_place_new(load, &table, ZIMGASOL_FRAME_RAM));
+    AGAIN(zimgasol_load_new(load, &table, (const uint8_t *)"", 0, 0, &plain));
     zimgasol_table_free(&table);
     memset(first_block, 0xEE, sizeof first_block);
     memset(second_block, 0xEE, sizeof second_block);
@@ -184,102 +186,116 @@ static void make_in_place(zimgasol_in_place *load) {
 
 /* Feeds the stream, and tries first what isn't to be done. A piece is fed again where nothing had
  * changed. Returns NO_MEMORY where the load has failed. */
-static uint32_t feed_in_place(zimgasol_in_place *load, size_t cut) {
+static uint32_t feed_in_place(zimgasol_load *load, size_t cut) {
     zimgasol_buffer blocks[2] = {{first_block, sizeof first_block},
         {second_block, sizeof second_block}};
     zimgasol_fault fault;
     for (size_t at = 0; at < text_len; at += cut) {
-        size_t len = text_len - at < cut ? text_len - at : cut;
-        WANT(zimgasol_in_place_feed(load, blocks, 1, text + at, len) == ZIMGASOL_BAD_LENGTH);
+        size_t len = text_len - at < cut ? text_len - at : cut, taken = 7;
+        WANT(zimgasol_load_feed(load, blocks, 1, ZIMGASOL_MAIN, text + at, len, &taken) ==
+                ZIMGASOL_BAD_LENGTH &&
+            taken == 0);
         blocks[1].len--;
-        WANT(zimgasol_in_place_feed(load, blocks, 2, text + at, len) == ZIMGASOL_BAD_LENGTH);
+        WANT(zimgasol_load_feed(load, blocks, 2, ZIMGASOL_MAIN, text + at, len, &taken) ==
+                ZIMGASOL_BAD_LENGTH &&
+            taken == 0);
         blocks[1].len++;
-        WANT(zimgasol_in_place_fed(load) == at);
-        uint32_t status = zimgasol_in_place_feed(load, blocks, 2, text + at, len);
+        WANT(zimgasol_load_fed(load, ZIMGASOL_MAIN) == at);
+        uint32_t status =
+            zimgasol_load_feed(load, blocks, 2, ZIMGASOL_MAIN, text + at, len, &taken);
         if (status == ZIMGASOL_NO_MEMORY) {
-            WANT(refusals == 1);
-            if (zimgasol_in_place_verdict(load, &fault) == ZIMGASOL_NO_MEMORY) {
-                WANT(fault.source == ZIMGASOL_ROUND &&
-                    fault.round == zimgasol_in_place_rounds(load));
+            WANT(refusals == 1 && taken == 0);
+            if (zimgasol_load_verdict(load, &fault) == ZIMGASOL_NO_MEMORY) {
+                WANT(fault.source == ZIMGASOL_ROUND && fault.round == zimgasol_load_rounds(load));
+                WANT(zimgasol_load_fault_of(load, ZIMGASOL_MAIN, &fault) == ZIMGASOL_NO_MEMORY);
+                WANT(!zimgasol_load_takes(load, ZIMGASOL_MAIN) &&
+                    !zimgasol_load_has_all_rounds(load));
                 /* it has failed for good, and only counts */
-                WANT(zimgasol_in_place_feed(load, blocks, 2, text, 1) == ZIMGASOL_DONE &&
-                    zimgasol_in_place_fed(load) == at + len + 1);
-                WANT(zimgasol_in_place_verdict(load, &fault) == ZIMGASOL_NO_MEMORY);
+                WANT(zimgasol_load_fed(load, ZIMGASOL_MAIN) == at + len);
+                WANT(zimgasol_load_feed(load, blocks, 2, ZIMGASOL_MAIN, text, 1, &taken) ==
+                        ZIMGASOL_DONE &&
+                    zimgasol_load_fed(load, ZIMGASOL_MAIN) == at + len + 1);
+                WANT(zimgasol_load_verdict(load, &fault) == ZIMGASOL_NO_MEMORY);
                 return status;
             }
-            WANT(fault.number == ZIMGASOL_RUNNING && zimgasol_in_place_fed(load) == at);
-            status = zimgasol_in_place_feed(load, blocks, 2, text + at, len);
+            WANT(fault.number == ZIMGASOL_RUNNING && zimgasol_load_fed(load, ZIMGASOL_MAIN) == at);
+            status = zimgasol_load_feed(load, blocks, 2, ZIMGASOL_MAIN, text + at, len, &taken);
         }
-        WANT(status == ZIMGASOL_DONE && zimgasol_in_place_fed(load) == at + len);
+        WANT(status == ZIMGASOL_DONE && taken == len &&
+            zimgasol_load_fed(load, ZIMGASOL_MAIN) == at + len);
         WANT(blocks[0].bytes == first_block && blocks[1].bytes == second_block &&
             blocks[0].len == sizeof first_block && blocks[1].len == sizeof second_block);
     }
-    zimgasol_in_place_end(load);
-    WANT(zimgasol_in_place_feed(load, blocks, 0, text, 1) == ZIMGASOL_IS_OVER);
+    size_t taken = 7;
+    WANT(zimgasol_load_end(load, ZIMGASOL_MAIN) == ZIMGASOL_DONE);
+    WANT(zimgasol_load_feed(load, blocks, 0, ZIMGASOL_MAIN, text, 1, &taken) == ZIMGASOL_IS_OVER &&
+        taken == 0);
     return ZIMGASOL_DONE;
 }
 
 /* Reads each page into its block, as from a socket in two parts, and feeds what stands between
  * them. What isn't to be done is tried first. Returns NO_MEMORY where the load has failed. */
-static uint32_t read_in_place(zimgasol_in_place *load) {
+static uint32_t read_in_place(zimgasol_load *load) {
     zimgasol_buffer blocks[2] = {{first_block, sizeof first_block},
         {second_block, sizeof second_block}};
     zimgasol_next next;
     zimgasol_fault fault;
-    size_t at = 0, pages = 0;
-    while (zimgasol_in_place_wanted(load, &next)) {
+    size_t at = 0, pages = 0, taken;
+    while (zimgasol_load_wanted(load, &next)) {
         WANT(at < text_len && next.len > 0 && next.len <= text_len - at &&
-            zimgasol_in_place_fed(load) == at);
+            zimgasol_load_fed(load, ZIMGASOL_MAIN) == at);
         if (!next.is_page) {
             WANT(next.block == 0 && next.offset == 0 &&
-                zimgasol_in_place_page_read(load, blocks, 2) == ZIMGASOL_OUT_OF_TURN);
-            uint32_t status = zimgasol_in_place_feed(load, blocks, 2, text + at, next.len);
+                zimgasol_load_page_read(load, blocks, 2) == ZIMGASOL_OUT_OF_TURN);
+            uint32_t status =
+                zimgasol_load_feed(load, blocks, 2, ZIMGASOL_MAIN, text + at, next.len, &taken);
             if (status == ZIMGASOL_NO_MEMORY) {
                 WANT(refusals == 1);
-                if (zimgasol_in_place_verdict(load, &fault) == ZIMGASOL_NO_MEMORY) {
-                    WANT(!zimgasol_in_place_wanted(load, &next) &&
-                        zimgasol_in_place_page_read(load, blocks, 2) == ZIMGASOL_OUT_OF_TURN);
+                if (zimgasol_load_verdict(load, &fault) == ZIMGASOL_NO_MEMORY) {
+                    WANT(!zimgasol_load_wanted(load, &next) &&
+                        zimgasol_load_page_read(load, blocks, 2) == ZIMGASOL_OUT_OF_TURN);
                     return status;
                 }
-                status = zimgasol_in_place_feed(load, blocks, 2, text + at, next.len);
+                status =
+                    zimgasol_load_feed(load, blocks, 2, ZIMGASOL_MAIN, text + at, next.len, &taken);
             }
             WANT(status == ZIMGASOL_DONE);
         } else {
             WANT(next.len == PAGE && next.block < 2 && next.offset % PAGE == 0 &&
                 next.offset + PAGE <= blocks[next.block].len);
             memcpy(blocks[next.block].bytes + next.offset, text + at, 100);
-            WANT(zimgasol_in_place_page_read(load, blocks, 1) == ZIMGASOL_BAD_LENGTH);
+            WANT(zimgasol_load_page_read(load, blocks, 1) == ZIMGASOL_BAD_LENGTH);
             memcpy(blocks[next.block].bytes + next.offset + 100, text + at + 100, PAGE - 100);
-            WANT(zimgasol_in_place_page_read(load, blocks, 2) == ZIMGASOL_DONE);
+            WANT(zimgasol_load_page_read(load, blocks, 2) == ZIMGASOL_DONE);
             pages++;
         }
         at += next.len;
     }
     WANT(at == text_len && pages > 0);
-    zimgasol_in_place_end(load);
-    WANT(zimgasol_in_place_page_read(load, blocks, 2) == ZIMGASOL_IS_OVER);
+    WANT(zimgasol_load_end(load, ZIMGASOL_MAIN) == ZIMGASOL_DONE);
+    WANT(zimgasol_load_page_read(load, blocks, 2) == ZIMGASOL_IS_OVER);
     next.len = 7;
-    WANT(!zimgasol_in_place_wanted(load, &next) && next.len == 7);
+    WANT(!zimgasol_load_wanted(load, &next) && next.len == 7);
     return ZIMGASOL_DONE;
 }
 
 /* Loads into blocks, in pieces of `cut` bytes or, where that is 0, by what comes next. A load that
  * has failed is made again, with blocks as they were at first. */
 static void load_in_place(size_t cut) {
-    zimgasol_in_place load = {0};
+    zimgasol_load load = {0};
     zimgasol_fault fault;
     uint64_t at = 7;
     make_in_place(&load);
     if ((cut > 0 ? feed_in_place(&load, cut) : read_in_place(&load)) == ZIMGASOL_NO_MEMORY) {
-        WANT(zimgasol_in_place_closed_at(&load, &at) == ZIMGASOL_RUNNING && at == 7);
-        zimgasol_in_place_free(&load);
+        WANT(zimgasol_load_closed_at(&load, &at) == ZIMGASOL_RUNNING && at == 7);
+        zimgasol_load_free(&load);
         make_in_place(&load);
         WANT((cut > 0 ? feed_in_place(&load, cut) : read_in_place(&load)) == ZIMGASOL_DONE);
     }
-    WANT(zimgasol_in_place_closed_at(&load, &at) == ZIMGASOL_DONE && at == text_len);
-    WANT(zimgasol_in_place_verdict(&load, &fault) == ZIMGASOL_DONE && fault.number == 0 &&
-        zimgasol_in_place_rounds(&load) == 4 && zimgasol_in_place_missing(&load) == 3);
-    zimgasol_in_place_free(&load);
+    WANT(zimgasol_load_closed_at(&load, &at) == ZIMGASOL_DONE && at == text_len);
+    WANT(zimgasol_load_verdict(&load, &fault) == ZIMGASOL_DONE && fault.number == 0 &&
+        zimgasol_load_rounds(&load) == 4 && zimgasol_load_missing(&load) == 3);
+    zimgasol_load_free(&load);
     WANT(load.at == NULL);
     WANT(is_filled(first_block, 2 * PAGE, 0xEE) && first_block[2 * PAGE] == 3 &&
         is_filled(first_block + 2 * PAGE + 1, PAGE - 1, 7));
@@ -289,23 +305,23 @@ static void load_in_place(size_t cut) {
 /* A stream that is cut amid its first round: its page is there, and no section after START is
  * complete. */
 static void cut_in_place(void) {
-    zimgasol_in_place load = {0};
+    zimgasol_load load = {0};
     zimgasol_buffer blocks[2] = {{first_block, sizeof first_block},
         {second_block, sizeof second_block}};
     zimgasol_fault fault;
-    size_t page_end = 0;
+    size_t page_end = 0, taken;
     make_in_place(&load);
     while (first_block[2 * PAGE] != 1)
-        AGAIN(zimgasol_in_place_feed(&load, blocks, 2, text + page_end++, 1));
+        AGAIN(zimgasol_load_feed(&load, blocks, 2, ZIMGASOL_MAIN, text + page_end++, 1, &taken));
     WANT(is_filled(first_block, 2 * PAGE, 0xEE) &&
         is_filled(first_block + 2 * PAGE + 1, PAGE - 1, 7) &&
         is_filled(second_block, 2 * PAGE, 0xEE));
-    WANT(zimgasol_in_place_verdict(&load, &fault) == ZIMGASOL_RUNNING && fault.round == 1 &&
-        zimgasol_in_place_rounds(&load) == 1 && zimgasol_in_place_missing(&load) == 4);
-    zimgasol_in_place_end(&load);
-    WANT(zimgasol_in_place_verdict(&load, &fault) == ZIMGASOL_STREAM_TRUNCATED &&
-        fault.round == 1 && first_block[2 * PAGE] == 1);
-    zimgasol_in_place_free(&load);
+    WANT(zimgasol_load_verdict(&load, &fault) == ZIMGASOL_RUNNING && fault.round == 1 &&
+        zimgasol_load_rounds(&load) == 1 && zimgasol_load_missing(&load) == 4);
+    WANT(zimgasol_load_end(&load, ZIMGASOL_MAIN) == ZIMGASOL_DONE);
+    WANT(zimgasol_load_verdict(&load, &fault) == ZIMGASOL_STREAM_TRUNCATED && fault.round == 1 &&
+        first_block[2 * PAGE] == 1);
+    zimgasol_load_free(&load);
 }
 
 /* The main stream of a round of a block of two pages, which may be records of zeros on it, and its
@@ -423,27 +439,28 @@ static void limit_one_stream(uint64_t waiting) {
     static const char words[] = "64, stream: too many records wait, after 1 rounds, at byte 4182";
     zimgasol_settings settings = {.waiting = waiting};
     zimgasol_loader loader = {0};
-    zimgasol_in_place load = {0};
+    zimgasol_load load = {0};
     zimgasol_buffer blocks[2] = {{first_block, sizeof first_block},
         {second_block, sizeof second_block}};
     zimgasol_block named[2] = {{.id = "a", .pages = 3}, {.id = "pc.ram", .pages = 2}};
     zimgasol_table table = {0};
     zimgasol_fault fault;
     char told[100], few[10];
-    size_t entry;
+    size_t entry, taken;
     uint64_t at = 7;
     AGAIN(zimgasol_loader_new_within(&loader, PAGE, 1 << 20, &settings));
     AGAIN(zimgasol_table_new(&table, PAGE, named, 2, &entry));
-    AGAIN(zimgasol_in_place_new_within(&load, &table, &settings));
+    AGAIN(zimgasol_load_new(&load, &table, (const uint8_t *)"", 0, 0, &settings));
     zimgasol_table_free(&table);
     WANT(zimgasol_loader_feed(&loader, text, text_len) == ZIMGASOL_DONE &&
-        zimgasol_in_place_feed(&load, blocks, 2, text, text_len) == ZIMGASOL_DONE);
+        zimgasol_load_feed(&load, blocks, 2, ZIMGASOL_MAIN, text, text_len, &taken) ==
+            ZIMGASOL_DONE);
     uint32_t wanted = waiting == 1 ? ZIMGASOL_STREAM_WAITING : ZIMGASOL_DONE;
     uint64_t valid = waiting == 1 ? second : text_len;
     WANT(zimgasol_loader_verdict(&loader, &fault) == wanted &&
         zimgasol_loader_valid_up_to(&loader) == valid);
-    WANT(zimgasol_in_place_verdict(&load, &fault) == wanted &&
-        zimgasol_in_place_valid_up_to(&load, &at) && at == valid);
+    WANT(zimgasol_load_verdict(&load, &fault) == wanted &&
+        zimgasol_load_valid_up_to(&load, ZIMGASOL_MAIN, &at) && at == valid);
     if (waiting == 1) {
         WANT(fault.round == 1 && fault.source == ZIMGASOL_MAIN);
         WANT(zimgasol_fault_text_at(&fault, at, told, sizeof told) == (int)strlen(words) &&
@@ -454,19 +471,20 @@ static void limit_one_stream(uint64_t waiting) {
             strncmp(told, words, strlen(words) - 1) == 0);
     }
     zimgasol_loader_free(&loader);
-    zimgasol_in_place_free(&load);
+    zimgasol_load_free(&load);
     settings.frame = (zimgasol_frame)2;
     WANT(zimgasol_loader_new_within(&loader, PAGE, 1 << 20, &settings) == ZIMGASOL_BAD_FRAME &&
         loader.full == 0);
     /* of a stream of another table it isn't known how much is valid */
     make_in_place(&load);
     text[71 - 13 - 8 - 6]++;
-    WANT(zimgasol_in_place_feed(&load, blocks, 2, text, text_len) == ZIMGASOL_DONE &&
-        zimgasol_in_place_verdict(&load, &fault) == ZIMGASOL_OTHER_TABLE);
+    WANT(zimgasol_load_feed(&load, blocks, 2, ZIMGASOL_MAIN, text, text_len, &taken) ==
+            ZIMGASOL_DONE &&
+        zimgasol_load_verdict(&load, &fault) == ZIMGASOL_OTHER_TABLE);
     text[71 - 13 - 8 - 6]--;
     at = 7;
-    WANT(!zimgasol_in_place_valid_up_to(&load, &at) && at == 7);
-    zimgasol_in_place_free(&load);
+    WANT(!zimgasol_load_valid_up_to(&load, ZIMGASOL_MAIN, &at) && at == 7);
+    zimgasol_load_free(&load);
 }
 
 /* The main stream of a round has two records of zero pages, and the channel a SYNC packet alone:

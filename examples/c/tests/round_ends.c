@@ -115,30 +115,28 @@ static int is_guest(const uint8_t *bytes) {
 static uint32_t load_in_place(zimgasol_table *table, zimgasol_round_end ends, size_t cut,
     uint64_t *rounds) {
     zimgasol_settings settings = {.frame = ZIMGASOL_FRAME_RAM, .round_end = ends};
-    zimgasol_in_place_session load = {0};
+    zimgasol_load load = {0};
     zimgasol_fault fault = {0};
     size_t fed[3] = {0};
     memset(memory, 0xEE, sizeof memory);
-    if (zimgasol_in_place_session_new_within(&load, table, uuid, 16, 2, &settings) !=
-        ZIMGASOL_DONE)
-        return 1000;
+    if (zimgasol_load_new(&load, table, uuid, 16, 2, &settings) != ZIMGASOL_DONE) return 1000;
     for (int moves = 1; moves;) {
         moves = 0;
         for (size_t s = 0; s < 3; s++) {
             size_t len = length[s] - fed[s] < cut ? length[s] - fed[s] : cut, taken = 0;
             if (len == 0) continue;
-            if (zimgasol_in_place_session_feed(&load, into, 1, s, stream[s] + fed[s], len,
-                    &taken) != ZIMGASOL_DONE)
+            if (zimgasol_load_feed(&load, into, 1, s, stream[s] + fed[s], len, &taken) !=
+                ZIMGASOL_DONE)
                 return 1001;
             fed[s] += taken;
             moves |= taken > 0;
         }
     }
     for (size_t s = 0; s < 3; s++)
-        if (fed[s] == length[s]) zimgasol_in_place_session_end(&load, s);
-    uint32_t verdict = zimgasol_in_place_session_verdict(&load, &fault);
-    *rounds = zimgasol_in_place_session_rounds(&load);
-    zimgasol_in_place_session_free(&load);
+        if (fed[s] == length[s] && zimgasol_load_end(&load, s) != ZIMGASOL_DONE) return 1002;
+    uint32_t verdict = zimgasol_load_verdict(&load, &fault);
+    *rounds = zimgasol_load_rounds(&load);
+    zimgasol_load_free(&load);
     return verdict;
 }
 
@@ -150,7 +148,7 @@ static uint32_t load_whole(zimgasol_round_end ends, uint64_t *rounds) {
         return 1000;
     for (size_t s = 0; s < 3; s++) {
         if (zimgasol_session_feed(&load, s, stream[s], length[s]) != ZIMGASOL_DONE) return 1001;
-        zimgasol_session_end(&load, s);
+        if (zimgasol_session_end(&load, s) != ZIMGASOL_DONE) return 1002;
     }
     uint32_t verdict = zimgasol_session_verdict(&load, &fault);
     *rounds = zimgasol_session_rounds(&load);
@@ -165,8 +163,7 @@ static int try_all(zimgasol_table *table, const int done[3], uint64_t want) {
     uint64_t rounds = 0;
     for (int ends = 0; ends < 3; ends++) {
         for (size_t i = 0; i < 4; i++) {
-            uint32_t verdict =
-                load_in_place(table, (zimgasol_round_end)ends, cuts[i], &rounds);
+            uint32_t verdict = load_in_place(table, (zimgasol_round_end)ends, cuts[i], &rounds);
             if (!done[ends]) WANT(verdict != ZIMGASOL_DONE && verdict < 1000);
             else WANT(verdict == ZIMGASOL_DONE && rounds == want && is_guest(memory));
         }
@@ -181,14 +178,10 @@ int main(void) {
     static const int by_eos[3] = {0, 1, 1}, by_flush[3] = {1, 0, 1};
     zimgasol_block block = {.id = "ram", .pages = PAGES};
     zimgasol_settings settings = {.round_end = (zimgasol_round_end)3};
-    zimgasol_in_place_session load = {0};
     zimgasol_session session = {0};
     zimgasol_table table = {0};
     size_t entry;
     WANT(zimgasol_table_new(&table, PAGE, &block, 1, &entry) == ZIMGASOL_DONE);
-    WANT(zimgasol_in_place_session_new_within(&load, &table, uuid, 16, 2, &settings) ==
-            ZIMGASOL_BAD_ROUND_END &&
-        load.full == 0);
     WANT(zimgasol_session_new_within(&session, PAGE, uuid, 16, 2, 1 << 20, &settings) ==
             ZIMGASOL_BAD_ROUND_END &&
         session.full == 0);
@@ -230,6 +223,7 @@ int main(void) {
     if (write_channels(2) || try_all(&table, by_flush, 2)) return 1;
 
     zimgasol_table_free(&table);
-    printf("streams whose rounds end with FLUSH and with EOS: each by what it says, and as shown\n");
+    printf(
+        "streams whose rounds end with FLUSH and with EOS: each by what it says, and as shown\n");
     return 0;
 }

@@ -1,8 +1,8 @@
 /* Blocks that were zeros when a load began (`zero_blocks`): a page that comes as zeros is neither
  * read nor written, unless something else may be in it. Such pages are protected here, so that a
- * load which touches one ends this program. Each kind of load into blocks of the caller's loads two
- * rounds: by pieces, by pages that are read to their places, and by packets that are. Those of a
- * channel tell how many pages no round had. */
+ * load which touches one ends this program. Two rounds are loaded: of one stream by pieces, and by
+ * pages that are read to their places; of a main stream and its channel by pieces, and by packets
+ * whose pages are. Each load says how many pages no round had. */
 #define _DEFAULT_SOURCE
 #include "zimgasol.h"
 #include <stdio.h>
@@ -117,72 +117,60 @@ static int is_guest(void) {
     return 0;
 }
 
-/* ---- loads of one stream */
+/* ---- loads */
 
-static int load_pieces(zimgasol_table *table) {
-    zimgasol_in_place load = {0};
-    zimgasol_fault fault;
-    WANT(zimgasol_in_place_new_within(&load, table, &settings) == ZIMGASOL_DONE);
-    for (size_t at = 0, len; at < length[0]; at += len) {
-        len = length[0] - at < PIECE ? length[0] - at : PIECE;
-        WANT(zimgasol_in_place_feed(&load, into, 1, stream[0] + at, len) == ZIMGASOL_DONE);
-    }
-    zimgasol_in_place_end(&load);
-    WANT(zimgasol_in_place_verdict(&load, &fault) == ZIMGASOL_DONE);
-    zimgasol_in_place_free(&load);
-    return 0;
-}
-
-static int load_wanted(zimgasol_table *table) {
-    zimgasol_in_place load = {0};
-    zimgasol_fault fault;
-    zimgasol_next next;
-    size_t at = 0;
-    WANT(zimgasol_in_place_new_within(&load, table, &settings) == ZIMGASOL_DONE);
-    while (zimgasol_in_place_wanted(&load, &next) && at < length[0]) {
-        if (next.is_page) {
-            memcpy(into[0].bytes + next.offset, stream[0] + at, next.len);
-            WANT(zimgasol_in_place_page_read(&load, into, 1) == ZIMGASOL_DONE);
-        } else {
-            WANT(zimgasol_in_place_feed(&load, into, 1, stream[0] + at, next.len) == ZIMGASOL_DONE);
-        }
-        at += next.len;
-    }
-    zimgasol_in_place_end(&load);
-    WANT(at == length[0] && zimgasol_in_place_verdict(&load, &fault) == ZIMGASOL_DONE);
-    zimgasol_in_place_free(&load);
-    return 0;
-}
-
-/* ---- loads of a channel */
-
-static int load_session(zimgasol_table *table) {
-    zimgasol_in_place_session load = {0};
+/* Loads by pieces: one stream, or the main stream and its channel. */
+static int load_pieces(zimgasol_table *table, size_t channels) {
+    zimgasol_load load = {0};
     zimgasol_fault fault;
     size_t fed[2] = {0}, taken;
-    WANT(zimgasol_in_place_session_new_within(&load, table, uuid, 16, 1, &settings) ==
-        ZIMGASOL_DONE);
-    WANT(zimgasol_in_place_session_missing(&load) == PAGES);
+    WANT(zimgasol_load_new(&load, table, uuid, 16, channels, &settings) == ZIMGASOL_DONE);
+    WANT(zimgasol_load_missing(&load) == PAGES);
     for (bool moved = true; moved;) {
         moved = false;
-        for (size_t s = 0; s < 2; s++) {
+        for (size_t s = 0; s <= channels; s++) {
             size_t len = length[s] - fed[s] < PIECE ? length[s] - fed[s] : PIECE;
-            if (len == 0 || !zimgasol_in_place_session_takes(&load, s)) continue;
-            WANT(zimgasol_in_place_session_feed(&load, into, 1, s, stream[s] + fed[s], len,
-                     &taken) == ZIMGASOL_DONE);
+            if (len == 0 || !zimgasol_load_takes(&load, s)) continue;
+            WANT(zimgasol_load_feed(&load, into, 1, s, stream[s] + fed[s], len, &taken) ==
+                ZIMGASOL_DONE);
             fed[s] += taken;
             moved = moved || taken > 0;
         }
     }
-    for (size_t s = 0; s < 2; s++) WANT(zimgasol_in_place_session_end(&load, s) == ZIMGASOL_DONE);
-    WANT(zimgasol_in_place_session_verdict(&load, &fault) == ZIMGASOL_DONE);
-    WANT(zimgasol_in_place_session_missing(&load) == PAGES - SENT);
-    zimgasol_in_place_session_free(&load);
+    for (size_t s = 0; s <= channels; s++)
+        WANT(fed[s] == length[s] && zimgasol_load_end(&load, s) == ZIMGASOL_DONE);
+    WANT(zimgasol_load_verdict(&load, &fault) == ZIMGASOL_DONE);
+    WANT(zimgasol_load_missing(&load) == PAGES - SENT);
+    zimgasol_load_free(&load);
+    return 0;
+}
+
+/* Loads one stream by pages that are read to their places. */
+static int load_wanted(zimgasol_table *table) {
+    zimgasol_load load = {0};
+    zimgasol_fault fault;
+    zimgasol_next next;
+    size_t at = 0, taken;
+    WANT(zimgasol_load_new(&load, table, uuid, 0, 0, &settings) == ZIMGASOL_DONE);
+    while (zimgasol_load_wanted(&load, &next) && at < length[0]) {
+        if (next.is_page) {
+            memcpy(into[0].bytes + next.offset, stream[0] + at, next.len);
+            WANT(zimgasol_load_page_read(&load, into, 1) == ZIMGASOL_DONE);
+        } else {
+            WANT(zimgasol_load_feed(&load, into, 1, ZIMGASOL_MAIN, stream[0] + at, next.len,
+                     &taken) == ZIMGASOL_DONE);
+        }
+        at += next.len;
+    }
+    WANT(zimgasol_load_end(&load, ZIMGASOL_MAIN) == ZIMGASOL_DONE);
+    WANT(at == length[0] && zimgasol_load_verdict(&load, &fault) == ZIMGASOL_DONE);
+    WANT(zimgasol_load_missing(&load) == PAGES - SENT);
+    zimgasol_load_free(&load);
     return 0;
 }
 
 /* Reads a claimed packet to its places, clears those that are named, and takes it. */
-static int take(zimgasol_apart *load, const uint8_t *head, const zimgasol_pages *pages,
+static int take(zimgasol_load *load, const uint8_t *head, const zimgasol_pages *pages,
     size_t *read) {
     const uint8_t *contents = head + ZIMGASOL_HEAD_LEN(PAGE);
     zimgasol_lent lent[128];
@@ -193,48 +181,49 @@ static int take(zimgasol_apart *load, const uint8_t *head, const zimgasol_pages 
     for (size_t i = pages->normal; i < pages->normal + pages->zero; i++)
         memset(into[0].bytes + pages->pages[i] * PAGE, 0, PAGE);
     *read = ZIMGASOL_HEAD_LEN(PAGE) + pages->normal * PAGE;
-    WANT(zimgasol_apart_take(load, 0, head, ZIMGASOL_HEAD_LEN(PAGE), lent, pages->normal) ==
+    WANT(zimgasol_load_take(load, 0, head, ZIMGASOL_HEAD_LEN(PAGE), lent, pages->normal) ==
         ZIMGASOL_RUNNING);
     return 0;
 }
 
 /* Goes on with the channel by a packet, and counts the pages that it was told to clear. */
-static int step_channel(zimgasol_apart *load, size_t *at, size_t *cleared) {
+static int step_channel(zimgasol_load *load, size_t *at, size_t *cleared) {
     const uint8_t *next = stream[1] + *at;
     zimgasol_pages pages;
     size_t len = *at == 0 ? ZIMGASOL_HELLO_LEN : ZIMGASOL_HEAD_LEN(PAGE), read = 0;
-    if (*at > 0 && zimgasol_apart_claim(load, 0, next, len, &pages) == ZIMGASOL_RUNNING) {
+    if (*at > 0 && zimgasol_load_claim(load, 0, next, len, &pages) == ZIMGASOL_RUNNING) {
         *cleared += pages.zero;
         if (take(load, next, &pages, &read)) return 1;
     } else {
-        WANT(zimgasol_apart_feed(load, into, 1, ZIMGASOL_CHANNEL(0), next, len, &read) ==
+        WANT(zimgasol_load_feed(load, into, 1, ZIMGASOL_CHANNEL(0), next, len, &read) ==
             ZIMGASOL_DONE);
     }
     *at += read;
     return 0;
 }
 
-static int load_apart(zimgasol_table *table) {
-    zimgasol_apart load = {0};
+/* Loads the main stream by pieces, and the channel by packets whose pages are copied here. */
+static int load_claimed(zimgasol_table *table) {
+    zimgasol_load load = {0};
     zimgasol_fault fault;
     size_t fed = 0, at = 0, cleared = 0, taken;
-    WANT(zimgasol_apart_new(&load, table, uuid, 16, 1, &settings) == ZIMGASOL_DONE);
+    WANT(zimgasol_load_new(&load, table, uuid, 16, 1, &settings) == ZIMGASOL_DONE);
     while (fed < length[0] || at < length[1]) {
-        if (fed < length[0] && zimgasol_apart_takes(&load, ZIMGASOL_MAIN)) {
+        if (fed < length[0] && zimgasol_load_takes(&load, ZIMGASOL_MAIN)) {
             size_t len = length[0] - fed < 50 ? length[0] - fed : 50;
-            WANT(zimgasol_apart_feed(&load, into, 1, ZIMGASOL_MAIN, stream[0] + fed, len, &taken) ==
+            WANT(zimgasol_load_feed(&load, into, 1, ZIMGASOL_MAIN, stream[0] + fed, len, &taken) ==
                     ZIMGASOL_DONE &&
                 taken == len);
             fed += len;
         }
-        if (at < length[1] && zimgasol_apart_takes(&load, ZIMGASOL_CHANNEL(0)) &&
+        if (at < length[1] && zimgasol_load_takes(&load, ZIMGASOL_CHANNEL(0)) &&
             step_channel(&load, &at, &cleared))
             return 1;
     }
-    for (size_t s = 0; s < 2; s++) WANT(zimgasol_apart_end(&load, s) == ZIMGASOL_DONE);
-    WANT(zimgasol_apart_verdict(&load, &fault) == ZIMGASOL_DONE);
-    WANT(cleared == 1 && zimgasol_apart_missing(&load) == PAGES - SENT);
-    zimgasol_apart_free(&load);
+    for (size_t s = 0; s < 2; s++) WANT(zimgasol_load_end(&load, s) == ZIMGASOL_DONE);
+    WANT(zimgasol_load_verdict(&load, &fault) == ZIMGASOL_DONE);
+    WANT(cleared == 1 && zimgasol_load_missing(&load) == PAGES - SENT);
+    zimgasol_load_free(&load);
     return 0;
 }
 
@@ -244,11 +233,11 @@ int main(void) {
     size_t entry;
     WANT(zimgasol_table_new(&table, PAGE, blocks, 1, &entry) == ZIMGASOL_DONE);
     if (send_single(&table)) return 1;
-    if (map_block() || load_pieces(&table) || is_guest()) return 1;
+    if (map_block() || load_pieces(&table, 0) || is_guest()) return 1;
     if (map_block() || load_wanted(&table) || is_guest()) return 1;
     if (send_channel(&table)) return 1;
-    if (map_block() || load_session(&table) || is_guest()) return 1;
-    if (map_block() || load_apart(&table) || is_guest()) return 1;
+    if (map_block() || load_pieces(&table, 1) || is_guest()) return 1;
+    if (map_block() || load_claimed(&table) || is_guest()) return 1;
     zimgasol_table_free(&table);
     printf("blocks that were zeros: no load touched a page that came as zeros alone; pages that "
            "didn't come were counted\n");

@@ -38,7 +38,7 @@ returns g c =
     → drained ++ text.items ≡ single c.round.new.self.table rounds) (is_ok_of c.finish.result stream c.in_ok-stream.ensures.value) c.finish.ensures.ok in
     let brings = backed_up m dirty sender c.round.new.self stream.items c.table-table.ensures.image (set.0, set.1 ∙ same)
     (λ p at. every p (subst (λ (t : RamTable). IsPlace t p) (sym same) at)) begun (of_table ∙ same) c.round.ensures.table sent finished in
-    let is_table = subst IsTable (ap (λ (d : PlaceSet). d.table) c.dirty.view_is ∙ set.1 ∙ same) c.dirty.invariant.is_table in
+    let is_table = subst IsTable (set.1 ∙ same) set.0.has_table in
     there_or_none c.load_single-loaded.result m c.in_ok-ok-2.field-0
     (brought c.page_size.result (2 ^ 40) c.deref.result.now c.load_single-loaded.result m c.load_single-loaded.ensures.sent is_table
     (ap (λ (t : RamTable). t.page_size) (sym same) ∙ sym c.page_size.ensures) is_table.has_room

@@ -1,7 +1,7 @@
 use Rattle.std.proofs.Common.{◌≡◌, ℕ, Option, None, refl, subst, arith}
 use Rattle.mig_stream.specs.Reader.{HasClosedAt}
 use Rattle.mig_load_types.specs.Settings.{for_table, main_of}
-use Rattle.mig_c_loads.proofs.held_session.closed_at.Goals as goal
+use Rattle.mig_c_loads.proofs.seen.closed_at.Goals as goal
 
 pub returns-in-Some : goal.returns-in-Some
 returns-in-Some c = record {

@@ -2,7 +2,7 @@ use Rattle.std.proofs.Common.{◌≡◌, ℕ, None, refl, ap, ◌∙◌}
 use Rattle.std.specs.Prelude.{Option}
 use Rattle.mig_load_types.specs.declared.fault.Fault.{Fault}
 use Rattle.mig_c_loads.specs.Found.{seen_of_source}
-use Rattle.mig_c_loads.proofs.held_session.report_fault.Goals as goal
+use Rattle.mig_c_loads.proofs.seen.report_fault.Goals as goal
 
 pub returns : goal.returns
 returns c = record {

@@ -1,7 +1,7 @@
 use Rattle.std.proofs.Common.{◌≡◌, ℕ, Option, None, refl, subst}
 use Rattle.mig_load_types.specs.Settings.{for_table}
 use Rattle.mig_sources.specs.Faults.{IsSourceValidUpTo}
-use Rattle.mig_c_loads.proofs.held_session.valid_up_to.Goals as goal
+use Rattle.mig_c_loads.proofs.seen.valid_up_to.Goals as goal
 
 pub returns-in-Some : goal.returns-in-Some
 returns-in-Some c = record {
