@@ -41,7 +41,7 @@ install: ## at once, after lib or program | puts what was built below PREFIX=DIR
 uninstall: ## at once, after install | removes what was installed; the same PREFIX and DESTDIR
 	@tools/install.sh --uninstall "$(PREFIX)"
 
-example: lib ## three minutes, after lib | builds and runs the C programs of examples/c, and installs the library
+example: lib ## some minutes, after lib | builds and runs the C programs of examples/c, and installs the library
 	@tools/example.py
 	@tools/try_install.py
 

@@ -3,7 +3,7 @@
  *
  * Some streams are small and declare a large guest. Others have records of a few bytes, each of
  * which takes more memory than it has bytes, or a search of the table. A plain guest is there to
- * compare them with. Each is fed in pieces of 64 KiB.
+ * compare them with. Each is fed in pieces of 64 KiB, but for main streams, which are one piece.
  *
  * The memory is the most that is resident during the five runs, less what was resident before them,
  * with the stream and the blocks. Linux reports it as `VmHWM` in `/proc/self/status`; writing 5 to
@@ -157,22 +157,23 @@ static uint64_t place(void *of) {
     return rounds;
 }
 
-/* Feeds a main stream to a session of one channel, which has nothing. So the session keeps all
- * rounds. Returns how many bytes it took. */
-static uint64_t feed_session(void *of) {
-    const hostile *h = of;
-    zimgasol_session session = {0};
+/* Feeds a main stream, as one piece, to a load of whole rounds whose only channel has nothing. So
+ * the load keeps all rounds; of a second piece it would take nothing. Returns how many bytes it
+ * took. */
+static uint64_t feed_main(void *of) {
+    hostile *h = of;
+    const zimgasol_settings settings = {.frame = h->frame, .zero_blocks = 1, .whole_rounds = 1};
+    zimgasol_load load = {0};
     zimgasol_fault fault;
-    size_t len;
-    check(zimgasol_session_new(&session, PAGE, uuid, sizeof uuid, 1, LIMIT, h->frame),
-        "session_new");
-    for (size_t at = 0; (len = piece_len(&h->bytes, at, PIECE)) > 0; at += len)
-        check(zimgasol_session_feed(&session, ZIMGASOL_MAIN, h->bytes.bytes + at, len),
-            "session_feed");
-    check(zimgasol_session_end(&session, ZIMGASOL_MAIN), "session_end");
-    check_verdict(zimgasol_session_verdict(&session, &fault), h, "session_verdict");
-    uint64_t fed = zimgasol_session_fed(&session, ZIMGASOL_MAIN);
-    zimgasol_session_free(&session);
+    size_t count;
+    check(zimgasol_load_new(&load, &h->guest.table, uuid, sizeof uuid, 1, &settings), "load_new");
+    check(zimgasol_load_feed(&load, h->blocks, h->count, ZIMGASOL_MAIN, h->bytes.bytes,
+              h->bytes.len, &count),
+        "load_feed");
+    check(zimgasol_load_end(&load, ZIMGASOL_MAIN), "load_end");
+    check_verdict(zimgasol_load_verdict(&load, &fault), h, "load_verdict");
+    uint64_t fed = zimgasol_load_fed(&load, ZIMGASOL_MAIN);
+    zimgasol_load_free(&load);
     return fed;
 }
 
@@ -248,14 +249,20 @@ static void report_load(const char *name, hostile *h) {
     report_cost(name, "rounds loaded", h->bytes.len, load, h);
 }
 
+/* Makes blocks of zeros, and returns their memory. */
+static uint8_t *make_blocks(hostile *h) {
+    size_t len = h->pages * PAGE;
+    uint8_t *memory = taken(calloc(h->count, len), "the blocks");
+    for (size_t i = 0; i < h->count; i++) h->blocks[i] = (zimgasol_buffer){memory + i * len, len};
+    return memory;
+}
+
 /* Measures a load into blocks that are in use before, or into fresh ones, which the load is told.
  */
 static void report_place(const char *name, hostile *h, bool is_fresh) {
-    size_t len = h->pages * PAGE;
-    uint8_t *memory = taken(calloc(h->count, len), "the blocks");
-    for (size_t at = 0; !is_fresh && at < h->count * len; at += PAGE)
+    uint8_t *memory = make_blocks(h);
+    for (size_t at = 0; !is_fresh && at < h->count * h->pages * PAGE; at += PAGE)
         ((volatile uint8_t *)memory)[at] = 0;
-    for (size_t i = 0; i < h->count; i++) h->blocks[i] = (zimgasol_buffer){memory + i * len, len};
     h->is_fresh = is_fresh;
     report_cost(name, is_fresh ? "rounds, fresh blocks" : "rounds in place", h->bytes.len, place,
         h);
@@ -315,13 +322,15 @@ static void report_guest(const char *name, const char *cut, bool is_zeros, unsig
     report_both(name, cut, &h);
 }
 
-/* Measures a main stream that is fed to a session. */
+/* Measures a main stream that is fed to a load whose channel has nothing. */
 static void report_main(const char *name, bool has_records) {
     hostile h = hostile_of(SHORT, BLOCKS, 1, ZIMGASOL_FRAME_RAM);
     stream section = flush_section(has_records);
     fill_with(&h, &section);
     h.verdict = ZIMGASOL_RUNNING;
-    report_cost(name, "bytes taken", h.bytes.len, feed_session, &h);
+    uint8_t *memory = make_blocks(&h);
+    report_cost(name, "bytes taken", h.bytes.len, feed_main, &h);
+    free(memory);
     hostile_free(&h);
 }
 

@@ -1,61 +1,17 @@
-/* Loads a round of all pages of a guest from one channel, from two and from four: by a session with
- * memory of its own, and by one that writes into a block. The main stream is fed first, and then
- * pieces of 64 KiB of the channels in turn. */
+/* Loads a round of all pages of a guest from one channel, from two and from four: by whole rounds
+ * into a block of zeros, and page by page into a block in use. The main stream is fed first, and
+ * then pieces of 64 KiB of the channels in turn. */
 #include "yardstick.h"
 #include <stdio.h>
 #include <stdlib.h>
 
-/* What is loaded, and the block that a load in place writes into. It is in use, and holds what the
- * load before left. */
+/* What is loaded, and the block that a load page by page writes into. It is in use, and holds what
+ * the load before left. */
 typedef struct loading {
     guest *guest;
     const streams *sent;
     uint8_t *block;
 } loading;
-
-/* Feeds a piece to a load: its source, and its bytes. */
-typedef void feeding(void *load, size_t source, const uint8_t *piece, size_t len);
-
-/* Feeds the main stream, and then pieces of the channels in turn. */
-static void feed_all(const streams *of, feeding *feed, void *load) {
-    feed(load, ZIMGASOL_MAIN, of->main.bytes, of->main.len);
-    size_t longest = 0;
-    for (size_t j = 0; j < of->count; j++)
-        if (of->channels[j].len > longest) longest = of->channels[j].len;
-    for (size_t at = 0; at < longest; at += PIECE)
-        for (size_t j = 0; j < of->count; j++)
-            if (at < of->channels[j].len)
-                feed(load, ZIMGASOL_CHANNEL(j), of->channels[j].bytes + at,
-                    piece_len(&of->channels[j], at, PIECE));
-}
-
-/* ---- into memory of the session's */
-
-static void feed_session(void *load, size_t source, const uint8_t *piece, size_t len) {
-    check(zimgasol_session_feed(load, source, piece, len), "session_feed");
-}
-
-/* Loads the streams by a session. Returns how many rounds they had. */
-static uint64_t load_session(void *of) {
-    const loading *l = of;
-    zimgasol_session session = {0};
-    zimgasol_fault fault;
-    uint8_t page[PAGE];
-    check(zimgasol_session_new(&session, PAGE, uuid, sizeof uuid, l->sent->count, LIMIT,
-              ZIMGASOL_FRAME_RAM),
-        "session_new");
-    feed_all(l->sent, feed_session, &session);
-    for (size_t source = 0; source <= l->sent->count; source++)
-        check(zimgasol_session_end(&session, source), "session_end");
-    check(zimgasol_session_verdict(&session, &fault), "session_verdict");
-    check(zimgasol_session_page(&session, 0, l->guest->pages - 1, page, PAGE), "session_page");
-    check_last_page(l->guest, page);
-    uint64_t rounds = zimgasol_session_rounds(&session);
-    zimgasol_session_free(&session);
-    return rounds;
-}
-
-/* ---- into a block */
 
 /* A load, and the block that it writes into. */
 typedef struct placing {
@@ -63,30 +19,56 @@ typedef struct placing {
     zimgasol_buffer block;
 } placing;
 
-static void feed_placing(void *load, size_t source, const uint8_t *piece, size_t len) {
-    placing *p = load;
+static void feed(placing *to, size_t source, const uint8_t *piece, size_t len) {
     size_t count = 0;
-    check(zimgasol_load_feed(&p->load, &p->block, 1, source, piece, len, &count), "load_feed");
+    check(zimgasol_load_feed(&to->load, &to->block, 1, source, piece, len, &count), "load_feed");
     if (count != len) give_up("a piece of the only round wasn't taken");
 }
 
-/* Loads the streams into the block. Returns how many rounds they had. */
-static uint64_t load_placing(void *of) {
-    const loading *l = of;
-    const zimgasol_settings settings = {.frame = ZIMGASOL_FRAME_RAM};
-    placing p = {.block = {l->block, l->guest->len}};
+/* Feeds the main stream, and then pieces of the channels in turn. */
+static void feed_all(const streams *of, placing *to) {
+    feed(to, ZIMGASOL_MAIN, of->main.bytes, of->main.len);
+    size_t longest = 0;
+    for (size_t j = 0; j < of->count; j++)
+        if (of->channels[j].len > longest) longest = of->channels[j].len;
+    for (size_t at = 0; at < longest; at += PIECE)
+        for (size_t j = 0; j < of->count; j++)
+            if (at < of->channels[j].len)
+                feed(to, ZIMGASOL_CHANNEL(j), of->channels[j].bytes + at,
+                    piece_len(&of->channels[j], at, PIECE));
+}
+
+/* Loads the streams into a block. Returns how many rounds they had. */
+static uint64_t load_into(const loading *l, uint8_t *block, const zimgasol_settings *settings) {
+    placing p = {.block = {block, l->guest->len}};
     zimgasol_fault fault;
-    check(zimgasol_load_new(&p.load, &l->guest->table, uuid, sizeof uuid, l->sent->count,
-              &settings),
+    check(zimgasol_load_new(&p.load, &l->guest->table, uuid, sizeof uuid, l->sent->count, settings),
         "load_new");
-    feed_all(l->sent, feed_placing, &p);
+    feed_all(l->sent, &p);
     for (size_t source = 0; source <= l->sent->count; source++)
         check(zimgasol_load_end(&p.load, source), "load_end");
     check(zimgasol_load_verdict(&p.load, &fault), "load_verdict");
-    check_last_page(l->guest, l->block + l->guest->len - PAGE);
+    check_last_page(l->guest, block + l->guest->len - PAGE);
     uint64_t rounds = zimgasol_load_rounds(&p.load);
     zimgasol_load_free(&p.load);
     return rounds;
+}
+
+/* Loads by whole rounds, into a block of zeros that is made here and freed. */
+static uint64_t load_whole(void *of) {
+    const loading *l = of;
+    const zimgasol_settings settings = {.zero_blocks = 1, .whole_rounds = 1};
+    uint8_t *block = taken(calloc(l->guest->pages, PAGE), "a block");
+    uint64_t rounds = load_into(l, block, &settings);
+    free(block);
+    return rounds;
+}
+
+/* Loads page by page, into the block that holds what the load before left. */
+static uint64_t load_placing(void *of) {
+    const loading *l = of;
+    const zimgasol_settings settings = {.frame = ZIMGASOL_FRAME_RAM};
+    return load_into(l, l->block, &settings);
 }
 
 /* ---- both */
@@ -96,7 +78,7 @@ static void report_load(const char *name, const yardstick *copies, work *run, lo
     uint64_t *alone) {
     measured found = best_of_five(run, l);
     if (*alone == 0) *alone = found.nanos;
-    printf("  %-13s%zu: %.2f by pages, %.2f at once, %.2f to one channel; %llu rounds loaded\n",
+    printf("  %-14s%zu: %.2f by pages, %.2f at once, %.2f to one channel; %llu rounds loaded\n",
         name, l->sent->count, ratio(found.nanos, copies->by_pages),
         ratio(found.nanos, copies->at_once), ratio(found.nanos, *alone),
         (unsigned long long)found.answer);
@@ -108,14 +90,14 @@ void run_load_multi(uint64_t pages) {
     uint8_t *block = taken(calloc(pages, PAGE), "a block");
     put_title("a round loaded from several channels", pages);
     for (size_t i = 0; i < KINDS; i++) {
-        uint64_t session = 0, placed = 0;
+        uint64_t whole = 0, placed = 0;
         guest_fill(&loaded, kinds[i].zero_tenths);
         printf("%s\n", kinds[i].name);
         for (size_t k = 0; k < COUNTS; k++) {
             streams sent = {.count = channel_counts[k]};
             send_multi(&loaded, &sent);
             loading l = {&loaded, &sent, block};
-            report_load("a session,", &copies, load_session, &l, &session);
+            report_load("whole rounds,", &copies, load_whole, &l, &whole);
             report_load("in place,", &copies, load_placing, &l, &placed);
             streams_free(&sent);
         }

@@ -251,7 +251,7 @@ typedef enum zimgasol_status {
     ZIMGASOL_BAD_PAGE_SIZE = 101,
     /* a limit above 2^40 */
     ZIMGASOL_BAD_LIMIT = 102,
-    /* more than 255 channels, or none where one must be */
+    /* more than 255 channels, or none with whole_rounds (zimgasol_settings) */
     ZIMGASOL_BAD_CHANNELS = 103,
     /* no such source */
     ZIMGASOL_BAD_SOURCE = 104,
@@ -303,14 +303,13 @@ typedef enum zimgasol_frame {
 
 ZIMGASOL_ASSERT(sizeof(zimgasol_frame) == sizeof(uint32_t), "an enum has the size of an int");
 
-/* What ends a round of a main stream (a session, and a load of several channels into blocks).
- * BY_FLUSH: each FLUSH record, as the senders of this library write it, and QEMU for machine types
- * of 8.1 and newer. BY_EOS: each EOS of a section, as QEMU writes it for machine types of 8.0 and
- * older, or with `multifd-flush-after-each-section=on`, which have no FLUSH. AS_SHOWN: what the
- * stream shows, BY_FLUSH if START has a FLUSH or the first record behind START is one, and BY_EOS
- * otherwise. It reads each of the streams above, so a receiver that doesn't know who sends uses it.
- * With a wrong one of the other two, sources wait for each other for ever, or files have a fault
- * 33, 52 or 53. */
+/* What ends a round of a main stream, in a load of several channels. BY_FLUSH: each FLUSH record,
+ * as the senders of this library write it, and QEMU for machine types of 8.1 and newer. BY_EOS:
+ * each EOS of a section, as QEMU writes it for machine types of 8.0 and older, or with
+ * `multifd-flush-after-each-section=on`, which have no FLUSH. AS_SHOWN: what the stream shows,
+ * BY_FLUSH if START has a FLUSH or the first record behind START is one, and BY_EOS otherwise. It
+ * reads each of the streams above, so a receiver that doesn't know who sends uses it. With a wrong
+ * one of the others, sources wait for each other for ever, or files have a fault 33, 52 or 53. */
 typedef enum zimgasol_round_end {
     ZIMGASOL_BY_FLUSH = 0,
     ZIMGASOL_BY_EOS = 1,
@@ -320,15 +319,15 @@ typedef enum zimgasol_round_end {
 ZIMGASOL_ASSERT(sizeof(zimgasol_round_end) == sizeof(uint32_t), "an enum has the size of an int");
 
 /* What a load is passed beside its streams. All zeros are a stream of the frame RAM, whose rounds
- * end with FLUSH, without a limit, into blocks that hold anything.
+ * end with FLUSH, without a limit, into blocks that hold anything and have each page as it comes.
  *  - `round_end`: what ends a round of a main stream. A load of a single stream doesn't use it.
  *  - `waiting`: the most page records of one section of a single stream, or of one round of a main
  *    stream. One more is the fault STREAM_WAITING. Each channel may have as many packets and pages
  *    together in a round; one more is CHANNEL_WAITING. 0 sets no limit. A loader keeps the pages of
- *    a section until its footer has come, and a session the pages of the open round, so this
- *    bounds what they keep of an open section or round: some `waiting` pages, and 48 bytes for
- *    each. It doesn't bound what a session keeps behind the open round until the other sources
- *    have that, nor the sections that one piece completes. So pieces are short, and a sender whose
+ *    a section until its footer has come, so this bounds what it keeps of an open section: some
+ *    `waiting` pages, and 48 bytes for each. A load of several channels keeps the main stream's
+ *    page records of the open round, which are bounded as much. The sections, and the rounds of a
+ *    main stream, that one piece completes aren't bounded. So pieces are short, and a sender whose
  *    `_fed` rises far without `_rounds` is given up. Each load tests `waiting`, so that all have
  *    one result. 2 * pages + 1 suffices if each page is sent at most once in a section or round.
  *  - `zero_blocks`: any number but 0 says that the blocks of a load into the caller's own hold
@@ -338,13 +337,22 @@ ZIMGASOL_ASSERT(sizeof(zimgasol_round_end) == sizeof(uint32_t), "an enum has the
  *    and a sender that repeats pages of zeros costs little. It is the caller's word that nothing
  *    proves: where a page holds something else that was never written, it is left in the guest. A
  *    load with memory of its own doesn't use it.
+ *  - `whole_rounds`: any number but 0 says that a load of 1 to 255 channels writes whole rounds
+ *    alone. After each call the blocks have the rounds that zimgasol_load_rounds counts, and
+ *    nothing else, whatever has come of the next round. So they stay after a fault, too, and after
+ *    a refused allocation. The load keeps the pages of the open round apart until that round was
+ *    judged, and copies them into the blocks then. It reserves memory for a second guest: the
+ *    system gives it as a round needs it, and each round uses it again. Pages aren't claimed
+ *    (zimgasol_load_claim). A load of 0 channels is refused with it: one stream by whole sections
+ *    is a zimgasol_loader. A load with memory of its own doesn't use it.
  *  - `reserved`: zeros, as room for what may come. */
 typedef struct zimgasol_settings {
     zimgasol_frame frame;
     zimgasol_round_end round_end;
     uint64_t waiting;
     uint64_t zero_blocks;
-    uint64_t reserved[5];
+    uint64_t whole_rounds;
+    uint64_t reserved[4];
 } zimgasol_settings;
 
 /* A RAM block: its id, which a byte 0 ends, as in QEMU's idstr, and how many pages it has. */
@@ -438,7 +446,6 @@ typedef struct zimgasol_next {
 typedef struct zimgasol_table { void *at; uint64_t full; } zimgasol_table;
 typedef struct zimgasol_load { void *at; uint64_t full; } zimgasol_load;
 typedef struct zimgasol_loader { void *at; uint64_t full; } zimgasol_loader;
-typedef struct zimgasol_session { void *at; uint64_t full; } zimgasol_session;
 typedef struct zimgasol_sender { void *at; uint64_t full; } zimgasol_sender;
 typedef struct zimgasol_multi { void *at; uint64_t full; } zimgasol_multi;
 typedef struct zimgasol_worker { void *at; uint64_t full; } zimgasol_worker;
@@ -597,98 +604,6 @@ ZIMGASOL_CHECKED zimgasol_status zimgasol_loader_next_nonzero(zimgasol_loader *l
 /* Frees it, with the memory that it loaded. */
 ZIMGASOL_API void zimgasol_loader_free(zimgasol_loader *loader);
 
-/* ---- a load of several channels: a main stream and its channels, which are fed in pieces and in
- *      any order */
-
-/* Makes a session of 1 to 255 channels under a UUID of 16 bytes. Its main stream is read in this
- * frame. Returns DONE, BAD_PAGE_SIZE, BAD_LIMIT, BAD_CHANNELS, BAD_LENGTH (of the UUID), BAD_FRAME
- * or NO_MEMORY. */
-ZIMGASOL_CHECKED zimgasol_status zimgasol_session_new(zimgasol_session *session, uint64_t page_size,
-    const uint8_t *uuid, size_t uuid_len, size_t channels, uint64_t limit, zimgasol_frame frame);
-
-/* As zimgasol_session_new, with settings. Returns BAD_ROUND_END, too. */
-ZIMGASOL_CHECKED zimgasol_status zimgasol_session_new_within(zimgasol_session *session,
-    uint64_t page_size, const uint8_t *uuid, size_t uuid_len, size_t channels, uint64_t limit,
-    const zimgasol_settings *settings);
-
-/* Takes the next piece of a source, ZIMGASOL_MAIN or ZIMGASOL_CHANNEL(j), and puts the rounds that
- * all sources have whole into the memory. Returns DONE, also where the load is over and bytes are
- * only counted; NO_MEMORY, and then the session has failed with it for good, with the memory of the
- * rounds counted; BAD_SOURCE, IS_OVER or TOO_LONG. */
-ZIMGASOL_CHECKED zimgasol_status zimgasol_session_feed(zimgasol_session *session, size_t source,
-    const uint8_t *piece, size_t len);
-
-/* Ends a source: no piece of it is fed from now on. Returns DONE or BAD_SOURCE. */
-ZIMGASOL_CHECKED zimgasol_status zimgasol_session_end(zimgasol_session *session, size_t source);
-
-/* Reports how the load stands on what came so far: DONE, RUNNING, or the number of the fault of the
- * first round that doesn't pass. *found has the same number, with where it is. A verdict other than
- * RUNNING stays, whatever is fed.
- *
- * DONE needs the main stream closed, and every channel ended after as many rounds. RUNNING stays as
- * long as any source may have more of the round, also if another one has a fault already: the fault
- * that is reported doesn't depend on which bytes come first. To have it at once, end the sources
- * that stall. They may be at fault then, too: the main stream's fault is reported before those of
- * channels, and these in their order. */
-ZIMGASOL_CHECKED zimgasol_status zimgasol_session_verdict(zimgasol_session *session,
-    zimgasol_fault *found);
-
-/* Reports in *count how many pages of the guest no record and no packet of the rounds in its memory
- * named: they are zeros, as the memory was at first. With DONE the streams don't have them: it is 0
- * for a whole guest; a stream of changes leaves pages out and is DONE all the same. Returns whether
- * the memory is there: if not, and after NO_MEMORY, *count is unchanged. */
-ZIMGASOL_API bool zimgasol_session_missing(zimgasol_session *session, uint64_t *count);
-
-/* Returns how many bytes of a source were fed; 0 if there is no such source. */
-ZIMGASOL_API uint64_t zimgasol_session_fed(zimgasol_session *session, size_t source);
-
-/* Reports in *at how many of the bytes fed the main stream has, as zimgasol_loader_closed_at does
- * of a stream. Returns DONE; or RUNNING, with *at unchanged, if it isn't closed, or was closed only
- * after the verdict, and after NO_MEMORY. */
-ZIMGASOL_CHECKED zimgasol_status zimgasol_session_closed_at(zimgasol_session *session,
-    uint64_t *at);
-
-/* Reports in *at how many of a source's bytes are complete items without a fault, from the first
- * byte on. If the verdict is a fault of that source (11 to 49, 64, 65), the item at fault begins
- * after them: at this byte, counted from 0. The other faults are of several sources, or of a round,
- * and of no item. Returns whether it is known: not if there is no such source, as ZIMGASOL_ROUND,
- * nor after NO_MEMORY, and then *at is unchanged. What is fed once the verdict is there isn't read,
- * so it isn't counted. */
-ZIMGASOL_API bool zimgasol_session_valid_up_to(zimgasol_session *session, size_t source,
-    uint64_t *at);
-
-/* Reports in *found the fault of a source's bytes by themselves, whatever other sources have, and
- * returns its number, or DONE if they have none. It is known at once, while the verdict is RUNNING
- * as long as another source may still have bytes. A source that was ended too early has
- * STREAM_TRUNCATED, CHANNEL_TRUNCATED, or after a packet without SYNC CHANNEL_UNSYNCED: so it says
- * which connection broke. Returns BAD_SOURCE, with *found unchanged. What is fed once the verdict
- * is there isn't read: from then on each source has the fault that it had. After NO_MEMORY no fault
- * is known. */
-ZIMGASOL_CHECKED zimgasol_status zimgasol_session_fault_of(zimgasol_session *session, size_t source,
-    zimgasol_fault *found);
-
-/* Returns whether all rounds are in: the main stream is closed, each of its rounds was judged
- * lawful and is in the memory, and no channel has a further round or a fault. QEMU with a return
- * path ends its channels only after the answer, and DONE waits for their ends. So answer where this
- * is true. Then the channels end, and the verdict is DONE. A packet of a round that isn't complete
- * isn't in the memory, and doesn't count here: if a channel ends with one, that is its fault. */
-ZIMGASOL_API bool zimgasol_session_has_all_rounds(zimgasol_session *session);
-
-/* As those of a loader, but that _rounds counts rounds alone: START and END are none. */
-ZIMGASOL_API uint64_t zimgasol_session_rounds(zimgasol_session *session);
-ZIMGASOL_API size_t zimgasol_session_blocks(zimgasol_session *session);
-ZIMGASOL_CHECKED zimgasol_status zimgasol_session_block(zimgasol_session *session, size_t i,
-    zimgasol_block *out);
-ZIMGASOL_CHECKED zimgasol_status zimgasol_session_page(zimgasol_session *session, size_t block,
-    uint64_t number, uint8_t *out, size_t len);
-ZIMGASOL_CHECKED zimgasol_status zimgasol_session_read(zimgasol_session *session, size_t block,
-    uint64_t number, uint8_t *out, size_t len);
-ZIMGASOL_CHECKED zimgasol_status zimgasol_session_next_nonzero(zimgasol_session *session,
-    size_t block, uint64_t number, uint64_t *found);
-
-/* Frees it, with the memory that it loaded. */
-ZIMGASOL_API void zimgasol_session_free(zimgasol_session *session);
-
 /* ---- a load into the caller's own blocks, as the memory of a machine that is to run the guest:
  *      of one stream, or of a main stream and its channels
  *
@@ -697,7 +612,7 @@ ZIMGASOL_API void zimgasol_session_free(zimgasol_session *session);
  * kept: a page is written when its bytes have come. The load keeps a bit for each page, three of
  * several channels, and of each source the beginning of one item at most. Of several channels it
  * also keeps 8 bytes for each packet of the round, and the main stream's page records, which few
- * senders write.
+ * senders write. With whole_rounds (zimgasol_settings) it keeps the pages of the open round, too.
  *
  * Each call gets the blocks as the call before left them, but for pages that the caller read to
  * their places (zimgasol_load_wanted, zimgasol_load_claim). Blocks share no byte with each other,
@@ -705,13 +620,15 @@ ZIMGASOL_API void zimgasol_session_free(zimgasol_session *session);
  * stream declares as zeros is compared, and isn't written where the block has zeros already, so
  * that fresh pages of private anonymous memory take none of the system's. A table's stream has its
  * blocks, the same in the same order: of another one nothing is written, and the verdict is
- * OTHER_TABLE.
+ * OTHER_TABLE. A caller without blocks finds the table by zimgasol_table_of_stream: blocks of zeros
+ * from calloc, with zero_blocks, are a memory of his own.
  *
  * Of one stream the blocks have at any time all its page records so far, on top of what they held
  * at first: those of the complete sections, and those of the section that isn't complete yet. After
  * NO_MEMORY for good they have the first of these, in their order. Of several channels they have
  * all rounds that are counted between two rounds, and at DONE; within a round they may hold
- * anything at the places that it names, and so they stay where a round fails. In both the guest may
+ * anything at the places that it names, and so they stay where a round fails. With whole_rounds
+ * they have the rounds counted, and nothing else, after each call. In all of these the guest may
  * run after DONE alone. Where no record and no packet writes a page, a block holds what it held at
  * first.
  *
@@ -727,14 +644,14 @@ ZIMGASOL_API void zimgasol_session_free(zimgasol_session *session);
  *             zimgasol_load_end(&load, source)
  *
  * Of a channel only the hello is taken while the main stream's size list may follow. Verdict and
- * rounds are those of a zimgasol_session of the bytes taken, or of one stream those of a
- * zimgasol_loader. */
+ * rounds depend on the bytes taken of each source alone, not on the pieces in which they come, nor
+ * on which source's come first. Of one stream they are a zimgasol_loader's. */
 
 /* Makes a load into blocks of a table, of which it keeps copies, with settings: of one stream, if
  * `channels` is 0, where neither UUID nor round_end is looked at; or of a main stream and 1 to 255
  * channels under a UUID of 16 bytes. Nothing is claimed. Returns DONE, or the first of these that
- * applies: BAD_CHANNELS (more than 255), BAD_LENGTH (of the UUID), BAD_FRAME, BAD_ROUND_END,
- * NO_MEMORY. */
+ * applies: BAD_CHANNELS (more than 255, or 0 with whole_rounds), BAD_LENGTH (of the UUID),
+ * BAD_FRAME, BAD_ROUND_END, NO_MEMORY. */
 ZIMGASOL_CHECKED zimgasol_status zimgasol_load_new(zimgasol_load *load, zimgasol_table *table,
     const uint8_t *uuid, size_t uuid_len, size_t channels, const zimgasol_settings *settings);
 
@@ -742,7 +659,8 @@ ZIMGASOL_CHECKED zimgasol_status zimgasol_load_new(zimgasol_load *load, zimgasol
  * their pages into the blocks, of which there are `count`, in the table's order. The piece may go
  * afterwards, and the array `blocks` stays as it is. *taken is how many bytes it took: with DONE
  * all, or of several channels fewer, as above; else 0. (Where the load has failed for good with
- * NO_MEMORY, bytes of the piece may be written, and _fed counts them.)
+ * NO_MEMORY, bytes of the piece may be taken: _fed counts them, and their pages may be written.
+ * With whole_rounds only those of rounds that _rounds counts are.)
  *
  * Returns DONE, also where the verdict is there: then no byte is taken of several channels, and
  * those of one stream are only counted. Or the first of these that applies, and nothing has
@@ -770,16 +688,19 @@ ZIMGASOL_CHECKED zimgasol_status zimgasol_load_end(zimgasol_load *load, size_t s
  * of RAM's END). It is RUNNING if it has no fault so far, and STREAM_TRUNCATED (34) in its place
  * after _end; else the number of its first fault.
  *
- * Several channels stand as in zimgasol_session_verdict: DONE needs the main stream closed, and
- * every channel ended after as many rounds; the fault is that of the first round that doesn't
- * pass. */
+ * Several channels are DONE once the main stream is closed, and every channel ended after as many
+ * rounds. They are RUNNING as long as any source may have more of the round, also if another one
+ * has a fault already: the fault that is reported doesn't depend on which bytes come first. It is
+ * that of the first round that doesn't pass, and stays, whatever is fed. To have it at once, end
+ * the sources that stall. They may be at fault then, too: the main stream's fault is reported
+ * before those of channels, and these in their order. */
 ZIMGASOL_CHECKED zimgasol_status zimgasol_load_verdict(zimgasol_load *load, zimgasol_fault *found);
 
 /* Reports in *found the fault of the bytes taken of a source by themselves, whatever other sources
  * have, and returns its number, or DONE if they have none. It is known at once, where the verdict
  * on several channels is RUNNING as long as another source may still have bytes, and then names the
  * first source with a fault. A source that was ended too early has STREAM_TRUNCATED,
- * CHANNEL_TRUNCATED, or behind a packet without SYNC CHANNEL_UNSYNCED: so it says which connection
+ * CHANNEL_TRUNCATED, or after a packet without SYNC CHANNEL_UNSYNCED: so it says which connection
  * broke. Another table is no fault of a main stream's own, but of one stream it is OTHER_TABLE.
  * Returns BAD_SOURCE, with *found unchanged. After NO_MEMORY no fault of several channels is known,
  * and that of one stream is NO_MEMORY. */
@@ -793,9 +714,9 @@ ZIMGASOL_CHECKED zimgasol_status zimgasol_load_fault_of(zimgasol_load *load, siz
  * rounds once it is closed. */
 ZIMGASOL_API bool zimgasol_load_has_all_rounds(zimgasol_load *load);
 
-/* Returns how many rounds of several channels were judged lawful: the blocks have all of them. Of
- * one stream it is how many sections are complete in the blocks, which may have records of the next
- * one, too. START and END count. */
+/* Returns how many rounds of several channels were judged lawful: the blocks have all of them, and
+ * with whole_rounds nothing else. START and END are none. Of one stream it is how many sections are
+ * complete in the blocks, which may have records of the next one, too. START and END count. */
 ZIMGASOL_API uint64_t zimgasol_load_rounds(zimgasol_load *load);
 
 /* Returns how many pages of the blocks no record and no packet of the rounds counted, or of the one
@@ -815,9 +736,10 @@ ZIMGASOL_API uint64_t zimgasol_load_fed(zimgasol_load *load, size_t source);
 ZIMGASOL_CHECKED zimgasol_status zimgasol_load_closed_at(zimgasol_load *load, uint64_t *at);
 
 /* Reports in *at how many of the bytes taken of a source are complete items without a fault, from
- * the first byte on: the item at fault begins after them. Returns whether it is known: not if there
- * is no such source, nor after NO_MEMORY, nor of one stream with OTHER_TABLE; then *at is
- * unchanged. */
+ * the first byte on. If the verdict is a fault of that source (11 to 49, 64, 65), the item at fault
+ * begins after them: at this byte, counted from 0. The other faults are of several sources, or of a
+ * round, and of no item. Returns whether it is known: not if there is no such source, as
+ * ZIMGASOL_ROUND, nor after NO_MEMORY, nor of one stream with OTHER_TABLE; then *at stays. */
 ZIMGASOL_API bool zimgasol_load_valid_up_to(zimgasol_load *load, size_t source, uint64_t *at);
 
 /* Frees it. The blocks stay the caller's. */
@@ -867,6 +789,9 @@ ZIMGASOL_CHECKED zimgasol_status zimgasol_load_page_read(zimgasol_load *load,
  * Without it the thread reads the pages from its connection to their places. Under it again the
  * thread says that they are there. No place is claimed for two packets at once, and as long as
  * pages are claimed no call gets the blocks. So a claimed page is its thread's alone.
+ *
+ * A load of whole rounds (whole_rounds of zimgasol_settings) claims nothing: its blocks have no
+ * page of an open round. All bytes are fed to it.
  *
  * All other bytes are fed, while nothing is claimed: hellos, SYNC packets, the main stream, and
  * what has a fault. Channels that come to a SYNC wait for each other there in any case. Let
@@ -918,9 +843,9 @@ ZIMGASOL_CHECKED zimgasol_status zimgasol_load_page_read(zimgasol_load *load,
  *    until _take;
  *  - IS_CLAIMED: one of them is claimed for another packet. The caller asks again after that one
  *    was taken;
- *  - TO_FEED: no packet with this head is taken apart. It is a SYNC packet or none, it has a
- *    fault, a page of it or of the round is misplaced, or no bytes of the channel are taken now.
- *    The caller passes the bytes to _feed, which says what they are;
+ *  - TO_FEED: no packet with this head is taken apart. It is a SYNC packet or none, it has a fault,
+ *    a page of it or of the round is misplaced, no bytes of the channel are taken now, or the load
+ *    is one of whole_rounds. The caller passes the bytes to _feed, which says what they are;
  *  - BAD_SOURCE: there is no such channel.
  * But for RUNNING nothing is claimed, and *pages stays as it is. */
 ZIMGASOL_CHECKED zimgasol_status zimgasol_load_claim(zimgasol_load *load, size_t channel,
@@ -929,13 +854,13 @@ ZIMGASOL_CHECKED zimgasol_status zimgasol_load_claim(zimgasol_load *load, size_t
 /* Takes the packet that was claimed with this head, once its pages are at their places: those of
  * zeros are cleared, and the others have these contents, in their order, each a page in its block
  * or a copy of it. They aren't claimed any more. Returns RUNNING; OUT_OF_TURN, if the packet isn't
- * the channel's next one, its pages aren't claimed, or there isn't a content of the page size for
- * each of its `normal`; BAD_SOURCE; or NO_MEMORY. But for RUNNING nothing has changed: after
- * NO_MEMORY the call can be made again. */
+ * the channel's next one, its pages aren't claimed, as always with whole_rounds, or there isn't a
+ * content of the page size for each of its `normal`; BAD_SOURCE; or NO_MEMORY. But for RUNNING
+ * nothing has changed: after NO_MEMORY the call can be made again. */
 ZIMGASOL_CHECKED zimgasol_status zimgasol_load_take(zimgasol_load *load, size_t channel,
     const uint8_t *head, size_t len, const zimgasol_lent *contents, size_t count);
 
-/* Returns how many pages are claimed. */
+/* Returns how many pages are claimed: 0 with whole_rounds. */
 ZIMGASOL_API uint64_t zimgasol_load_claimed(zimgasol_load *load);
 
 /* ---- a sender of one stream, whose rounds are put page by page, as they are read of a guest that

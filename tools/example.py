@@ -5,35 +5,45 @@ The worked examples of crates/mig_rows/data (`load.txt`, `several.txt` and `mach
 against the library through C. Each stream of these cases is made here byte by byte, or by the
 sender in the header, and fed in pieces of several lengths. The answer has to be the expected one,
 for every prefix and every fault, and so has that of a load into the program's own blocks, which
-have every page record up to the end or the fault. Then the example programs send and load files of
-memory, a guest is migrated while it runs, on one stream and on several channels, and a program has
-each allocation refused in turn. Connections are lost in the middle of a round, at either end. All
-but the cases also run under valgrind, if it is installed, and the live migrations with
-AddressSanitizer, that on several channels with ThreadSanitizer, too. The binding from Rust is built
-if rustc is installed. The names that the archive defines and needs are compared with those in
-docs/C.md.
+have every page record up to the end or the fault. Of several channels the blocks have whole rounds
+after each piece, and a load page by page has the same answer. Then the example programs send and
+load files of memory, a guest is migrated while it runs, on one stream and on several channels, and
+a program has each allocation refused in turn. Connections are lost in the middle of a round, at
+either end. The three programs of docs/C.md have a peer that is written here, and read files that
+are made here. All but the cases also run under valgrind, if it is installed, and the live
+migrations with AddressSanitizer, that on several channels with ThreadSanitizer, too. The binding
+from Rust is built if rustc is installed. The names that the archive defines and needs are compared
+with those in docs/C.md.
 """
 
+import contextlib
 import ctypes
+import hashlib
 import itertools
 import os
 import pathlib
+import random
 import re
 import shutil
+import socket
 import subprocess
 import sys
 import tempfile
+import threading
 
 TOP = pathlib.Path(__file__).resolve().parent.parent
 OUT = TOP / "out/c"
 LIBRARY = TOP / "out/libzimgasol.a"
 FLAGS = ["-std=c11", "-O1", "-g", "-Wall", "-Wextra", "-Werror", f"-I{TOP}/include"]
+# beside these, of the programs that docs/C.md quotes
+STRICT = ["-O2", "-Wpedantic"]
 CUTS = (0, 1, 7, 100, 4096)
 DATA = TOP / "crates/mig_rows/data"
 LIMIT = 1 << 40
 MOST_SECONDS = 1200
 
 CC = os.environ.get("CC", "cc")
+LIBC = ctypes.CDLL(None)
 # a program ends at the first race
 os.environ.setdefault("TSAN_OPTIONS", "halt_on_error=1")
 VALGRIND = ["valgrind", "-q", "--error-exitcode=99", "--leak-check=full", "--errors-for-leak-kinds=all"] if shutil.which("valgrind") else None
@@ -81,7 +91,7 @@ class Handle(ctypes.Structure):
 
 class Settings(ctypes.Structure):
     _fields_ = [("frame", ctypes.c_uint32), ("round_end", ctypes.c_uint32), ("waiting", ctypes.c_uint64), ("zero_blocks", ctypes.c_uint64),
-                ("reserved", ctypes.c_uint64 * 5)]
+                ("whole_rounds", ctypes.c_uint64), ("reserved", ctypes.c_uint64 * 4)]
 
 
 class Buffer(ctypes.Structure):
@@ -101,13 +111,15 @@ class Library:
 
     def __init__(self):
         self.calls = ctypes.CDLL(str(TOP / "out/libzimgasol.so"))
-        for name in ("sender_drain", "loader_blocks", "session_blocks"):
+        for name in ("sender_drain", "loader_blocks", "table_blocks"):
             getattr(self.calls, "zimgasol_" + name).restype = ctypes.c_size_t
-        for name in ("loader_rounds", "load_rounds", "session_rounds", "read_fault_text"):
+        for name in ("loader_rounds", "load_rounds", "read_fault_text"):
             getattr(self.calls, "zimgasol_" + name).restype = ctypes.c_uint64
-        for name in ("table_new", "sender_new", "load_new", "load_feed", "load_end", "load_page_read", "hello", "put_packet"):
+        for name in ("table_new", "table_of_stream", "table_block", "sender_new", "load_new", "load_feed", "load_end", "load_page_read", "hello",
+                     "put_packet"):
             getattr(self.calls, "zimgasol_" + name).restype = ctypes.c_uint32
-        self.calls.zimgasol_load_wanted.restype = ctypes.c_bool
+        for name in ("load_wanted", "load_takes"):
+            getattr(self.calls, "zimgasol_" + name).restype = ctypes.c_bool
 
     def call(self, name, *arguments):
         return getattr(self.calls, "zimgasol_" + name)(*arguments)
@@ -298,16 +310,16 @@ def runs_of(content):
 
 
 class Asked:
-    """A load through the header: one stream, or a main stream and its channels."""
+    """A loader through the header."""
 
-    def __init__(self, library, kind):
-        self.library, self.kind, self.handle = library, kind, Handle()
+    def __init__(self, library):
+        self.library, self.handle = library, Handle()
 
     def call(self, name, *arguments):
-        return self.library.call(f"{self.kind}_{name}", ctypes.byref(self.handle), *arguments)
+        return self.library.call(f"loader_{name}", ctypes.byref(self.handle), *arguments)
 
     def done(self, name, *arguments):
-        self.library.done(f"{self.kind}_{name}", ctypes.byref(self.handle), *arguments)
+        self.library.done(f"loader_{name}", ctypes.byref(self.handle), *arguments)
 
     def table(self):
         """The blocks that the stream brought: of each how many pages, and its id."""
@@ -414,7 +426,7 @@ def pieces(text, cut):
 
 
 def load_single(library, page_size, limit, frame, text, cut):
-    asked = Asked(library, "loader")
+    asked = Asked(library)
     asked.done("new", u64(page_size), u64(limit), frame)
     for piece in pieces(text, cut):
         asked.done("feed", piece, size(len(piece)))
@@ -446,13 +458,30 @@ def read_straight(library, load, blocks, text):
             break
 
 
+def differs(buffer, content, length):
+    """Whether a buffer holds something else."""
+    return LIBC.memcmp(buffer, content, size(length)) != 0
+
+
+def blocks_of(page_size, named):
+    """Buffers of zeros for blocks, each a number of pages and an id, and how a load is passed them."""
+    buffers = [ctypes.create_string_buffer(pages * page_size) for pages, _ in named]
+    return buffers, (Buffer * len(buffers))(*(Buffer(ctypes.addressof(it), len(it)) for it in buffers))
+
+
+def pages_of(page_size, buffers):
+    """The pages that buffers hold, each with its block and number."""
+    for i, buffer in enumerate(buffers):
+        content = buffer.raw
+        yield from ((i, at // page_size, content[at:at + page_size]) for at in range(0, len(content), page_size))
+
+
 def load_in_place(library, page_size, named, frame, text, cut):
     """A load into blocks of our own, which are zeros at first: what is told of it. Without a cut it is read by what comes next."""
     table, load, fault, settings = library.table(page_size, named), Handle(), Fault(), Settings(frame=frame)
     library.done("load_new", ctypes.byref(load), ctypes.byref(table), b"", size(0), size(0), ctypes.byref(settings))
     library.call("table_free", ctypes.byref(table))
-    buffers = [ctypes.create_string_buffer(pages * page_size) for pages, _ in named]
-    blocks = (Buffer * len(buffers))(*(Buffer(ctypes.addressof(it), len(it)) for it in buffers))
+    buffers, blocks = blocks_of(page_size, named)
     if cut is None:
         read_straight(library, load, blocks, text)
     for piece in pieces(text, cut) if cut is not None else ():
@@ -461,21 +490,93 @@ def load_in_place(library, page_size, named, frame, text, cut):
     library.call("load_verdict", ctypes.byref(load), ctypes.byref(fault))
     rounds = library.call("load_rounds", ctypes.byref(load))
     library.call("load_free", ctypes.byref(load))
-    page = slice(page_size)
-    pages = ((i, n, buffer.raw[n * page_size:][page]) for i, buffer in enumerate(buffers) for n in range(len(buffer) // page_size))
-    return f"{verdict_name(fault)}; rounds {rounds}; {memory_name(pages)}"
+    return f"{verdict_name(fault)}; rounds {rounds}; {memory_name(pages_of(page_size, buffers))}"
 
 
-def load_multi(library, page_size, limit, frame, texts, cut):
-    asked = Asked(library, "session")
-    asked.done("new", u64(page_size), bytes(16), size(16), size(len(texts) - 1), u64(limit), frame)
-    for turn in itertools.zip_longest(*(pieces(text, cut) for text in reversed(texts))):
-        for source, piece in zip(reversed(range(len(texts))), turn):
-            if piece is not None:
-                asked.done("feed", size(source), piece, size(len(piece)))
-    for source in range(len(texts)):
-        asked.done("end", size(source))
-    return asked.answer(page_size)
+def table_of(library, page_size, frame, text):
+    """The blocks that a stream brings, as the library reads them, each a number of pages and an id; none if it ends or has a
+    fault before its table."""
+    table, block, named = Handle(), Block(), []
+    if library.call("table_of_stream", ctypes.byref(table), u64(page_size), frame, text, size(len(text))) != 0:
+        return named
+    for i in range(library.call("table_blocks", ctypes.byref(table))):
+        library.done("table_block", ctypes.byref(table), size(i), ctypes.byref(block))
+        named.append((block.pages, bytes(block.id).partition(b"\0")[0]))
+    library.call("table_free", ctypes.byref(table))
+    return named
+
+
+class Several:
+    """A load of a main stream and its channels into blocks of our own, which are zeros at first: by whole rounds, or page by
+    page."""
+
+    def __init__(self, library, page_size, named, frame, channels, whole_rounds):
+        self.library, self.handle, self.whole_rounds = library, Handle(), whole_rounds
+        settings = Settings(frame=frame, zero_blocks=1, whole_rounds=whole_rounds)
+        self.buffers, self.blocks = blocks_of(page_size, named)
+        table = library.table(page_size, named)
+        self.done("new", ctypes.byref(table), bytes(16), size(16), size(channels), ctypes.byref(settings))
+        library.call("table_free", ctypes.byref(table))
+        self.memory, self.rounds = [it.raw for it in self.buffers], 0
+
+    def call(self, name, *arguments):
+        return self.library.call(f"load_{name}", ctypes.byref(self.handle), *arguments)
+
+    def done(self, name, *arguments):
+        self.library.done(f"load_{name}", ctypes.byref(self.handle), *arguments)
+
+    def feed(self, source, piece):
+        """Feeds a piece, and returns how many of its bytes were taken. By whole rounds the blocks change with a round that is
+        counted alone: after short pieces that isn't looked at."""
+        taken = size(0)
+        self.done("feed", self.blocks, size(len(self.blocks)), size(source), piece, size(len(piece)), ctypes.byref(taken))
+        rounds = self.call("rounds")
+        if rounds != self.rounds:
+            self.memory, self.rounds = [it.raw for it in self.buffers], rounds
+        elif self.whole_rounds and len(piece) >= 100 and any(differs(it, kept, len(it)) for it, kept in zip(self.buffers, self.memory)):
+            raise RuntimeError(f"load_feed: blocks changed within round {rounds}")
+        return taken.value
+
+    def feed_all(self, texts, cut):
+        """Feeds all sources by turns, channels first, each as long as it takes bytes, and ends each once all of it was taken."""
+        given, ended = [0] * len(texts), [False] * len(texts)
+        moved = True
+        while moved:
+            moved = False
+            for source in reversed(range(len(texts))):
+                left = len(texts[source]) - given[source]
+                if left == 0 and not ended[source]:
+                    self.done("end", size(source))
+                    ended[source] = moved = True
+                elif left and self.call("takes", size(source)):
+                    count = self.feed(source, texts[source][given[source]:given[source] + (cut or left)])
+                    given[source] += count
+                    moved = moved or count > 0
+
+    def answer(self):
+        """Where the load stands, and its rounds."""
+        fault = Fault()
+        self.call("verdict", ctypes.byref(fault))
+        told = f"{verdict_name(fault)}; rounds {self.call('rounds')}"
+        self.call("free")
+        return told
+
+
+def load_multi(library, page_size, frame, texts, cut):
+    """What is told of a load of several channels, with what the blocks hold by whole rounds. Page by page the same is told,
+    and the blocks hold the same without a fault."""
+    table = table_of(library, page_size, frame, texts[0])
+    told = []
+    for whole_rounds in (1, 0):
+        load = Several(library, page_size, table or [(1, b"other")], frame, len(texts) - 1, whole_rounds)
+        load.feed_all(texts, cut)
+        told.append((load.answer(), memory_name(pages_of(page_size, load.buffers))))
+    (whole, memory), (placed, blocks) = told
+    if placed != whole or (whole.startswith("ok") and blocks != memory):
+        return f"by whole rounds {whole}; {memory}, and page by page {placed}; {blocks}"
+    if not table and memory == "zeros":
+        memory = "none"
+    return f"{whole}; {memory}"
 
 
 class Case:
@@ -587,9 +688,10 @@ class Rows:
         elif question == "load_single":
             for cut in CUTS:
                 self.single(name, f"{question} in pieces of {cut}", case, text, cut, wanted)
-        elif question == "load_multi":
+        elif question == "load_multi" and case.limit == LIMIT:
+            # a load into blocks has the table in place of a limit
             for cut in CUTS[:1] + CUTS[2:]:
-                self.want(name, f"{question} in pieces of {cut}", load_multi(self.library, case.guest.page, case.limit, case.frame, case.texts, cut)[0], wanted)
+                self.want(name, f"{question} in pieces of {cut}", load_multi(self.library, case.guest.page, case.frame, case.texts, cut), wanted)
         elif question.startswith("each ") and question.endswith("load_single"):
             _, first, last, _ = question.split()
             for length in range(int(first), int(last) + 1):
@@ -862,6 +964,285 @@ def stored_scenario(before, rows):
         run(*before, OUT / "in_place", "other=1", stdin=file, wanted="fault 63 round 0", status=1)
 
 
+# ---- the programs of the tutorial (docs/C.md), with streams that are made and read here
+
+
+MACHINE = [(2048, b"mem0"), (2048, b"mem1")]
+LOADED = bytes.fromhex("0001000400000000")
+CONFIGURATION = b"\7" + be(4, 4) + b"none"
+
+
+def rounds_of(blocks, left_out=0):
+    """Three rounds of pages: none; each page but some of the first, of which few aren't zeros; and some of these again. Returns
+    them, and the memory after them."""
+    contents = random.Random(1)
+    places = [(b, n) for b, (pages, _) in enumerate(blocks) for n in range(pages)]
+    all_of = {(b, n): contents.randbytes(4096) if n < 300 and n % 5 != 2 else b"" for b, n in places[left_out:]}
+    again = {place: b"" if all_of[place] else contents.randbytes(4096) for place in places[left_out + 7::31]}
+    memory = all_of | again
+    return [{}, all_of, again], b"".join(memory.get(place, b"").ljust(4096, b"\0") for place in places)
+
+
+def packets_of(rounds, channels):
+    """The streams of some channels, whose packets of at most 100 pages go to one after another. Returns them, and where the
+    packets of each begin."""
+    texts, places, number = [be(0x11223344, 4) + be(1, 4) + bytes(16) + be(j, 1) + bytes(39) for j in range(channels)], [[] for _ in range(channels)], 0
+
+    def put(channel, flags, name, pages):
+        nonlocal number
+        normal, zero = [n for n in pages if pages[n]], [n for n in pages if not pages[n]]
+        head = b"".join(be(it, 4) for it in (0x11223344, 1, flags, 128, len(normal), 4096 * len(normal))) + be(number, 8) + be(len(zero), 4)
+        offsets = b"".join(be(4096 * n, 8) for n in normal + zero)
+        places[channel].append(len(texts[channel]))
+        texts[channel] += head + bytes(28) + name.ljust(256, b"\0") + offsets.ljust(1024, b"\0") + b"".join(pages[n] for n in normal)
+        number += 1
+
+    for pages in rounds:
+        for block, (_, name) in enumerate(MACHINE):
+            numbers = [n for b, n in pages if b == block]
+            for at in range(0, len(numbers), 100):
+                put(number % channels, 0, name, {n: pages[block, n] for n in numbers[at:at + 100]})
+        for channel in range(channels):
+            put(channel, 1, b"", {})
+    return texts, places
+
+
+def main_of(rounds):
+    """A main stream of the machine up to its end byte."""
+    guest = Guest()
+    guest.blocks, guest.rounds = MACHINE, rounds
+    return main_stream(guest)
+
+
+def stream_of(blocks, rounds):
+    """RAM of a machine's stream: these rounds as sections. Returns it, and where its page records begin."""
+    guest, records = Guest(), []
+    guest.blocks = blocks
+    empty = main_stream(guest)
+    text = empty[:8] + CONFIGURATION + empty[8:-19]
+    for pages in rounds:
+        text, last = text + be(2, 1) + be(1, 4), None
+        for (block, number), content in pages.items():
+            name = b"" if block == last else be(len(blocks[block][1]), 1) + blocks[block][1]
+            records.append(len(text))
+            text += be(4096 * number | (8 if content else 2) | (0x20 if block == last else 0), 8) + name + (content or b"\0")
+            last = block
+        text += EOS
+    return text + empty[-19:-1], records
+
+
+def joined(pairs, program, words, before=()):
+    """Starts a program with its ends of some connections."""
+    numbers = [str(theirs.fileno()) for _, theirs in pairs]
+    started = subprocess.Popen([*before, OUT / program, *words, *numbers], stdout=subprocess.PIPE, stderr=subprocess.PIPE, pass_fds=[int(it) for it in numbers])
+    for _, theirs in pairs:
+        theirs.close()
+    return started
+
+
+def ended(program):
+    out, said = program.communicate(timeout=MOST_SECONDS)
+    return program.returncode, said.decode().strip(), out
+
+
+def live_received(before, texts, wanted, cut=None):
+    """Sends streams to receive_live, the main one on its second connection, and the channels in the reverse order. The channel
+    that is `cut` ends after its bytes, and the others after the answer, which has to be the one that is wanted."""
+    pairs = [socket.socketpair() for _ in texts]
+    order = [*range(len(texts) - 1, 0, -1)]
+    order.insert(1, 0)
+    program = joined([pairs[s] for s in order], "receive_live", [], before)
+
+    def send(s):
+        with contextlib.suppress(OSError):
+            pairs[s][0].sendall(texts[s])
+            if s == cut:
+                pairs[s][0].shutdown(socket.SHUT_WR)
+
+    def finish():
+        with contextlib.suppress(OSError):
+            answers.append(pairs[0][0].recv(8, socket.MSG_WAITALL))
+        for mine, _ in reversed(pairs):
+            mine.close()
+
+    answers, threads = [], [threading.Thread(target=send, args=[s]) for s in range(len(texts))] + [threading.Thread(target=finish)]
+    for thread in threads:
+        thread.start()
+    found = ended(program)
+    for thread in threads:
+        thread.join()
+    if b"".join(answers) != wanted:
+        sys.exit(f"receive_live answered {answers}, not {wanted}: {found[1]}")
+    return found
+
+
+def leaving(before):
+    """Before a program that ends at a fault, and leaves its memory to the system."""
+    return [*before, "--leak-check=no"] if before else []
+
+
+def receiving(before):
+    """receive_live loads one stream and channels: whole, without some pages, with a fault, and cut."""
+    for channels in (0, 1, 3):
+        for left_out, last in ((0, 0), (5, 1)):
+            rounds, memory = rounds_of(MACHINE, left_out)
+            one, records = stream_of(MACHINE, rounds)
+            texts, places = packets_of(rounds, channels) if channels else ([], [])
+            main = main_of(rounds)
+            main = main[:8] + CONFIGURATION + main[8:-1] if channels else one
+            counted = "3 rounds" if channels else "5 sections"
+            status, said, blocks = live_received(before, [main + b"devices", *texts], LOADED[:-1] + be(last, 1))
+            if status != 2 * last or blocks != memory or not re.fullmatch(rf"received: {counted}, {left_out} pages missing, [0-7] bytes after RAM", said):
+                found = "same" if blocks == memory else "other"
+                sys.exit(f"receive_live, {channels} channels without {left_out} pages: status {status}, {said}, {found} memory")
+            if channels and not said.endswith(" 7 bytes after RAM"):
+                sys.exit(f"receive_live: {said}")
+        # a fault, or the end, in the last source: in its first packet with pages, or in a record of the second round
+        *others, text = main, *texts
+        at = next(it for it in places[-1] if any(text[it + 16:it + 20])) if channels else records[100]
+        where = f"channel 0, after 1 rounds, at byte {at}" if channels else f"after 2 rounds, at byte {at}"
+        flags = at + 11 if channels else at + 7
+        for number, bad in ((41 if channels else 27, text[:flags] + b"\x44" + text[flags + 1:]), (44 if channels else 34, text[:at + 3])):
+            status, said, blocks = live_received(leaving(before), [*others, bad], b"", channels)
+            if status != 1 or blocks or not re.fullmatch(f"not received: {number}, .*, {where}", said):
+                sys.exit(f"receive_live, a fault {number}, {where}: status {status}, {said}")
+
+
+def read_channel(text):
+    """The rounds of a channel: of each its packets' numbers, and the contents of its pages by block and number."""
+    if text[:24] + text[25:64] != be(0x11223344, 4) + be(1, 4) + bytes(55):
+        sys.exit(f"send_live: a hello {text[:64].hex()}")
+    at, rounds = 64, [([], {})]
+    while at < len(text):
+        magic, version, flags, _, normal, size, high, low, zero = (int.from_bytes(text[at + 4 * i:at + 4 * i + 4], "big") for i in range(9))
+        block = text[at + 64:at + 320].rstrip(b"\0")
+        pages = [int.from_bytes(text[at + 320 + 8 * i:at + 328 + 8 * i], "big") // 4096 for i in range(normal + zero)]
+        contents = at + 1344
+        at = contents + size
+        if (magic, version, size) != (0x11223344, 1, 4096 * normal) or flags > 1 or at > len(text):
+            sys.exit(f"send_live: a packet {text[contents - 1344:contents - 1024].hex()}")
+        rounds[-1][0].append(high << 32 | low)
+        for i, page in enumerate(pages):
+            rounds[-1][1][block, page] = text[contents + 4096 * i:contents + 4096 * i + 4096] if i < normal else bytes(4096)
+        if flags:
+            rounds.append(([], {}))
+    if rounds.pop() != ([], {}):
+        sys.exit("send_live: a channel ends without SYNC")
+    return rounds
+
+
+def filled(theirs):
+    """Fills a connection with bytes, as many as it holds, so that no more can be sent until some are read. Returns how many."""
+    theirs.setblocking(False)
+    count = 0
+    with contextlib.suppress(BlockingIOError):
+        while True:
+            count += theirs.send(bytes(4096))
+    theirs.setblocking(True)
+    return count
+
+
+def sending(before, channels, answer):
+    """Reads what send_live sends, and compares the memory after the rounds with the guest's. The first bytes of the main stream have
+    to come while nothing can be sent on a channel, and the channels end after the answer."""
+    pairs = [socket.socketpair() for _ in range(1 + channels)]
+    full = [0] + [filled(theirs) for _, theirs in pairs[1:]]
+    pairs[0][0].settimeout(120)
+    program = joined(pairs, "send_live", [], before)
+    texts = [bytearray() for _ in pairs]
+
+    def read(s):
+        while piece := pairs[s][0].recv(1 << 16):
+            texts[s] += piece
+
+    empty = main_of([])
+    start, end = len(empty) - 19, empty[-19:]
+    texts[0] += pairs[0][0].recv(start, socket.MSG_WAITALL)
+    threads = [threading.Thread(target=read, args=[s]) for s in range(1, len(pairs))]
+    for thread in threads:
+        thread.start()
+    while not texts[0].endswith(end):
+        if not (piece := pairs[0][0].recv(26)):
+            sys.exit(f"send_live ended its main stream: {ended(program)[:2]}")
+        texts[0] += piece
+    threads[0].join(0.3)
+    if not all(thread.is_alive() for thread in threads):
+        sys.exit("send_live ended a channel before the answer")
+    pairs[0][0].sendall(answer)
+    for thread in threads:
+        thread.join()
+    status, said, guest = ended(program)
+    rounds = [read_channel(bytes(it[more:])) for it, more in zip(texts[1:], full[1:])]
+    memory, number, named = {}, 0, []
+    for parts in zip(*rounds, strict=True):
+        numbers = sorted(it for some, _ in parts for it in some)
+        pages = [place for _, some in parts for place in some]
+        if numbers != list(range(number, number + len(numbers))) or len(pages) != len(set(pages)):
+            sys.exit(f"send_live: numbers {numbers[:3]} .. after {number}, or a page twice in a round")
+        number += len(numbers)
+        named.append(len(pages))
+        for _, some in parts:
+            memory.update(some)
+    loaded = b"".join(memory.get((name, n), b"") for pages, name in MACHINE for n in range(pages))
+    if status != (answer != LOADED) or said or loaded != guest or named[:2] != [0, 4096] or len(named) < 3 or texts[0] != main_of(named):
+        found = "same" if loaded == guest else "other"
+        sys.exit(f"send_live: status {status}, {said}, rounds of {named} pages, {found} memory")
+    for mine, _ in pairs:
+        mine.close()
+
+
+def migrating(sender, receiver, before=()):
+    """send_live and receive_live, one with the other: both write the same memory."""
+    pairs = [socket.socketpair() for _ in range(4)]
+    programs = [joined([(None, pair[i]) for pair in pairs], name, [], before) for i, name in enumerate((sender, receiver))]
+    (sent, lost, guest), (got, said, blocks) = (ended(it) for it in programs)
+    if (sent, got, lost) != (0, 0, "") or guest != blocks or len(guest) != 4096 * 4096:
+        sys.exit(f"{sender} and {receiver}: status {sent} and {got}, {lost}, {said}")
+
+
+def reading(before):
+    """read_file loads files: whole, without some pages, with a fault at a place that is known, and without blocks."""
+    blocks = [(300, b"pc.ram"), (7, b"vga.vram")]
+    file, output = OUT / "saved", OUT / "blocks"
+    for left_out in (0, 5):
+        rounds, memory = rounds_of(blocks, left_out)
+        stream, records = stream_of(blocks, rounds)
+        file.write_bytes(stream + b"\4 devices")
+        run(*before, OUT / "read_file", file, output, status=2 if left_out else 0,
+            wanted=f"pc.ram: 300 pages\nvga.vram: 7 pages\n5 sections, {left_out} pages missing, RAM ends at byte {len(stream)}")
+        if output.read_bytes() != memory:
+            sys.exit("read_file's blocks aren't the memory that was saved")
+    # QEMU's own files, of one block each, with the checksum of QEMU's memory
+    for sums in (TOP / "runs/captures").glob("*.sums"):
+        saved, wanted = sums.with_suffix(".stream"), sums.read_text().strip()
+        if saved.exists() and wanted != "-":
+            run(*before, OUT / "read_file", saved, output)
+            if hashlib.sha256(output.read_bytes()).hexdigest() != wanted:
+                sys.exit(f"read_file's block of {saved.name} isn't QEMU's memory")
+    at = records[50]
+    flags = stream[:at + 7] + b"\x44" + stream[at + 8:]
+    faults = [(f"27, .* 0x44, after 2 rounds, at byte {at}", flags), (f"34, .*, after 2 rounds, at byte {at}", stream[:at + 3]),
+              ("no blocks: .*", stream[:60]), ("no blocks: .*", b"Q" * 100000)]
+    for wanted, text in faults:
+        file.write_bytes(text)
+        done = subprocess.run([*leaving(before), OUT / "read_file", file], capture_output=True, timeout=MOST_SECONDS)
+        if done.returncode != 1 or not re.fullmatch(wanted, done.stderr.decode().strip()):
+            sys.exit(f"read_file: status {done.returncode}, {done.stderr.decode()}, not {wanted}")
+
+
+def tutorial():
+    """The three programs of docs/C.md, with streams that are made and read here, and one with another."""
+    for before in [[]] + ([VALGRIND] if VALGRIND else []):
+        receiving(before)
+        reading(before)
+        slowly = [*before, "--fair-sched=yes"] if before else []
+        sending(slowly, 1, LOADED)
+        sending(slowly, 3, LOADED[:-1] + b"\1")
+        migrating("send_live", "receive_live", slowly)
+    migrating("send_live_tsan", "receive_live_asan")
+    migrating("send_live_asan", "receive_live_asan")
+
+
 def main():
     if not LIBRARY.exists():
         sys.exit("out/libzimgasol.a isn't there: make lib")
@@ -869,6 +1250,12 @@ def main():
     build("in_place", "examples/c/in_place.c")
     build("send", "examples/c/send.c")
     build("page", "examples/c/page.c")
+    build("receive_live", "examples/c/receive_live.c", *STRICT)
+    build("send_live", "examples/c/send_live.c", "-pthread", *STRICT)
+    build("read_file", "examples/c/read_file.c", *STRICT)
+    build("receive_live_asan", "examples/c/receive_live.c", "-fsanitize=address,undefined")
+    build("send_live_asan", "examples/c/send_live.c", "-pthread", "-fsanitize=address,undefined")
+    build("send_live_tsan", "examples/c/send_live.c", "-pthread", "-fsanitize=thread")
     build("live", "examples/c/live.c", "-pthread")
     build("live_asan", "examples/c/live.c", "-pthread", "-fsanitize=address,undefined")
     build("channels", "examples/c/channels.c", "-pthread")
@@ -877,6 +1264,7 @@ def main():
     build("channel_calls", "examples/c/tests/channels.c")
     build("heads", "examples/c/tests/heads.c")
     build("round_ends", "examples/c/tests/round_ends.c")
+    build("whole_rounds", "examples/c/tests/whole_rounds.c", REFUSING)
     build("zero_blocks", "examples/c/tests/zero_blocks.c")
     build("loads", "examples/c/tests/loads.c")
     build("apart", "examples/c/tests/apart.c", "-pthread")
@@ -905,11 +1293,14 @@ def main():
         print(run(*before, OUT / "channel_calls").decode().strip() + under)
         print(run(*before, OUT / "heads").decode().strip() + under)
         print(run(*before, OUT / "round_ends").decode().strip() + under)
+        print(run(*before, OUT / "whole_rounds").decode().strip() + under)
         print(run(*before, OUT / "zero_blocks").decode().strip() + under)
         print(run(*before, OUT / "loads").decode().strip() + under)
         print(run(*before, OUT / "tables").decode().strip() + under)
         print(run(*before, OUT / "apart").decode().strip() + under)
     failing_read()
+    tutorial()
+    print("the programs of docs/C.md: with a peer in Python, and one with another, each as it should be")
     live()
     print("a guest migrated while it ran: no page differs")
     channels()

@@ -19,7 +19,6 @@ STRUCTS = {
     "TableHandle": "zimgasol_table",
     "LoaderHandle": "zimgasol_loader",
     "LoadHandle": "zimgasol_load",
-    "SessionHandle": "zimgasol_session",
     "SenderHandle": "zimgasol_sender",
     "MultiHandle": "zimgasol_multi",
     "WorkerHandle": "zimgasol_worker",

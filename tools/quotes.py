@@ -14,7 +14,7 @@ TOP = Path(__file__).resolve().parent.parent
 MARK = "<!-- quoted from "
 QUOTE = re.compile(rf"^{MARK}(\S+) -->\n+```(?:rust|c)\n(.*?)^```$", re.MULTILINE | re.DOTALL)
 IMPORT = re.compile(r"use [\w:]+(::\{.*\})?;$")
-PAGES = ("README.md", "docs/EMBEDDING.md")
+PAGES = ("README.md", "docs/EMBEDDING.md", "docs/C.md")
 FACADE = "crates/zimgasol/src/lib.rt"
 # the main types, each with an example
 TYPES = """Table Memory LentMemory LentMemoryMut Dirty SingleSender MultiSender LoadSettings

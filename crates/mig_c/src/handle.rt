@@ -125,17 +125,6 @@ pub struct LoadHandle {
     ghost says: { full ≡ 0 ↔ handle.value ≡ None },
 }
 
-/// A load of several channels, or none.
-#[repr(C)]
-#[derive(Drop)]
-pub struct SessionHandle {
-    /// The handle of the object.
-    pub handle: Handle,
-    /// 0 if there is no object, else 1.
-    pub full: u64,
-    ghost says: { full ≡ 0 ↔ handle.value ≡ None },
-}
-
 /// A sender of one stream, or none.
 #[repr(C)]
 #[derive(Drop)]
@@ -180,7 +169,6 @@ pub(crate) fn all_cross(
     table: &TableHandle,
     loader: &LoaderHandle,
     load: &LoadHandle,
-    session: &SessionHandle,
     sender: &SenderHandle,
     multi: &MultiHandle,
     worker: &WorkerHandle,
@@ -188,7 +176,6 @@ pub(crate) fn all_cross(
     crosses(table);
     crosses(loader);
     crosses(load);
-    crosses(session);
     crosses(sender);
     crosses(multi);
     crosses(worker);

@@ -6,8 +6,8 @@
 //! handle owns the object in a box (`object`). A call requires of its handle that it has an object
 //! of the call's kind, or none. It tests every other condition, and returns a status, by the
 //! libraries `mig_c_calls` and `mig_c_loads`, whose relations its contract states of the object. In
-//! each module the exported functions take the object out of its handle, pass it to a function of
-//! the same name, and put it back.
+//! each module the exported functions take the object out of its handle, make the call on it, and
+//! put it back.
 #![tactic(auto)]
 
 mod handle;
@@ -18,7 +18,6 @@ mod multi;
 mod object;
 mod packet;
 mod sender;
-mod session;
 mod table;
 mod text;
 mod worker;

@@ -10,7 +10,7 @@ ghost use Rattle.mig_c_loads.specs.Reading.{GivesPage, GivesPages, GivesBlock, F
 ghost use Rattle.mig_c_loads.specs.Loading.{IsFresh, Opens, Feeds, Settles, Ends, TellsVerdict, TellsClosedAt, TellsMissing, TellsValidUpTo, OpensLoader};
 
 use crate::handle::{Handle, LoaderHandle};
-use crate::object::Object;
+use crate::object::{Object, loader_of};
 use mig_c_calls::NamedBlock;
 use mig_c_calls::status::{BAD_FRAME, BAD_LIMIT, BAD_PAGE_SIZE, DONE, MAX_LIMIT, NO_MEMORY};
 use mig_c_loads::{
@@ -182,16 +182,6 @@ pub extern "C" fn zimgasol_loader_end(alloc: Global, loader: &mut LoaderHandle)
     loader.handle = Handle::of(object);
 }
 
-fn fault(object: &Object) -> FoundFault
-    requires { IsSome (loader_in (Some object.now)) }
-    ensures { Tells (TellsVerdict result) (loader_in (Some object.now)) }
-{
-    match object {
-        Object::Loader(loader) => fault_of(loader),
-        _ => unreachable!(),
-    }
-}
-
 /// Reports the verdict on the stream so far, or that more of it is needed.
 #[unsafe(no_mangle)]
 pub extern "C" fn zimgasol_loader_verdict(
@@ -205,20 +195,10 @@ pub extern "C" fn zimgasol_loader_verdict(
     ensures tells { Tells (TellsVerdict found.new) (loader_in loader.old.handle.value) }
 {
     let object = loader.handle.take().into_box(alloc);
-    let fault = fault(&object);
+    let fault = fault_of(loader_of(&object));
     loader.handle = Handle::of(object);
     *found = fault;
     fault.number
-}
-
-fn rounds(object: &Object) -> u64
-    requires { IsSome (loader_in (Some object.now)) }
-    ensures { Tells (λ l. result ≡ sections_loaded l) (loader_in (Some object.now)) }
-{
-    match object {
-        Object::Loader(loader) => loader.rounds(),
-        _ => unreachable!(),
-    }
 }
 
 /// Returns how many sections were applied to the memory. START and END count too.
@@ -229,19 +209,9 @@ pub extern "C" fn zimgasol_loader_rounds(alloc: Global, loader: &mut LoaderHandl
     ensures rounds { Tells (λ l. result ≡ sections_loaded l) (loader_in loader.old.handle.value) }
 {
     let object = loader.handle.take().into_box(alloc);
-    let number = rounds(&object);
+    let number = loader_of(&object).rounds();
     loader.handle = Handle::of(object);
     number
-}
-
-fn fed(object: &Object) -> u64
-    requires { IsSome (loader_in (Some object.now)) }
-    ensures { Tells (λ l. result ≡ l.reader.fed) (loader_in (Some object.now)) }
-{
-    match object {
-        Object::Loader(loader) => loader.fed(),
-        _ => unreachable!(),
-    }
 }
 
 /// Returns how many bytes were fed.
@@ -252,19 +222,9 @@ pub extern "C" fn zimgasol_loader_fed(alloc: Global, loader: &mut LoaderHandle) 
     ensures fed { Tells (λ l. result ≡ l.reader.fed) (loader_in loader.old.handle.value) }
 {
     let object = loader.handle.take().into_box(alloc);
-    let number = fed(&object);
+    let number = loader_of(&object).fed();
     loader.handle = Handle::of(object);
     number
-}
-
-fn missing(object: &Object, missing: &mut u64) -> bool
-    requires { IsSome (loader_in (Some object.now)) }
-    ensures { Tells (TellsMissing result missing.old missing.new) (loader_in (Some object.now)) }
-{
-    match object {
-        Object::Loader(loader) => loader_missing(loader, missing),
-        _ => unreachable!(),
-    }
 }
 
 /// Returns whether the guest's memory is there, and reports how many of its pages no record of the
@@ -280,19 +240,9 @@ pub extern "C" fn zimgasol_loader_missing(
     ensures tells { Tells (TellsMissing result count.old count.new) (loader_in loader.old.handle.value) }
 {
     let object = loader.handle.take().into_box(alloc);
-    let is_known = missing(&object, count);
+    let is_known = loader_missing(loader_of(&object), count);
     loader.handle = Handle::of(object);
     is_known
-}
-
-fn closed_at(object: &Object, at: &mut u64) -> u32
-    requires { IsSome (loader_in (Some object.now)) }
-    ensures { Tells (TellsClosedAt result at.old at.new) (loader_in (Some object.now)) }
-{
-    match object {
-        Object::Loader(loader) => loader_closed_at(loader, at),
-        _ => unreachable!(),
-    }
 }
 
 /// Reports how many of the bytes fed belong to the stream, once it is closed.
@@ -307,19 +257,9 @@ pub extern "C" fn zimgasol_loader_closed_at(
     ensures tells { Tells (TellsClosedAt result at.old at.new) (loader_in loader.old.handle.value) }
 {
     let object = loader.handle.take().into_box(alloc);
-    let status = closed_at(&object, at);
+    let status = loader_closed_at(loader_of(&object), at);
     loader.handle = Handle::of(object);
     status
-}
-
-fn valid_up_to(object: &Object) -> u64
-    requires { IsSome (loader_in (Some object.now)) }
-    ensures { Tells (TellsValidUpTo result) (loader_in (Some object.now)) }
-{
-    match object {
-        Object::Loader(loader) => loader.valid_up_to(),
-        _ => unreachable!(),
-    }
 }
 
 /// Returns how many of the bytes fed are complete items without a fault, from the first byte on.
@@ -330,19 +270,9 @@ pub extern "C" fn zimgasol_loader_valid_up_to(alloc: Global, loader: &mut Loader
     ensures tells { Tells (TellsValidUpTo result) (loader_in loader.old.handle.value) }
 {
     let object = loader.handle.take().into_box(alloc);
-    let number = valid_up_to(&object);
+    let number = loader_of(&object).valid_up_to();
     loader.handle = Handle::of(object);
     number
-}
-
-fn page(object: &Object, block: usize, page: u64, out: &mut [u8]) -> u32
-    requires { IsSome (loader_in (Some object.now)) }
-    ensures { Tells (λ l. GivesPage (place_at block page) result out.old out.new (memory_of l)) (loader_in (Some object.now)) }
-{
-    match object {
-        Object::Loader(loader) => read_page(loader.memory(), block, page, out),
-        _ => unreachable!(),
-    }
 }
 
 /// Copies a page of the memory into a buffer of its length.
@@ -359,19 +289,9 @@ pub extern "C" fn zimgasol_loader_page(
     ensures gives { Tells (λ l. GivesPage (place_at block number) result out.old out.new (memory_of l)) (loader_in loader.old.handle.value) }
 {
     let object = loader.handle.take().into_box(alloc);
-    let status = page(&object, block, number, out);
+    let status = read_page(loader_of(&object).memory(), block, number, out);
     loader.handle = Handle::of(object);
     status
-}
-
-fn read(object: &Object, block: usize, page: u64, out: &mut [u8]) -> u32
-    requires { IsSome (loader_in (Some object.now)) }
-    ensures { Tells (λ l. GivesPages block page result out.old out.new (memory_of l)) (loader_in (Some object.now)) }
-{
-    match object {
-        Object::Loader(loader) => read_pages(loader.memory(), block, page, out),
-        _ => unreachable!(),
-    }
 }
 
 /// Copies several pages of a block into a buffer as long as they are.
@@ -388,19 +308,9 @@ pub extern "C" fn zimgasol_loader_read(
     ensures gives { Tells (λ l. GivesPages block number result out.old out.new (memory_of l)) (loader_in loader.old.handle.value) }
 {
     let object = loader.handle.take().into_box(alloc);
-    let status = read(&object, block, number, out);
+    let status = read_pages(loader_of(&object).memory(), block, number, out);
     loader.handle = Handle::of(object);
     status
-}
-
-fn next_nonzero(object: &Object, block: usize, page: u64, found: &mut u64) -> u32
-    requires { IsSome (loader_in (Some object.now)) }
-    ensures { Tells (λ l. FindsFilled block page result found.old found.new (memory_of l)) (loader_in (Some object.now)) }
-{
-    match object {
-        Object::Loader(loader) => mig_c_loads::next_nonzero(loader.memory(), block, page, found),
-        _ => unreachable!(),
-    }
 }
 
 /// Reports the first page of a block, from page `number` on, that isn't zeros.
@@ -417,19 +327,9 @@ pub extern "C" fn zimgasol_loader_next_nonzero(
     ensures finds { Tells (λ l. FindsFilled block number result found.old found.new (memory_of l)) (loader_in loader.old.handle.value) }
 {
     let object = loader.handle.take().into_box(alloc);
-    let status = next_nonzero(&object, block, number, found);
+    let status = mig_c_loads::next_nonzero(loader_of(&object).memory(), block, number, found);
     loader.handle = Handle::of(object);
     status
-}
-
-fn blocks(object: &Object) -> usize
-    requires { IsSome (loader_in (Some object.now)) }
-    ensures { Tells (λ l. result ≡ block_count (memory_of l)) (loader_in (Some object.now)) }
-{
-    match object {
-        Object::Loader(loader) => count_blocks(loader.memory()),
-        _ => unreachable!(),
-    }
 }
 
 /// Returns how many blocks the guest has, or 0 if its memory isn't there yet.
@@ -440,19 +340,9 @@ pub extern "C" fn zimgasol_loader_blocks(alloc: Global, loader: &mut LoaderHandl
     ensures count { Tells (λ l. result ≡ block_count (memory_of l)) (loader_in loader.old.handle.value) }
 {
     let object = loader.handle.take().into_box(alloc);
-    let count = blocks(&object);
+    let count = count_blocks(loader_of(&object).memory());
     loader.handle = Handle::of(object);
     count
-}
-
-fn block(object: &Object, i: usize, out: &mut NamedBlock) -> u32
-    requires { IsSome (loader_in (Some object.now)) }
-    ensures { Tells (λ l. GivesBlock i result out.old out.new (memory_of l)) (loader_in (Some object.now)) }
-{
-    match object {
-        Object::Loader(loader) => read_block(loader.memory(), i, out),
-        _ => unreachable!(),
-    }
 }
 
 /// Reports a block's id and its number of pages.
@@ -468,7 +358,7 @@ pub extern "C" fn zimgasol_loader_block(
     ensures gives { Tells (λ l. GivesBlock i result out.old out.new (memory_of l)) (loader_in loader.old.handle.value) }
 {
     let object = loader.handle.take().into_box(alloc);
-    let status = block(&object, i, out);
+    let status = read_block(loader_of(&object).memory(), i, out);
     loader.handle = Handle::of(object);
     status
 }

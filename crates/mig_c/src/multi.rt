@@ -11,7 +11,7 @@ ghost use Rattle.mig_c.specs.Kinds.{table_in, multi_in, worker_in, Turns, Tells}
 ghost use Rattle.mig_c_calls.specs.Multi.{StartsOf, OpensMulti, OfTable, Refuses, place_of, ChangesMulti, BeginsRound, BeginsBitmaps, TakesBackRound, HandsOutWorker, TakesBackWorker, AreOfRound, TurnsBoth, EndsRound, CancelsRound, Finishes, DrainsMain, DrainsChannel};
 
 use crate::handle::{Handle, MultiHandle, TableHandle, WorkerHandle};
-use crate::object::Object;
+use crate::object::{Object, multi_of};
 use mig_c_calls::status::{BAD_LENGTH, BATCH_LIMIT, CHANNELS, DONE, MOST_NAME_BYTES, NO_MEMORY};
 use mig_c_calls::{HeldWorker, Multi, NamedPlace};
 use mig_mem::{NoMemory, Table};
@@ -306,17 +306,6 @@ fn room(alloc: Global) -> Result<Box<Object>, NoMemory>
     Ok(Box::new(alloc, Object::Empty)?)
 }
 
-// Returns why there is no worker, if its handle got no memory.
-fn refused(object: &Object) -> u32
-    requires { IsSome (multi_in (Some object.now)) }
-    ensures { Turns (λ old new. ChangesMulti (λ was is. HandsOutWorker result was is None) old new) (multi_in (Some object.now)) (multi_in (Some object.now)) }
-{
-    match object {
-        Object::Multi(multi) => multi.refused_worker(),
-        _ => unreachable!(),
-    }
-}
-
 /// Puts the worker of the next channel, from channel 0 on, into a handle of its own.
 #[unsafe(no_mangle)]
 pub extern "C" fn zimgasol_multi_worker(
@@ -332,7 +321,7 @@ pub extern "C" fn zimgasol_multi_worker(
 {
     let mut object = multi.handle.take().into_box(alloc);
     let Ok(mut empty) = room(alloc) else {
-        let status = refused(&object);
+        let status = multi_of(&object).refused_worker();
         multi.handle = Handle::of(object);
         return status;
     };

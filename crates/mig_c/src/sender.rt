@@ -9,7 +9,7 @@ ghost use Rattle.mig_c.specs.Kinds.{table_in, sender_in, Turns};
 ghost use Rattle.mig_c_loads.specs.Reading.{place_at};
 
 use crate::handle::{Handle, SenderHandle, TableHandle};
-use crate::object::Object;
+use crate::object::{Object, table_of};
 use mig_c_calls::Sender;
 use mig_c_calls::status::{BAD_LENGTH, DONE, MOST_NAME_BYTES, NO_MEMORY};
 use mig_mem::{NoMemory, Place, Table};
@@ -21,16 +21,6 @@ fn made(alloc: Global, table: &Table<Global>) -> Result<Box<Object>, NoMemory>
 {
     let sender = Sender::new(alloc, table)?;
     Ok(Box::new(alloc, Object::Sender(sender))?)
-}
-
-fn made_of(alloc: Global, table: &Object) -> Result<Box<Object>, NoMemory>
-    requires { IsSome (table_in (Some table.now)) }
-    ensures { IfOk result (λ object. Starts None (table_in (Some table.now)) (sender_in (Some object.value))) }
-{
-    match table {
-        Object::Table(table) => made(alloc, table),
-        _ => unreachable!(),
-    }
 }
 
 /// Creates a sender of a table, which it copies. It has sent nothing.
@@ -48,7 +38,7 @@ pub extern "C" fn zimgasol_sender_new(
     ensures table { table.new.handle.value ≡ table.old.handle.value }
 {
     let object = table.handle.take().into_box(alloc);
-    let made = made_of(alloc, &object);
+    let made = made(alloc, table_of(&object));
     table.handle = Handle::of(object);
     match made {
         Ok(object) => {
@@ -66,17 +56,6 @@ fn made_named(alloc: Global, table: &Table<Global>, name: &[u8]) -> Result<Box<O
 {
     let sender = Sender::new_named(alloc, table, name)?;
     Ok(Box::new(alloc, Object::Sender(sender))?)
-}
-
-fn made_named_of(alloc: Global, table: &Object, name: &[u8]) -> Result<Box<Object>, NoMemory>
-    requires table { IsSome (table_in (Some table.now)) }
-    requires name { length name.now ≤ most_name_bytes }
-    ensures { IfOk result (λ object. Starts (Some name.now) (table_in (Some table.now)) (sender_in (Some object.value))) }
-{
-    match table {
-        Object::Table(table) => made_named(alloc, table, name),
-        _ => unreachable!(),
-    }
 }
 
 /// Creates a sender of a table, which it copies. It has sent nothing. Its stream has a machine's
@@ -98,7 +77,7 @@ pub extern "C" fn zimgasol_sender_new_named(
         return BAD_LENGTH;
     }
     let object = table.handle.take().into_box(alloc);
-    let made = made_named_of(alloc, &object, name);
+    let made = made_named(alloc, table_of(&object), name);
     table.handle = Handle::of(object);
     match made {
         Ok(object) => {

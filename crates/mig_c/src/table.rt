@@ -13,7 +13,7 @@ ghost use Rattle.mig_c.specs.Kinds.{table_in, Tells};
 ghost use Rattle.mig_c.specs.Tables.{IsAt, Makes};
 
 use crate::handle::{Handle, TableHandle};
-use crate::object::Object;
+use crate::object::{Object, table_of};
 use mig_c_calls::status::{BAD_FRAME, BAD_PAGE_SIZE, DONE, NO_MEMORY};
 use mig_c_calls::{NamedBlock, entries};
 use mig_c_loads::{find_table, frame_of, read_table_block, table_status};
@@ -131,16 +131,6 @@ pub extern "C" fn zimgasol_table_of_stream(
     status
 }
 
-fn count(object: &Object) -> usize
-    requires { IsSome (table_in (Some object.now)) }
-    ensures { Tells (λ t. result ≡ length t.blocks) (table_in (Some object.now)) }
-{
-    match object {
-        Object::Table(table) => table.len(),
-        _ => unreachable!(),
-    }
-}
-
 /// Returns how many blocks a table has.
 #[unsafe(no_mangle)]
 pub extern "C" fn zimgasol_table_blocks(alloc: Global, table: &mut TableHandle) -> usize
@@ -149,19 +139,9 @@ pub extern "C" fn zimgasol_table_blocks(alloc: Global, table: &mut TableHandle) 
     ensures count { Tells (λ t. result ≡ length t.blocks) (table_in table.old.handle.value) }
 {
     let object = table.handle.take().into_box(alloc);
-    let number = count(&object);
+    let number = table_of(&object).len();
     table.handle = Handle::of(object);
     number
-}
-
-fn block(object: &Object, i: usize, out: &mut NamedBlock) -> u32
-    requires { IsSome (table_in (Some object.now)) }
-    ensures { Tells (GivesTableBlock i result out.old out.new) (table_in (Some object.now)) }
-{
-    match object {
-        Object::Table(table) => read_table_block(table, i, out),
-        _ => unreachable!(),
-    }
 }
 
 /// Reports the id of a table's block, and its number of pages.
@@ -177,7 +157,7 @@ pub extern "C" fn zimgasol_table_block(
     ensures gives { Tells (GivesTableBlock i result out.old out.new) (table_in table.old.handle.value) }
 {
     let object = table.handle.take().into_box(alloc);
-    let status = block(&object, i, out);
+    let status = read_table_block(table_of(&object), i, out);
     table.handle = Handle::of(object);
     status
 }

@@ -9,7 +9,7 @@ ghost use Rattle.mig_c_calls.specs.Copied.{NamesBatch, PacksCopied};
 ghost use Rattle.mig_c_calls.specs.Heads.{GivesHead};
 
 use crate::handle::{Handle, WorkerHandle};
-use crate::object::Object;
+use crate::object::{Object, worker_of};
 use mig_c_calls::NamedBatch;
 use std::alloc::Global;
 
@@ -149,16 +149,6 @@ pub extern "C" fn zimgasol_worker_drain(
     count
 }
 
-fn channel(object: &Object) -> usize
-    requires { IsSome (worker_in (Some object.now)) }
-    ensures { Tells (λ w. result ≡ w.worker.channel) (worker_in (Some object.now)) }
-{
-    match object {
-        Object::Worker(worker) => worker.channel(),
-        _ => unreachable!(),
-    }
-}
-
 /// Returns the number of the worker's channel.
 #[unsafe(no_mangle)]
 pub extern "C" fn zimgasol_worker_channel(alloc: Global, worker: &mut WorkerHandle) -> usize
@@ -167,7 +157,7 @@ pub extern "C" fn zimgasol_worker_channel(alloc: Global, worker: &mut WorkerHand
     ensures channel { Tells (λ w. result ≡ w.worker.channel) (worker_in worker.old.handle.value) }
 {
     let object = worker.handle.take().into_box(alloc);
-    let number = channel(&object);
+    let number = worker_of(&object).channel();
     worker.handle = Handle::of(object);
     number
 }

@@ -5,7 +5,7 @@ use Rattle.std.proofs.lemmas.Bool.{cases_lt}
 use Rattle.std.proofs.lemmas.List.FromFn.{length-map-range_with_len}
 use Rattle.std.proofs.lemmas.List.Sorted.{IsPermutation-refl}
 use Rattle.mig_mem.specs.RamTable.{RamTable, IsTable}
-use Rattle.mig_mem.specs.Image.{Image, Page}
+use Rattle.mig_mem.specs.Image.{Image, IsImage, Page}
 use Rattle.mig_mem.specs.Lent.{lent_image}
 use Rattle.mig_mem.proofs.Lents.{lent_is_image}
 use Rattle.mig_stream.specs.declared.item.Frame.TheVariants.{Ram, Machine}
@@ -21,16 +21,26 @@ use Rattle.mig_single_load.specs.MachineSent.{IsMachineSent}
 use Rattle.mig_single_load.proofs.LoadsInPlace.{sent_in_place}
 use Rattle.mig_single_load.proofs.MachineSent.{machine_in_place}
 use Rattle.mig_answer.specs.declared.verdict.Verdict.{Verdict}
+use Rattle.mig_answer.specs.declared.verdict.Verdict.TheVariants.{Done}
+use Rattle.mig_answer.specs.Texts.{Texts, Readings}
+use Rattle.mig_answer.proofs.OneAnswer.{same_readings}
 use Rattle.mig_answer.specs.Sent.{IsSentInAnyOrder, IsMachineSentInAnyOrder}
 use Rattle.mig_answer.proofs.SentWithin.{none_lets}
+use Rattle.mig_load_types.specs.Settings.{for_table}
+use Rattle.mig_in_place.specs.Answer.{rounds_onto, IsInPlaceAnswer}
+use Rattle.mig_in_place.specs.Law.{taken_texts}
+use Rattle.mig_in_place.specs.WholeRounds.{HasRoundsAlone}
+use Rattle.mig_in_place.proofs.Exact.{exact_law}
 use Rattle.mig_in_place.proofs.Sendings.{sent_law, machine_sent_law}
 use Rattle.mig_c_calls.specs.Named.{IsLongName}
+use Rattle.mig_c_calls.specs.declared.sending.Multi.{Multi}
 use Rattle.mig_c_calls.specs.declared.sending.MultiState.{MultiState}
 use Rattle.mig_c_calls.specs.declared.sending.MultiState.TheVariants.{Idle, Round, Over}
 use Rattle.mig_c_calls.specs.Multi.{MultiSetting, AreEnded, all_channels, SendsTo, IsOver, is_left_open, ended_main, with_plain}
 use Rattle.mig_c_loads.specs.Found.{seen_so_far, seen_of_verdict}
 use Rattle.mig_c_loads.specs.InPlace.{settings_into}
-use Rattle.mig_c_loads.specs.Headline.{DrainedIsLoaded, DrainedMachineStreamIsLoaded, ended_stream, DrainedChannelsAreLoaded, DrainedMachineIsLoaded, channels_out}
+use Rattle.mig_c_loads.specs.ByRounds.{opened}
+use Rattle.mig_c_loads.specs.Headline.{DrainedIsLoaded, DrainedMachineStreamIsLoaded, ended_stream, DrainedChannelsAreLoaded, DrainedChannelsAreLoadedByRounds, DrainedMachineIsLoaded, IsAllOf, channels_out}
 
 -- ---- one stream
 
@@ -129,10 +139,11 @@ counted setting rounds main_text given sending =
     subst (λ (n : ℕ). IsSending setting.table setting.uuid setting.limit n rounds main_text (channels_out setting.channels given))
     (sym (length-map-range_with_len given.channel 0 setting.channels)) sending
 
--- all bytes of an ended sender on several channels, taken by a load into blocks of the same
--- table, leave its rounds on top of what the blocks held, and the load is done
-pub channels_law : DrainedChannelsAreLoaded
-channels_law = λ setting given rounds sender all unnamed closed before after load ended fit fit_after stands.
+-- all bytes of an ended sender on several channels are the streams of its rounds
+channels_sent : (setting : MultiSetting) (given : Drained) (rounds : List DealtRound) (sender : Multi) → IsAllOf setting given rounds sender
+    → setting.name ≡ None → is_left_open sender.state ≡ false
+    → IsTable setting.table × IsSentInAnyOrder setting.table setting.uuid rounds given.main (channels_out setting.channels given)
+channels_sent setting given rounds sender all unnamed closed =
     let table : RamTable = setting.table in
     let outs : List (List ℕ) = channels_out setting.channels given in
     let texts : outs ≡ channel_texts setting.uuid setting.channels rounds =
@@ -140,19 +151,56 @@ channels_law = λ setting given rounds sender all unnamed closed before after lo
     let sending = over_sending setting (with_plain given all.sends.0) rounds sender.state outs all.is_over all.sends.2 texts in
     let main_is : given.main ≡ main table (length rounds) =
     all.all_of_main ∙ ap (λ (b : Bool). ended_main b setting.name table (length rounds)) closed
-    ∙ ap (λ (o : Option (List ℕ)). ended_main false o table (length rounds)) unnamed in
-    let sent : IsSentInAnyOrder table setting.uuid rounds given.main outs = record {
-      batch_limit = setting.limit;
-      in_order = outs;
-      is_sending = subst (λ (text : List ℕ). IsSending table setting.uuid setting.limit (length outs) rounds text outs)
-          (sym main_is) (counted setting rounds (main table (length rounds)) given sending);
-      is_permutation = IsPermutation-refl outs;
-    } in
-    let is_table : IsTable table = sending.is_set.has_table in
-    let law = sent_law setting.uuid (2 ^ 40) (lent_image table before) rounds given.main ended outs
-    (lent_image table after) load.rounds load.verdict is_table (lent_is_image table before fit)
-    (lent_is_image table after fit_after) sent is_table.has_room stands.is_answer in
+    ∙ ap (λ (o : Option (List ℕ)). ended_main false o table (length rounds)) unnamed in (
+      sending.is_set.has_table,
+      record {
+        batch_limit = setting.limit;
+        in_order = outs;
+        is_sending = subst (λ (text : List ℕ). IsSending table setting.uuid setting.limit (length outs) rounds text outs)
+            (sym main_is) (counted setting rounds (main table (length rounds)) given sending);
+        is_permutation = IsPermutation-refl outs;
+      },
+    )
+
+-- taken by a load into blocks of the same table, they leave its rounds on top of what the blocks
+-- held, and the load is done
+pub channels_law : DrainedChannelsAreLoaded
+channels_law = λ setting given rounds sender all unnamed closed before after load ended fit fit_after stands.
+    let table : RamTable = setting.table in
+    let sent = channels_sent setting given rounds sender all unnamed closed in
+    let law = sent_law setting.uuid (2 ^ 40) (lent_image table before) rounds given.main ended (channels_out setting.channels given)
+    (lent_image table after) load.rounds load.verdict sent.0 (lent_is_image table before fit)
+    (lent_is_image table after fit_after) sent.1 sent.0.has_room stands.is_answer in
     ((ap (λ (v : Verdict). seen_of_verdict load.rounds v) law.0, law.1), law.2)
+
+-- ---- by whole rounds
+
+-- If a load is done, a memory that has the rounds counted alone is the one that the load stands for.
+alone_is : (given : LoadSettings) (uuid : List ℕ) (first memory kept : Image) (texts : Texts) (k : ℕ) (v : Verdict) → IsTable first.table → IsImage first
+    → IsImage memory → v ≡ Done → IsInPlaceAnswer given uuid first texts memory k v → HasRoundsAlone (for_table first.table given) uuid first texts k kept
+    → kept ≡ memory
+alone_is given uuid first memory kept texts k v is_table is_image is_memory done here alone =
+    let there : IsInPlaceAnswer given uuid first texts memory k Done =
+    subst (λ (w : Verdict). IsInPlaceAnswer given uuid first texts memory k w) done here in
+    alone.has_rounds
+    ∙ ap (λ (r : Readings). rounds_onto first k r)
+    (same_readings (for_table first.table given) uuid texts alone.readings there.readings is_table.has_page_size alone.are_readings there.are_readings)
+    ∙ sym (exact_law given uuid first texts memory k is_table is_image is_memory there)
+
+-- so are the blocks of a load by whole rounds
+pub by_rounds_law : DrainedChannelsAreLoadedByRounds
+by_rounds_law = λ setting given rounds sender all unnamed closed before after load ended fit is_memory stands alone.
+    let table : RamTable = setting.table in
+    let sent = channels_sent setting given rounds sender all unnamed closed in
+    let first : Image = lent_image table before in
+    let outs : List (List ℕ) = channels_out setting.channels given in
+    let is_first : IsImage first = lent_is_image table before fit in
+    let law = sent_law setting.uuid (2 ^ 40) first rounds given.main ended outs
+    (opened load after) load.load.rounds load.load.verdict sent.0 is_first is_memory sent.1 sent.0.has_room stands.is_answer in
+    let same : lent_image table after ≡ opened load after =
+    alone_is (settings_into table Ram None) setting.uuid first (opened load after) (lent_image table after) (taken_texts given.main ended outs)
+    load.load.rounds load.load.verdict sent.0 is_first is_memory law.0 stands.is_answer alone in
+    ((ap (λ (v : Verdict). seen_of_verdict load.load.rounds v) law.0, law.1), same ∙ law.2)
 
 -- ---- with a machine's main stream
 

@@ -1,12 +1,18 @@
--- What C passes to a load beside its streams: what they are read as, what ends the rounds, and what
--- may wait.
-use Rattle.std.specs.Prelude.{ℕ, Bool, not, ◌==◌, Option, None, Some, if◌then◌else◌}
-use Rattle.std.specs.Option.{option_map, option_and_then}
+-- What C passes to a load beside its streams: which source a piece is of, what they are read as, what
+-- ends the rounds, and what may wait.
+use Rattle.std.specs.Prelude.{ℕ, ◌-◌, Bool, not, ◌==◌, Option, None, Some, if◌then◌else◌}
+use Rattle.std.specs.Option.{option_map}
 use Rattle.mig_stream.specs.declared.item.Frame.{Frame}
 use Rattle.mig_stream.specs.declared.item.Frame.TheVariants.{Ram, Machine}
 use Rattle.mig_load_types.specs.declared.settings.LoadSettings.{LoadSettings}
+use Rattle.mig_sources.specs.declared.source.Source.{Source}
+use Rattle.mig_sources.specs.declared.source.Source.TheVariants as source
 use Rattle.mig_load_types.specs.declared.settings.RoundEnd.{RoundEnd}
 use Rattle.mig_load_types.specs.declared.settings.RoundEnd.TheVariants.{Flush, Eos, AsShown}
+
+-- the source of a number: 0 is the main stream, 1 + j channel j
+abbrev pub source_of : ℕ → Source
+source_of n = if n == 0 then source.Main else source.Channel (n - 1)
 
 -- 0 is RAM's sections alone, 1 a machine's stream, and no other number is a frame
 abbrev pub frame_of : ℕ → Option Frame
@@ -34,8 +40,3 @@ asked_settings page_size limit frame waiting = option_map (load_settings page_si
 -- with another end of a main stream's rounds
 abbrev pub with_round_end : LoadSettings → RoundEnd → LoadSettings
 with_round_end given ends = record given { round_end = ends }
-
--- the settings that C asks for a main stream, if there are such a frame and such an end of rounds
-abbrev pub main_settings : ℕ → ℕ → ℕ → Option ℕ → ℕ → Option LoadSettings
-main_settings page_size limit frame waiting ends =
-    option_and_then (λ given. option_map (with_round_end given) (round_end_of ends)) (asked_settings page_size limit frame waiting)

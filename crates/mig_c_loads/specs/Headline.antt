@@ -3,7 +3,7 @@
 use Rattle.std.specs.Prelude.{◌≡◌, ◌<◌, ◌+◌, ◌++◌, ℕ, Bool, true, false, List, length, map, All, Option, None}
 use Rattle.std.specs.List.{range_with_len}
 use Rattle.mig_mem.specs.RamTable.{RamTable, IsTable}
-use Rattle.mig_mem.specs.Image.{Page}
+use Rattle.mig_mem.specs.Image.{IsImage, Page}
 use Rattle.mig_mem.specs.Round.{IsRound, with_rounds}
 use Rattle.mig_mem.specs.Lent.{FitTable, lent_image}
 use Rattle.mig_stream.specs.declared.item.Frame.TheVariants.{Ram, Machine}
@@ -13,6 +13,8 @@ use Rattle.mig_single_load.specs.LoadInPlace.{LoadInPlace, LoadsInPlace}
 use Rattle.mig_answer.specs.Sent.{sent_rounds}
 use Rattle.mig_in_place.specs.Law.{taken_texts}
 use Rattle.mig_in_place.specs.Session.{InPlaceLoad, StandsFor}
+use Rattle.mig_in_place.specs.WholeRounds.{HasRoundsAlone}
+use Rattle.mig_load_types.specs.Settings.{for_table}
 use Rattle.mig_c_calls.specs.Sending.{whole_stream, open_stream}
 use Rattle.mig_c_calls.specs.Named.{IsLongName}
 use Rattle.mig_c_calls.specs.declared.sending.Multi.{Multi}
@@ -20,6 +22,7 @@ use Rattle.mig_c_calls.specs.Multi.{MultiSetting, Sends, IsOver, is_left_open, e
 use Rattle.mig_c_loads.specs.declared.fault.FoundFault.{FoundFault}
 use Rattle.mig_c_loads.specs.Found.{no_fault, seen_of_verdict}
 use Rattle.mig_c_loads.specs.InPlace.{settings_into, TellsVerdict}
+use Rattle.mig_c_loads.specs.ByRounds.{RoundsLoad, opened}
 
 -- ---- one stream
 
@@ -74,6 +77,16 @@ DrainedChannelsAreLoaded = (setting : MultiSetting) (given : Drained) (rounds : 
     → (before after : List (List ℕ)) (load : InPlaceLoad) (ended : Bool) → FitTable setting.table before → FitTable setting.table after
     → StandsFor (settings_into setting.table Ram None) setting.uuid (lent_image setting.table before) (taken_texts given.main ended (channels_out setting.channels given)) (lent_image setting.table after) load
     → IsDone (length rounds) load × (lent_image setting.table after ≡ with_rounds (lent_image setting.table before) (sent_rounds rounds))
+
+-- So it is of a load by whole rounds, whose blocks have the rounds counted alone.
+abbrev pub DrainedChannelsAreLoadedByRounds : Type 0
+DrainedChannelsAreLoadedByRounds = (setting : MultiSetting) (given : Drained) (rounds : List DealtRound) (sender : Multi) → IsAllOf setting given rounds sender
+    → setting.name ≡ None → is_left_open sender.state ≡ false
+    → (before after : List (List ℕ)) (load : RoundsLoad) (ended : Bool) → FitTable setting.table before → IsImage (opened load after)
+    → StandsFor (settings_into setting.table Ram None) setting.uuid (lent_image setting.table before) (taken_texts given.main ended (channels_out setting.channels given)) (opened load after) load.load
+    → HasRoundsAlone (for_table setting.table (settings_into setting.table Ram None)) setting.uuid (lent_image setting.table before)
+    (taken_texts given.main ended (channels_out setting.channels given)) load.load.rounds (lent_image setting.table after)
+    → IsDone (length rounds) load.load × (lent_image setting.table after ≡ with_rounds (lent_image setting.table before) (sent_rounds rounds))
 
 -- So it is of a sender with a machine's name, or one that was left open behind RAM's END. Its main
 -- stream may go on with anything.

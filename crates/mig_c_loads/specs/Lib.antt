@@ -1,6 +1,7 @@
 -- To read first: a fault as C sees it, and what C passes to a load beside its streams; then pages
--- and blocks that are read out, the table of a stream's first bytes, a loader, blocks that were zeros, a load of one stream into blocks,
--- a session, and a load of several channels into blocks, whose pages C may read to their places.
+-- and blocks that are read out, the table of a stream's first bytes, a loader, blocks that were
+-- zeros, a load of one stream into blocks, and a load of several channels into blocks: one whose
+-- pages C may read to their places, and one by whole rounds; and last a load of each kind.
 pub mod Found
 pub mod Frames
 pub mod Reading
@@ -10,9 +11,10 @@ pub mod ZeroBlocks
 pub mod InPlace
 pub mod NextBytes
 pub mod OneStream
-pub mod Sessions
 pub mod InPlaceSessions
 pub mod Filling
 pub mod Apart
+pub mod ByRounds
+pub mod Loads
 -- Then the law on what C's senders sent
 pub mod Headline

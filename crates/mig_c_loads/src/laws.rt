@@ -1,7 +1,7 @@
 //! The headline in C, as clauses of functions that do nothing: C's loads load what C's senders
 //! sent. It joins the clauses of the calls of `mig_c_calls` and of this crate.
 
-ghost use Rattle.mig_c_loads.specs.Headline.{DrainedIsLoaded, DrainedMachineStreamIsLoaded, DrainedChannelsAreLoaded, DrainedMachineIsLoaded};
+ghost use Rattle.mig_c_loads.specs.Headline.{DrainedIsLoaded, DrainedMachineStreamIsLoaded, DrainedChannelsAreLoaded, DrainedChannelsAreLoadedByRounds, DrainedMachineIsLoaded};
 ghost use Rattle.mig_c_loads.specs.Filling.{PagesReadAreNoted};
 
 /// What was copied out of a sender of one stream is loaded into blocks, in whatever pieces it was
@@ -20,6 +20,11 @@ pub fn drained_machine_stream_is_loaded()
 /// packet, and not copied out, count among it.
 pub fn drained_channels_are_loaded()
     ensures { DrainedChannelsAreLoaded }
+{}
+
+/// So it is by whole rounds.
+pub fn drained_channels_are_loaded_by_rounds()
+    ensures { DrainedChannelsAreLoadedByRounds }
 {}
 
 /// So it is with a machine's main stream, whatever follows RAM's END.

@@ -4,7 +4,8 @@ ghost use Rattle.std.specs.Prelude.{◌≡◌};
 ghost use Rattle.mig_c_loads.specs.Frames.{waiting_of};
 
 /// The settings of a load. All zeros are those of a stream of RAM's sections alone, whose rounds
-/// end with FLUSH, with no limit on the page records that wait, into blocks that hold anything.
+/// end with FLUSH, with no limit on the page records that wait, into blocks that hold anything, with
+/// each page as it comes.
 #[repr(C)]
 #[derive(Clone, Copy)]
 pub struct AskedSettings {
@@ -16,8 +17,10 @@ pub struct AskedSettings {
     pub waiting: u64,
     /// Whether the blocks of C hold zeros when the load begins: not if it is 0.
     pub zero_blocks: u64,
+    /// Whether the blocks of C get whole rounds alone, of several channels: not if it is 0.
+    pub whole_rounds: u64,
     /// Zeros, as room for what may come.
-    pub reserved: [u64; 5],
+    pub reserved: [u64; 4],
 }
 
 /// Returns the limit on the page records that wait, if C sets one.

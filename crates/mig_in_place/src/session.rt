@@ -32,6 +32,7 @@ ghost use Rattle.mig_in_place.specs.Apart.{TakesApart};
 ghost use Rattle.mig_assemble.specs.HeadPlaces.{LieIn};
 ghost use Rattle.mig_assemble.specs.NamedPlaces.{left_out};
 ghost use Rattle.mig_in_place.specs.Round.{KeepsSome};
+ghost use Rattle.mig_in_place.specs.WholeRounds.{HasRoundsAlone, KeepsRounds};
 ghost use Rattle.mig_in_place.specs.Sources.{counts_of, main_count, channel_count, at_next_round, StandsAt, HoldsChannel, TellsChannelStatus, TellsHello, HasTakenRecords};
 ghost use Rattle.mig_in_place.specs.Session.{TakesBytes, StandsFor, LacksMemory, StepsOn, StillLacks, RunsOut, Tells, HasAllRounds, MoreMayCome, HaveTaken, Loading, Loads, Stands, IsDue, TellsVerdict, PassesAt, IsUnsettled, Lacks, LacksBehind, with_bytes, with_over, TakesNoMore, IsOpenAt, IsMainOf, IsJudged, HasNextRound, JudgesOn};
 
@@ -270,6 +271,8 @@ impl<A: Allocator + Copy> InPlaceSession<A> {
         requires channels { (1 ≤ channels) × (channels ≤ 255) }
         requires limit { settings.limit ≤ 2 ^ 40 }
         ensures stands { IfOk result (λ s. (first : Image) → IsImage first → first.table ≡ table.now → StandsFor settings uuid.now first (no_texts channels) first s) }
+        ensures alone { IfOk result (λ s. (first : Image) → IsImage first → first.table ≡ table.now
+            → HasRoundsAlone (for_table first.table settings) uuid.now first (no_texts channels) s.rounds first) }
         ensures table { IfOk result (λ s. s.table ≡ table.now) }
         ensures counts { IfOk result (λ s. counts_of s.sources ≡ record { main = no_count; channels = replicate channels no_count }) }
     {
@@ -331,10 +334,7 @@ impl<A: Allocator + Copy> InPlaceSession<A> {
         }
         match self.take(memory, source, piece) {
             Ok(taken) => Ok(taken),
-            Err(NoMemory) => {
-                self.verdict = failed(self.rounds, Origin::Round, Fault::NoMemory);
-                Err(InPlaceFault::NoMemory)
-            }
+            Err(NoMemory) => Err(InPlaceFault::NoMemory),
         }
     }
 
@@ -360,8 +360,12 @@ impl<A: Allocator + Copy> InPlaceSession<A> {
         ensures ok { IfOk result (λ found. IsFalse found.1 → StepsOn (feed_step source (take found.0 piece.now)) (M.image memory.old) self.old (M.image memory.new) self.new) }
         ensures judged { IfOk result (λ found. IsTrue found.1 → JudgesOn (feed_step source (take found.0 piece.now)) (M.image memory.old) self.old (M.image memory.new) self.new) }
         ensures next { IfOk result (λ found. IsTrue found.1 → HasNextRound self.new) }
+        ensures main { IfOk result (λ found. source ≡ main_source → (found.0 ≡ 0) ⊎ (found.0 ≡ length piece.now)) }
+        ensures waits { IfOk result (λ found. IsFalse found.1 → found.0 < length piece.now → (self.new.verdict ≢ running)
+            ⊎ Tells (M.image memory.new) self.new (λ given uuid first texts. TakesBytes (for_table first.table given) uuid self.new.rounds texts source → ⊥)) }
         ensures failed { OnErr result (RunsOut source piece.now (M.image memory.old) self.old (M.image memory.new) self.new) }
-        ensures settled { self.old.verdict ≢ running → (result ≡ Ok (0, false)) × (self.new ≡ self.old) × (M.image memory.new ≡ M.image memory.old) }
+        ensures settled { IfOk result (λ found. self.old.verdict ≢ running → (found.0 ≡ 0) × IsFalse found.1 × (self.new ≡ self.old) × (M.image memory.new ≡ M.image memory.old)) }
+        ensures runs { OnErr result (self.old.verdict ≡ running) }
         ensures counts { IfOk result (λ found. counts_of self.new.sources ≡ with_fed (counts_of self.old.sources) source found.0) }
         ensures kept { M.kept memory.new ≡ M.kept memory.old }
         ensures table { (self.new.table ≡ self.old.table) × ((M.image memory.new).table ≡ (M.image memory.old).table) }
@@ -399,6 +403,8 @@ impl<A: Allocator + Copy> InPlaceSession<A> {
             → IsJudged (with_bytes source (take found.0 piece.now) f) (M.image memory.new) self.new) }
         ensures next { IfOk result (λ found. IsTrue found.1 → HasNextRound self.new) }
         ensures lacks { OnErr result (LacksBehind source piece.now (λ f. Loads f (M.image memory.old) self.old) self.old (M.image memory.new) self.new) }
+        ensures main { IfOk result (λ found. source ≡ main_source → found.0 ≡ length piece.now) }
+        ensures waits { IfOk result (λ found. found.0 < length piece.now → TakesNoMore source self.new.sources) }
         ensures counts { IfOk result (λ found. counts_of self.new.sources ≡ with_fed (counts_of self.old.sources) source found.0) }
         ensures kept { M.kept memory.new ≡ M.kept memory.old }
         ensures table { (self.new.table ≡ self.old.table) × ((M.image memory.new).table ≡ (M.image memory.old).table) }
@@ -422,11 +428,12 @@ impl<A: Allocator + Copy> InPlaceSession<A> {
         requires table { (M.image memory.old).table ≡ self.old.table }
         ensures taken { IfOk result (λ n. n ≤ length piece.now) }
         ensures steps { IfOk result (λ n. StepsOn (feed_step source (take n piece.now)) (M.image memory.old) self.old (M.image memory.new) self.new) }
-        ensures lacks { OnErr result (LacksBehind source piece.now (λ f. Stands f (M.image memory.old) self.old) self.old (M.image memory.new) self.new) }
+        ensures failed { OnErr result (RunsOut source piece.now (M.image memory.old) self.old (M.image memory.new) self.new) }
         ensures main { IfOk result (λ n. source ≡ main_source → (n ≡ 0) ⊎ (n ≡ length piece.now)) }
         ensures waits { IfOk result (λ n. n < length piece.now → (self.new.verdict ≢ running)
             ⊎ Tells (M.image memory.new) self.new (λ given uuid first texts. TakesBytes (for_table first.table given) uuid self.new.rounds texts source → ⊥)) }
-        ensures settled { self.old.verdict ≢ running → (result ≡ Ok 0) × (self.new ≡ self.old) × (M.image memory.new ≡ M.image memory.old) }
+        ensures settled { IfOk result (λ n. self.old.verdict ≢ running → (n ≡ 0) × (self.new ≡ self.old) × (M.image memory.new ≡ M.image memory.old)) }
+        ensures runs { OnErr result (self.old.verdict ≡ running) }
         ensures counts { IfOk result (λ n. counts_of self.new.sources ≡ with_fed (counts_of self.old.sources) source n) }
         ensures kept { M.kept memory.new ≡ M.kept memory.old }
         ensures table { (self.new.table ≡ self.old.table) × ((M.image memory.new).table ≡ (M.image memory.old).table) }
@@ -434,14 +441,11 @@ impl<A: Allocator + Copy> InPlaceSession<A> {
     {
         let mut taken = 0;
         'rounds: while taken < piece.len() {
-            if !self.is_taking(source) {
-                return Ok(taken);
-            }
-            let rounds = self.rounds;
-            let count = self.read(memory, source, &piece[taken..])?;
+            let (count, judged) = self.feed_round(memory, source, &piece[taken..])?;
             taken += count;
-            self.judge_so_far(memory)?;
-            if count == 0 && self.rounds == rounds {
+            if judged {
+                self.next_round(memory);
+            } else if count == 0 {
                 return Ok(taken);
             }
         }
@@ -617,23 +621,6 @@ impl<A: Allocator> InPlaceSession<A> {
         self.judge()
     }
 
-    // Judges the bytes so far.
-    fn judge_so_far<M: GuestTarget>(&mut self, memory: &mut M) -> Result<(), NoMemory>
-        requires { (M.image memory.old).table ≡ self.old.table }
-        ensures stands { OnOk result ((f : Loading) → IsUnsettled f (M.image memory.old) self.old → Stands f (M.image memory.new) self.new) }
-        ensures lacks { OnErr result ((f : Loading) → IsUnsettled f (M.image memory.old) self.old → Lacks f (M.image memory.new) self.new) }
-        ensures sources { self.new.rounds ≡ self.old.rounds → self.new.sources ≡ self.old.sources }
-        ensures counts { counts_of self.new.sources ≡ counts_of self.old.sources }
-        ensures kept { M.kept memory.new ≡ M.kept memory.old }
-        ensures table { (self.new.table ≡ self.old.table) × ((M.image memory.new).table ≡ (M.image memory.old).table) }
-        ensures rounds { self.old.rounds ≤ self.new.rounds }
-    {
-        if self.judge_round()? {
-            self.next_round(memory);
-        }
-        Ok(())
-    }
-
     /// Goes on to the next round, after `feed_round` returned that the current one is lawful, and
     /// before any other call. It counts that round, and writes the main stream's records of the
     /// next one if they have come.
@@ -730,6 +717,7 @@ impl<A: Allocator> InPlaceSession<A> {
         ensures steps { (memory : Image) → StepsOn (end_step source) memory self.old memory self.new }
         ensures lacking { (memory : Image) → StillLacks (end_step source) memory self.old memory self.new }
         ensures settled { self.old.verdict ≢ running → (self.new.verdict ≡ self.old.verdict) × (self.new.rounds ≡ self.old.rounds) }
+        ensures keeps { (memory kept : Image) → KeepsRounds (end_step source) memory kept self.old kept self.new }
         ensures counts { counts_of self.new.sources ≡ with_end (counts_of self.old.sources) source }
         ensures table { self.new.table ≡ self.old.table }
         ensures others { self.new ≡ record self.old { sources = self.new.sources; verdict = self.new.verdict } }

@@ -1,11 +1,14 @@
 //! Whole rounds alone: a load that writes a round into the memory once it was judged lawful.
 
-ghost use Rattle.std.specs.Prelude.{◌≡◌, ◌≢◌, ◌+◌, ◌<◌, ◌≤◌, ◌^◌, Err, IsFalse, IfOk, OnErr, length, take};
+ghost use Rattle.std.specs.Prelude.{◌≡◌, ◌≢◌, ◌⊎◌, ◌+◌, ◌<◌, ◌≤◌, ◌^◌, Err, IsFalse, IfOk, OnErr, length, take};
 ghost use Rattle.mig_sources.specs.Sources.{HasSource, count_of, feed_step, with_fed};
 ghost use Rattle.mig_load_types.specs.declared.fault.InPlaceFault.TheVariants as in_place_fault;
 ghost use Rattle.mig_staged.specs.Staged.{staged};
 ghost use Rattle.mig_in_place.specs.Sources.{counts_of};
-ghost use Rattle.mig_in_place.specs.Session.{StepsOn, RunsOut};
+ghost use Rattle.mig_load_types.specs.Settings.{for_table};
+ghost use Rattle.mig_answer.specs.declared.verdict.Verdict.TheVariants.{Running as running};
+ghost use Rattle.mig_sources.specs.declared.source.Source.TheVariants.{Main as main_source};
+ghost use Rattle.mig_in_place.specs.Session.{StepsOn, RunsOut, Tells, TakesBytes};
 ghost use Rattle.mig_in_place.specs.WholeRounds.{KeepsRounds};
 
 use crate::InPlaceSession;
@@ -37,6 +40,11 @@ impl<A: Allocator + Copy> InPlaceSession<A> {
         ensures other { result ≡ Err in_place_fault.OtherTable → (self.old.table ≢ memory.old.kept.table) × (self.new ≡ self.old) × (memory.new ≡ memory.old) }
         ensures err { result ≡ Err in_place_fault.NoMemory → KeepsRounds (feed_step source piece.now) (staged memory.old) memory.old.kept self.old memory.new.kept self.new }
         ensures failed { result ≡ Err in_place_fault.NoMemory → RunsOut source piece.now (staged memory.old) self.old (staged memory.new) self.new }
+        ensures main { IfOk result (λ n. source ≡ main_source → (n ≡ 0) ⊎ (n ≡ length piece.now)) }
+        ensures waits { IfOk result (λ n. n < length piece.now → (self.new.verdict ≢ running)
+            ⊎ Tells (staged memory.new) self.new (λ given uuid first texts. TakesBytes (for_table first.table given) uuid self.new.rounds texts source → ⊥)) }
+        ensures settled { IfOk result (λ n. self.old.verdict ≢ running → (n ≡ 0) × (self.new ≡ self.old) × (staged memory.new ≡ staged memory.old) × (memory.new.kept ≡ memory.old.kept)) }
+        ensures runs { result ≡ Err in_place_fault.NoMemory → self.old.verdict ≡ running }
         ensures counts { IfOk result (λ n. counts_of self.new.sources ≡ with_fed (counts_of self.old.sources) source n) }
         ensures table { (self.new.table ≡ self.old.table) × (memory.new.kept.table ≡ memory.old.kept.table) }
         ensures rounds { self.old.rounds ≤ self.new.rounds }
@@ -72,6 +80,11 @@ impl<A: Allocator + Copy> InPlaceSession<A> {
         ensures kept { IfOk result (λ n. KeepsRounds (feed_step source (take n piece.now)) (staged memory.old) memory.old.kept self.old memory.new.kept self.new) }
         ensures err { OnErr result (KeepsRounds (feed_step source piece.now) (staged memory.old) memory.old.kept self.old memory.new.kept self.new) }
         ensures failed { OnErr result (RunsOut source piece.now (staged memory.old) self.old (staged memory.new) self.new) }
+        ensures main { IfOk result (λ n. source ≡ main_source → (n ≡ 0) ⊎ (n ≡ length piece.now)) }
+        ensures waits { IfOk result (λ n. n < length piece.now → (self.new.verdict ≢ running)
+            ⊎ Tells (staged memory.new) self.new (λ given uuid first texts. TakesBytes (for_table first.table given) uuid self.new.rounds texts source → ⊥)) }
+        ensures settled { IfOk result (λ n. self.old.verdict ≢ running → (n ≡ 0) × (self.new ≡ self.old) × (staged memory.new ≡ staged memory.old) × (memory.new.kept ≡ memory.old.kept)) }
+        ensures runs { OnErr result (self.old.verdict ≡ running) }
         ensures counts { IfOk result (λ n. counts_of self.new.sources ≡ with_fed (counts_of self.old.sources) source n) }
         ensures table { (self.new.table ≡ self.old.table) × (memory.new.kept.table ≡ memory.old.kept.table) }
         ensures rounds { self.old.rounds ≤ self.new.rounds }

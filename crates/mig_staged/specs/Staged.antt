@@ -5,6 +5,11 @@ use Rattle.mig_mem.specs.Image.{Image, zero_image}
 use Rattle.mig_mem.specs.Round.{with_round, round_of}
 use Rattle.mig_marking.specs.Fresh.{AreZeros}
 
+-- what holds the pages of an open round, and which these are
+pub record Opened : Type 0 where
+  pub apart : Image
+  pub named : PlaceSet
+
 pub record Staging : Type 0 where
   -- the memory, with the rounds that were kept
   pub kept : Image

@@ -2,6 +2,8 @@
 //! has whole rounds alone, whatever load writes into it.
 #![tactic(auto)]
 
+mod open_pages;
 mod staged;
 
+pub use open_pages::OpenPages;
 pub use staged::{CopyKeeper, Keeper, OwnKeeper, Staged};

@@ -7,6 +7,7 @@ ghost use Rattle.mig_mem.specs.Round.{round_of, with_round};
 ghost use Rattle.mig_marking.specs.Fresh.{AreZeros};
 ghost use Rattle.mig_staged.specs.Staged.{staged};
 
+use crate::open_pages::OpenPages;
 use mig_mem::{Dirty, GuestTarget, Memory, NoMemory, Place, Table};
 use std::alloc::{Allocator, Global};
 use std::marker::Model;
@@ -153,14 +154,14 @@ impl<M: GuestTarget, A: Allocator> Staged<M, A> {
         memory
     }
 
-    /// Takes a memory, and the open round that `into_parts` returned with it, if the memory wasn't
-    /// changed since.
-    pub fn from_parts(memory: M, apart: Memory<A>, named: Dirty<A>) -> Staged<M, A>
-        requires table { apart.table ≡ (M.image memory).table }
-        requires zeros { AreZeros apart named }
+    /// Takes a memory, and an open round: one that `into_parts` returned with it, if the memory wasn't
+    /// changed since, or one without pages.
+    pub fn from_parts(memory: M, round: OpenPages<A>) -> Staged<M, A>
+        requires { round.apart.table ≡ (M.image memory).table }
         ensures kept { result.kept ≡ M.image memory }
-        ensures parts { (result.apart ≡ apart) × (result.named ≡ named) }
+        ensures parts { (result.apart ≡ round.apart) × (result.named ≡ round.named) }
     {
+        let (apart, named) = round.into_pages();
         Staged {
             memory,
             apart,
@@ -169,13 +170,11 @@ impl<M: GuestTarget, A: Allocator> Staged<M, A> {
         }
     }
 
-    /// Returns the memory with the rounds that were kept, the pages of the open round, and which
-    /// these are.
-    pub fn into_parts(self) -> (M, Memory<A>, Dirty<A>)
+    /// Returns the memory with the rounds that were kept, and the open round.
+    pub fn into_parts(self) -> (M, OpenPages<A>)
         ensures memory { M.image result.0 ≡ self.kept }
-        ensures parts { (result.1 ≡ self.apart) × (result.2 ≡ self.named) }
-        ensures table { result.1.table ≡ self.kept.table }
-        ensures zeros { AreZeros result.1 result.2 }
+        ensures parts { (result.1.apart ≡ self.apart) × (result.1.named ≡ self.named) }
+        ensures table { result.1.apart.table ≡ self.kept.table }
     {
         let Staged {
             memory,
@@ -183,7 +182,7 @@ impl<M: GuestTarget, A: Allocator> Staged<M, A> {
             named,
             is_fresh: _,
         } = self;
-        (memory, apart, named)
+        (memory, OpenPages::of(apart, named))
     }
 
     /// Keeps the open round: the memory has its pages, and no round is open. It allocates nothing.

@@ -1,6 +1,7 @@
 /* The calls for several channels, in both directions: a guest of two blocks is sent in rounds, by
- * workers that are stepped by turns, and loaded into blocks. The bytes that a source doesn't take
- * are kept until it does. Each status of a call is asked for once, and what stands after it. */
+ * workers that are stepped by turns, and loaded into blocks, by whole rounds too. The bytes that a
+ * source doesn't take are kept until it does. Each status of a call is asked for once, and what
+ * stands after it. */
 #include "zimgasol.h"
 #include <stdio.h>
 #include <stdlib.h>
@@ -24,10 +25,13 @@ enum {
     } while (0)
 
 static uint8_t guest[2][PAGES * PAGE], loaded[2][PAGES * PAGE];
+/* the guest of the first round */
+static uint8_t first_guest[2][PAGES * PAGE];
 static uint8_t stream[1 + CHANNELS][MOST];
 static size_t length[1 + CHANNELS], given[1 + CHANNELS];
 static const uint8_t uuid[16] = {1, 2, 3};
 static const zimgasol_settings plain = {.frame = ZIMGASOL_FRAME_RAM};
+static const zimgasol_settings whole = {.zero_blocks = 1, .whole_rounds = 1};
 
 static zimgasol_lent lent[2] = {{guest[0], sizeof guest[0]}, {guest[1], OTHER_LEN}};
 static zimgasol_buffer into[2] = {{loaded[0], sizeof loaded[0]}, {loaded[1], OTHER_LEN}};
@@ -160,6 +164,7 @@ static int send_all(zimgasol_table *table) {
     write_guest(1);
     if (send_round(&multi, all, PAGES + OTHER)) return 1;
     write_guest(1);
+    memcpy(first_guest, guest, sizeof guest);
     memset(guest[0] + 5 * PAGE, 55, PAGE);
     memset(guest[0] + 4 * PAGE, 0, PAGE);
     guest[1][2 * PAGE - 1] = 9;
@@ -432,58 +437,103 @@ static int load_cut(zimgasol_table *table) {
     return 0;
 }
 
-/* In a session a channel that lacks its last byte is reported as cut while the main stream goes on,
- * and still once the verdict is there. */
-static int session_cut(void) {
-    zimgasol_session load = {0};
-    zimgasol_fault fault = {.number = 7};
-    size_t cut = ZIMGASOL_CHANNEL(1), half = length[0] / 2;
-    WANT(zimgasol_session_new(&load, PAGE, uuid, 16, CHANNELS, (PAGES + OTHER) * PAGE,
-             ZIMGASOL_FRAME_RAM) == ZIMGASOL_DONE);
-    WANT(zimgasol_session_fault_of(&load, 1 + CHANNELS, &fault) == ZIMGASOL_BAD_SOURCE &&
-        fault.number == 7);
-    WANT(zimgasol_session_feed(&load, cut, stream[cut], length[cut] - 1) == ZIMGASOL_DONE);
-    WANT(zimgasol_session_fault_of(&load, cut, &fault) == ZIMGASOL_DONE && fault.number == 0);
-    WANT(zimgasol_session_end(&load, cut) == ZIMGASOL_DONE);
-    WANT(zimgasol_session_feed(&load, ZIMGASOL_MAIN, stream[0], half) == ZIMGASOL_DONE);
-    WANT(zimgasol_session_verdict(&load, &fault) == ZIMGASOL_RUNNING);
-    WANT(zimgasol_session_fault_of(&load, cut, &fault) == ZIMGASOL_CHANNEL_TRUNCATED);
-    WANT(fault.source == cut && fault.round == 0 && fault.number == ZIMGASOL_CHANNEL_TRUNCATED);
-    WANT(zimgasol_session_fault_of(&load, ZIMGASOL_MAIN, &fault) == ZIMGASOL_DONE);
-    WANT(zimgasol_session_fault_of(&load, ZIMGASOL_CHANNEL(0), &fault) == ZIMGASOL_DONE);
-    WANT(zimgasol_session_feed(&load, 0, stream[0] + half, length[0] - half) == ZIMGASOL_DONE);
-    for (size_t source = 1; source <= CHANNELS; source++)
-        if (source != cut)
-            WANT(zimgasol_session_feed(&load, source, stream[source], length[source]) ==
-                    ZIMGASOL_DONE &&
-                zimgasol_session_end(&load, source) == ZIMGASOL_DONE);
-    WANT(zimgasol_session_verdict(&load, &fault) == ZIMGASOL_CHANNEL_TRUNCATED &&
-        fault.source == cut && fault.round == 1);
-    WANT(zimgasol_session_fault_of(&load, cut, &fault) == ZIMGASOL_CHANNEL_TRUNCATED &&
-        fault.source == cut && fault.round == 1);
-    WANT(zimgasol_session_fault_of(&load, ZIMGASOL_MAIN, &fault) == ZIMGASOL_DONE);
-    WANT(!zimgasol_session_has_all_rounds(&load));
-    zimgasol_session_free(&load);
+/* ---- whole rounds */
+
+/* The blocks, which were zeros, have these rounds and nothing else. */
+static int has_rounds(uint64_t rounds) {
+    static const uint8_t zeros[PAGES * PAGE];
+    const uint8_t *ram = rounds == 0 ? zeros : rounds == 1 ? first_guest[0] : guest[0];
+    const uint8_t *bios = rounds == 0 ? zeros : rounds == 1 ? first_guest[1] : guest[1];
+    return rounds <= 2 && memcmp(loaded[0], ram, PAGES * PAGE) == 0 &&
+        memcmp(loaded[1], bios, OTHER_LEN) == 0;
+}
+
+/* Feeds the first `len[source]` bytes of each source in pieces of `cut` bytes, by turns. After each
+ * piece the blocks have the rounds counted. */
+static int feed_whole(zimgasol_load *load, const size_t len[1 + CHANNELS], size_t cut) {
+    for (int moved = 1; moved;) {
+        moved = 0;
+        for (size_t source = 0; source <= CHANNELS; source++) {
+            size_t left = len[source] - given[source], taken = 7;
+            if (left == 0 || !zimgasol_load_takes(load, source)) continue;
+            WANT(zimgasol_load_feed(load, into, 2, source, stream[source] + given[source],
+                     left < cut ? left : cut, &taken) == ZIMGASOL_DONE);
+            given[source] += taken;
+            moved = moved || taken > 0;
+            WANT(has_rounds(zimgasol_load_rounds(load)));
+        }
+    }
+    for (size_t source = 0; source <= CHANNELS; source++) WANT(given[source] == len[source]);
     return 0;
 }
 
-/* A session has all rounds once the last source was fed, before a channel ends. */
-static int session_ends(void) {
-    zimgasol_session load = {0};
-    zimgasol_fault fault;
-    WANT(zimgasol_session_new(&load, PAGE, uuid, 16, CHANNELS, (PAGES + OTHER) * PAGE,
-             ZIMGASOL_FRAME_RAM) == ZIMGASOL_DONE);
-    for (size_t source = 0; source <= CHANNELS; source++) {
-        WANT(!zimgasol_session_has_all_rounds(&load));
-        WANT(zimgasol_session_feed(&load, source, stream[source], length[source]) == ZIMGASOL_DONE);
-    }
-    WANT(zimgasol_session_verdict(&load, &fault) == ZIMGASOL_RUNNING);
-    WANT(zimgasol_session_rounds(&load) == 2 && zimgasol_session_has_all_rounds(&load));
+static int begin_whole(zimgasol_table *table, zimgasol_load *load) {
+    memset(loaded, 0, sizeof loaded);
+    memset(given, 0, sizeof given);
+    WANT(zimgasol_load_new(load, table, uuid, 16, CHANNELS, &whole) == ZIMGASOL_DONE);
+    WANT(zimgasol_load_missing(load) == PAGES + OTHER && has_rounds(0));
+    return 0;
+}
+
+/* By whole rounds a channel that lacks its last byte is reported as cut while the main stream goes
+ * on, and still once the verdict is there. The blocks have the first round, and keep it. The main
+ * stream stops before the FLUSH of the second round, after which it has 8 bytes of that, 13 of its
+ * section's end, 18 of END and the end byte. */
+static int whole_cut(zimgasol_table *table) {
+    zimgasol_load load = {0};
+    zimgasol_fault fault = {.number = 7};
+    size_t cut = ZIMGASOL_CHANNEL(1), len[1 + CHANNELS];
+    uint64_t at = 7;
+    memcpy(len, length, sizeof len);
+    len[cut]--;
+    len[ZIMGASOL_MAIN] -= 8 + 13 + 18 + 1;
+    WANT(stream[ZIMGASOL_MAIN][len[ZIMGASOL_MAIN] + 6] == 0x200 >> 8);
+    if (begin_whole(table, &load)) return 1;
+    WANT(zimgasol_load_fault_of(&load, 1 + CHANNELS, &fault) == ZIMGASOL_BAD_SOURCE &&
+        fault.number == 7);
+    if (feed_whole(&load, len, 5000)) return 1;
+    WANT(zimgasol_load_rounds(&load) == 1 && zimgasol_load_missing(&load) == 0);
+    WANT(zimgasol_load_fault_of(&load, cut, &fault) == ZIMGASOL_DONE && fault.number == 0);
+    WANT(zimgasol_load_end(&load, cut) == ZIMGASOL_DONE);
+    WANT(zimgasol_load_verdict(&load, &fault) == ZIMGASOL_RUNNING);
+    WANT(zimgasol_load_fault_of(&load, cut, &fault) == ZIMGASOL_CHANNEL_TRUNCATED);
+    WANT(fault.source == cut && fault.round == 1 && fault.number == ZIMGASOL_CHANNEL_TRUNCATED);
+    WANT(zimgasol_load_fault_of(&load, ZIMGASOL_MAIN, &fault) == ZIMGASOL_DONE);
+    WANT(zimgasol_load_fault_of(&load, ZIMGASOL_CHANNEL(0), &fault) == ZIMGASOL_DONE);
+    len[ZIMGASOL_MAIN] = length[ZIMGASOL_MAIN];
+    if (feed_whole(&load, len, 5000)) return 1;
     for (size_t source = 1; source <= CHANNELS; source++)
-        WANT(zimgasol_session_end(&load, source) == ZIMGASOL_DONE);
-    WANT(zimgasol_session_verdict(&load, &fault) == ZIMGASOL_DONE);
-    WANT(zimgasol_session_has_all_rounds(&load));
-    zimgasol_session_free(&load);
+        if (source != cut) WANT(zimgasol_load_end(&load, source) == ZIMGASOL_DONE);
+    WANT(zimgasol_load_verdict(&load, &fault) == ZIMGASOL_CHANNEL_TRUNCATED &&
+        fault.source == cut && fault.round == 1);
+    WANT(zimgasol_load_fault_of(&load, cut, &fault) == ZIMGASOL_CHANNEL_TRUNCATED &&
+        fault.source == cut && fault.round == 1);
+    WANT(zimgasol_load_fault_of(&load, ZIMGASOL_MAIN, &fault) == ZIMGASOL_DONE);
+    /* the cut item is the last SYNC packet, of 1,344 bytes */
+    WANT(zimgasol_load_valid_up_to(&load, cut, &at) && at == length[cut] - 1344);
+    WANT(!zimgasol_load_has_all_rounds(&load));
+    WANT(zimgasol_load_rounds(&load) == 1 && has_rounds(1));
+    zimgasol_load_free(&load);
+    return 0;
+}
+
+/* A load of whole rounds has all of them once the last source was fed, before a channel ends. */
+static int whole_ends(zimgasol_table *table, size_t cut) {
+    zimgasol_load load = {0};
+    zimgasol_fault fault;
+    size_t len[1 + CHANNELS];
+    memcpy(len, length, sizeof len);
+    len[CHANNELS]--;
+    if (begin_whole(table, &load) || feed_whole(&load, len, cut)) return 1;
+    WANT(zimgasol_load_rounds(&load) == 1 && !zimgasol_load_has_all_rounds(&load) && has_rounds(1));
+    if (feed_whole(&load, length, cut)) return 1;
+    WANT(zimgasol_load_verdict(&load, &fault) == ZIMGASOL_RUNNING);
+    WANT(zimgasol_load_rounds(&load) == 2 && zimgasol_load_has_all_rounds(&load) && has_rounds(2));
+    for (size_t source = 1; source <= CHANNELS; source++)
+        WANT(zimgasol_load_end(&load, source) == ZIMGASOL_DONE);
+    WANT(zimgasol_load_verdict(&load, &fault) == ZIMGASOL_DONE);
+    WANT(zimgasol_load_has_all_rounds(&load) && has_rounds(2));
+    zimgasol_load_free(&load);
     return 0;
 }
 
@@ -582,7 +632,9 @@ int main(void) {
     for (size_t i = 0; i < sizeof cuts / sizeof cuts[0]; i++)
         if (load_all(&table, cuts[i])) return 1;
     if (load_wrong(&table) || load_cut(&table) || load_limited(&table)) return 1;
-    if (session_cut() || session_ends()) return 1;
+    for (size_t i = 0; i < 3; i++)
+        if (whole_ends(&table, cuts[i])) return 1;
+    if (whole_cut(&table)) return 1;
     printf("%zu bytes on the main stream, %zu, %zu and %zu on the channels; 0 pages differ\n",
         length[0], length[1], length[2], length[3]);
     if (send_named(&table) || foreign(&table)) return 1;

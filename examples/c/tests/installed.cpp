@@ -6,14 +6,12 @@ int main() {
     zimgasol_table table = {};
     zimgasol_loader loader = {};
     zimgasol_load load = {};
-    zimgasol_session session = {};
     zimgasol_sender sender = {};
     zimgasol_multi multi = {};
     zimgasol_worker workers[4] = {};
     zimgasol_table_free(&table);
     zimgasol_loader_free(&loader);
     zimgasol_load_free(&load);
-    zimgasol_session_free(&session);
     zimgasol_sender_free(&sender);
     zimgasol_multi_free(&multi);
     for (zimgasol_worker &worker : workers) zimgasol_worker_free(&worker);

@@ -18,6 +18,7 @@ enum { PAGE = 4096, PAGES = 3, MOST = 1 << 16, HEAD = ZIMGASOL_HEAD_LEN(PAGE) };
 
 static const uint8_t uuid[16] = {8};
 static const zimgasol_settings plain = {.frame = ZIMGASOL_FRAME_RAM};
+static const zimgasol_settings whole = {.whole_rounds = 1};
 
 /* One stream; and a main stream and its channel. */
 static uint8_t single[MOST], stream[2][MOST];
@@ -89,9 +90,11 @@ static int make(zimgasol_table *table, size_t uuid_len, size_t channels,
 }
 
 static int refuse_all(zimgasol_table *table) {
-    const zimgasol_settings both = {(zimgasol_frame)2, (zimgasol_round_end)3, 0, 0, {0}};
+    const zimgasol_settings both = {.frame = (zimgasol_frame)2, .round_end = (zimgasol_round_end)3};
     const zimgasol_settings round_end = {.round_end = (zimgasol_round_end)3};
     const zimgasol_settings shown = {.round_end = ZIMGASOL_AS_SHOWN};
+    zimgasol_settings wrong_whole = both;
+    wrong_whole.whole_rounds = 2;
     /* several channels: each one has the arguments that are tested later wrong, too */
     if (refuse(table, 15, 256, &both, ZIMGASOL_BAD_CHANNELS)) return 1;
     if (refuse(table, 15, SIZE_MAX, &both, ZIMGASOL_BAD_CHANNELS)) return 1;
@@ -100,6 +103,13 @@ static int refuse_all(zimgasol_table *table) {
     if (refuse(table, 16, 1, &both, ZIMGASOL_BAD_FRAME)) return 1;
     if (refuse(table, 16, 1, &round_end, ZIMGASOL_BAD_ROUND_END)) return 1;
     if (make(table, 16, 1, &shown) || make(table, 16, 255, &plain)) return 1;
+    /* by whole rounds, too, of which one stream has none */
+    if (refuse(table, 15, 256, &wrong_whole, ZIMGASOL_BAD_CHANNELS)) return 1;
+    if (refuse(table, 15, 255, &wrong_whole, ZIMGASOL_BAD_LENGTH)) return 1;
+    if (refuse(table, 16, 255, &wrong_whole, ZIMGASOL_BAD_FRAME)) return 1;
+    if (refuse(table, 15, 0, &wrong_whole, ZIMGASOL_BAD_CHANNELS)) return 1;
+    if (refuse(table, 0, 0, &whole, ZIMGASOL_BAD_CHANNELS)) return 1;
+    if (make(table, 16, 1, &whole) || make(table, 16, 255, &whole)) return 1;
     /* one stream: neither a UUID nor an end of rounds is looked at */
     if (refuse(table, 15, 0, &both, ZIMGASOL_BAD_FRAME)) return 1;
     return make(table, 15, 0, &round_end) || make(table, 0, 0, &plain);
@@ -347,18 +357,37 @@ static int take_packet(zimgasol_load *load) {
     return ask_others_of_several(load);
 }
 
-static int load_several(zimgasol_table *table) {
+/* Feeds the packet of the channel to a load of whole rounds, which claims none of its pages. The
+ * blocks have nothing of it yet. */
+static int feed_packet(zimgasol_load *load) {
+    const uint8_t *head = stream[1] + ZIMGASOL_HELLO_LEN;
+    const zimgasol_lent content = {head + HEAD, PAGE};
+    zimgasol_pages pages = {.block = 7, .normal = 8, .zero = 9};
+    for (int turn = 0; turn < 2; turn++) {
+        WANT(zimgasol_load_claim(load, 0, head, HEAD, &pages) == ZIMGASOL_TO_FEED);
+        WANT(pages.block == 7 && pages.normal == 8 && pages.zero == 9 && pages.pages[0] == 0);
+        WANT(zimgasol_load_take(load, 0, head, HEAD, &content, 1) == ZIMGASOL_OUT_OF_TURN);
+        WANT(zimgasol_load_claimed(load) == 0);
+        if (turn == 0 && feed_and_ask(load, ZIMGASOL_CHANNEL(0), ZIMGASOL_HELLO_LEN, HEAD + PAGE))
+            return 1;
+    }
+    for (size_t i = 0; i < sizeof loaded; i++) WANT(loaded[i] == 0xEE);
+    return 0;
+}
+
+/* Loads what is of several channels: page by page, or by whole rounds. */
+static int load_several(zimgasol_table *table, const zimgasol_settings *settings) {
     size_t packet = ZIMGASOL_HELLO_LEN + HEAD + PAGE, taken = 7;
     zimgasol_load load = {0};
     zimgasol_fault found;
     memset(loaded, 0xEE, sizeof loaded);
-    WANT(zimgasol_load_new(&load, table, uuid, 16, 1, &plain) == ZIMGASOL_DONE);
+    WANT(zimgasol_load_new(&load, table, uuid, 16, 1, settings) == ZIMGASOL_DONE);
     WANT(zimgasol_load_missing(&load) == PAGES);
     if (ask_others_of_several(&load)) return 1;
     if (feed_and_ask(&load, ZIMGASOL_CHANNEL(0), 0, ZIMGASOL_HELLO_LEN)) return 1;
     WANT(!zimgasol_load_takes(&load, ZIMGASOL_CHANNEL(0)));
     if (feed_and_ask(&load, ZIMGASOL_MAIN, 0, length[0])) return 1;
-    if (take_packet(&load)) return 1;
+    if (settings->whole_rounds ? feed_packet(&load) : take_packet(&load)) return 1;
     WANT(!zimgasol_load_has_all_rounds(&load));
     if (feed_and_ask(&load, ZIMGASOL_CHANNEL(0), packet, HEAD)) return 1;
     WANT(zimgasol_load_has_all_rounds(&load));
@@ -384,8 +413,8 @@ int main(void) {
     memset(guest, 0x5A, PAGE);
     WANT(zimgasol_table_new(&table, PAGE, &block, 1, &entry) == ZIMGASOL_DONE);
     if (send_single(&table) || send_several(&table)) return 1;
-    if (refuse_all(&table) || load_one_stream(&table) || load_other() || load_several(&table))
-        return 1;
+    if (refuse_all(&table) || load_one_stream(&table) || load_other()) return 1;
+    if (load_several(&table, &plain) || load_several(&table, &whole)) return 1;
     zimgasol_table_free(&table);
     printf("loads of one stream and of several channels: each call, of sources that a load has and "
            "of others\n");

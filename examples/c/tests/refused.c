@@ -1,7 +1,7 @@
-/* Each allocation refused in turn. A guest of two blocks is sent, loaded by a loader, into blocks
- * and by a session, and read out, with the nth call of malloc or realloc refused: the call that
- * wanted it says so, and is made again. What comes of it is the same as with no refusal, and no
- * block is left. */
+/* Each allocation refused in turn. A guest of two blocks is sent, loaded by a loader and read out,
+ * and loaded into blocks, with the nth call of malloc or realloc refused: the call that wanted it
+ * says so, and is made again. So is a main stream with its channel, by whole rounds. What comes of
+ * it is the same as with no refusal, and no block is left. */
 #include "zimgasol.h"
 #include "refusing.h"
 #include <string.h>
@@ -371,64 +371,101 @@ static void put_channel(void) {
         zimgasol_hello(uuid, 16, 0, page, 63) == ZIMGASOL_BAD_LENGTH);
 }
 
-/* Feeds both texts in turn. Answers the status that was refused, or DONE. */
-static uint32_t feed_session(zimgasol_session *session, size_t cut) {
-    uint32_t found = ZIMGASOL_DONE;
-    for (size_t at = 0; at < main_len || at < channel_len; at += cut) {
-        if (at < channel_len) {
-            uint32_t status = zimgasol_session_feed(session, ZIMGASOL_CHANNEL(0), channel_text + at,
-                channel_len - at < cut ? channel_len - at : cut);
-            if (status != ZIMGASOL_DONE) found = status;
-        }
-        if (at < main_len) {
-            uint32_t status = zimgasol_session_feed(session, ZIMGASOL_MAIN, main_text + at,
-                main_len - at < cut ? main_len - at : cut);
-            if (status != ZIMGASOL_DONE) found = status;
-        }
-    }
-    WANT(zimgasol_session_end(session, ZIMGASOL_MAIN) == ZIMGASOL_DONE &&
-        zimgasol_session_end(session, ZIMGASOL_CHANNEL(0)) == ZIMGASOL_DONE);
-    WANT(zimgasol_session_end(session, ZIMGASOL_CHANNEL(1)) == ZIMGASOL_BAD_SOURCE);
-    return found;
+/* ---- a main stream and its channel, by whole rounds */
+
+/* The only block of their table, and the first byte of its page 1 after the round. All its other
+ * bytes are zeros, before the round as after it. */
+static uint8_t only_block[2 * PAGE], sent_byte;
+static zimgasol_buffer only[1] = {{only_block, sizeof only_block}};
+
+/* The block has the round, or is as before it. */
+static int has_rounds(uint64_t rounds) {
+    return is_filled(only_block, PAGE, 0) && only_block[PAGE] == (rounds > 0 ? sent_byte : 0) &&
+        is_filled(only_block + PAGE + 1, PAGE - 1, 0);
 }
 
-static void load_several(size_t cut) {
+/* Makes a load of the table that the main stream brings: of a block of two pages. */
+static void make_several(zimgasol_load *load, uint64_t waiting) {
     static const uint8_t uuid[16] = {1, 2, 3};
-    zimgasol_session session = {0};
-    zimgasol_fault fault;
-    AGAIN(zimgasol_session_new(&session, PAGE, uuid, 16, 1, 1 << 20, ZIMGASOL_FRAME_RAM));
-    uint64_t none = 7;
-    WANT(zimgasol_session_verdict(&session, &fault) == ZIMGASOL_RUNNING);
-    WANT(!zimgasol_session_missing(&session, &none) && none == 7);
-    uint32_t found = feed_session(&session, cut);
-    if (found == ZIMGASOL_NO_MEMORY) {
-        WANT(refusals == 1 && zimgasol_session_verdict(&session, &fault) == ZIMGASOL_NO_MEMORY &&
-            fault.source == ZIMGASOL_ROUND);
-        zimgasol_session_free(&session);
-        AGAIN(zimgasol_session_new(&session, PAGE, uuid, 16, 1, 1 << 20, ZIMGASOL_FRAME_RAM));
-        found = feed_session(&session, cut);
-    }
-    WANT(found == ZIMGASOL_DONE && zimgasol_session_verdict(&session, &fault) == ZIMGASOL_DONE &&
-        fault.number == 0);
-    WANT(zimgasol_session_feed(&session, ZIMGASOL_MAIN, page, 1) == ZIMGASOL_IS_OVER &&
-        zimgasol_session_feed(&session, 2, page, 1) == ZIMGASOL_BAD_SOURCE);
-    WANT(zimgasol_session_rounds(&session) == 1 && zimgasol_session_blocks(&session) == 1);
-    uint64_t missing = 7;
-    WANT(zimgasol_session_missing(&session, &missing) && missing == 0);
+    zimgasol_settings settings = {.waiting = waiting, .zero_blocks = 1, .whole_rounds = 1};
+    zimgasol_table table = {0};
     zimgasol_block block;
-    WANT(zimgasol_session_block(&session, 0, &block) == ZIMGASOL_DONE && block.pages == 2 &&
-        block.id[0] == 'a' && block.id[1] == 0);
-    WANT(zimgasol_session_page(&session, 0, 1, page, PAGE) == ZIMGASOL_DONE && page[0] == 9 &&
-        page[1] == 0);
-    uint64_t at = 7;
-    memset(page, 0xEE, PAGE);
-    WANT(zimgasol_session_next_nonzero(&session, 0, 0, &at) == ZIMGASOL_DONE && at == 1);
-    WANT(zimgasol_session_read(&session, 0, 1, page, PAGE) == ZIMGASOL_DONE && page[0] == 9 &&
-        page[1] == 0 && page[PAGE - 1] == 0);
-    WANT(zimgasol_session_next_nonzero(&session, 0, 2, &at) == ZIMGASOL_NO_PAGE &&
-        zimgasol_session_read(&session, 0, 2, page, PAGE) == ZIMGASOL_NO_PAGE);
-    WANT(zimgasol_session_read(&session, 0, 0, page, 7) == ZIMGASOL_BAD_LENGTH);
-    zimgasol_session_free(&session);
+    AGAIN(zimgasol_table_of_stream(&table, PAGE, ZIMGASOL_FRAME_RAM, main_text, main_len));
+    WANT(zimgasol_table_blocks(&table) == 1 &&
+        zimgasol_table_block(&table, 0, &block) == ZIMGASOL_DONE);
+    WANT(block.pages == 2 && block.id[0] == 'a' && block.id[1] == 0);
+    AGAIN(zimgasol_load_new(load, &table, uuid, 16, 1, &settings));
+    zimgasol_table_free(&table);
+    memset(only_block, 0, sizeof only_block);
+}
+
+/* A piece was refused: nothing has changed, or the load has failed for good. In both the blocks
+ * have whole rounds. Returns NO_MEMORY in the second case. */
+static uint32_t after_refusal(zimgasol_load *load, size_t source, uint64_t fed) {
+    zimgasol_fault fault;
+    size_t taken = 7;
+    WANT(refusals == 1 && has_rounds(zimgasol_load_rounds(load)));
+    if (zimgasol_load_verdict(load, &fault) == ZIMGASOL_RUNNING) {
+        WANT(zimgasol_load_fed(load, source) == fed);
+        return ZIMGASOL_DONE;
+    }
+    WANT(fault.number == ZIMGASOL_NO_MEMORY && fault.source == ZIMGASOL_ROUND &&
+        fault.round == zimgasol_load_rounds(load));
+    WANT(zimgasol_load_feed(load, only, 1, source, page, 1, &taken) == ZIMGASOL_DONE && taken == 0);
+    WANT(has_rounds(zimgasol_load_rounds(load)));
+    return ZIMGASOL_NO_MEMORY;
+}
+
+/* Feeds both texts in turn, as far as they are taken, and ends them. Returns NO_MEMORY where the
+ * load has failed for good. */
+static uint32_t feed_several(zimgasol_load *load, size_t cut) {
+    const uint8_t *const texts[2] = {main_text, channel_text};
+    size_t lengths[2] = {main_len, channel_len}, fed[2] = {0}, taken;
+    for (int moved = 1; moved;) {
+        moved = 0;
+        for (size_t turn = 0; turn < 2; turn++) {
+            size_t s = 1 - turn, left = lengths[s] - fed[s], len = left < cut ? left : cut;
+            if (len == 0 || !zimgasol_load_takes(load, s)) continue;
+            moved = 1;
+            uint32_t status = zimgasol_load_feed(load, only, 1, s, texts[s] + fed[s], len, &taken);
+            WANT(status == ZIMGASOL_DONE || (status == ZIMGASOL_NO_MEMORY && taken == 0));
+            if (status == ZIMGASOL_NO_MEMORY && after_refusal(load, s, fed[s]) != ZIMGASOL_DONE)
+                return status;
+            fed[s] += taken;
+            WANT(zimgasol_load_fed(load, s) == fed[s] && has_rounds(zimgasol_load_rounds(load)));
+        }
+    }
+    WANT(zimgasol_load_end(load, ZIMGASOL_MAIN) == ZIMGASOL_DONE &&
+        zimgasol_load_end(load, ZIMGASOL_CHANNEL(0)) == ZIMGASOL_DONE);
+    WANT(zimgasol_load_end(load, ZIMGASOL_CHANNEL(1)) == ZIMGASOL_BAD_SOURCE);
+    return ZIMGASOL_DONE;
+}
+
+/* Loads them in pieces of `cut` bytes. A load that has failed is made again. */
+static void load_several(size_t cut) {
+    zimgasol_load load = {0};
+    zimgasol_fault fault;
+    size_t taken = 7;
+    sent_byte = 9;
+    make_several(&load, 0);
+    WANT(zimgasol_load_verdict(&load, &fault) == ZIMGASOL_RUNNING);
+    WANT(zimgasol_load_missing(&load) == 2);
+    uint32_t found = feed_several(&load, cut);
+    if (found == ZIMGASOL_NO_MEMORY) {
+        WANT(zimgasol_load_verdict(&load, &fault) == ZIMGASOL_NO_MEMORY);
+        zimgasol_load_free(&load);
+        make_several(&load, 0);
+        found = feed_several(&load, cut);
+    }
+    WANT(found == ZIMGASOL_DONE && zimgasol_load_verdict(&load, &fault) == ZIMGASOL_DONE &&
+        fault.number == 0);
+    WANT(zimgasol_load_feed(&load, only, 1, ZIMGASOL_MAIN, page, 1, &taken) == ZIMGASOL_IS_OVER &&
+        taken == 0);
+    WANT(zimgasol_load_feed(&load, only, 1, 2, page, 1, &taken) == ZIMGASOL_BAD_SOURCE &&
+        taken == 0);
+    WANT(zimgasol_load_rounds(&load) == 1 && zimgasol_load_missing(&load) == 0 && has_rounds(1));
+    zimgasol_load_free(&load);
+    WANT(load.full == 0 && has_rounds(1));
 }
 
 /* Each section of the stream has two page records: with a limit of one, the second one of the first
@@ -492,8 +529,7 @@ static void limit_one_stream(uint64_t waiting) {
 static void limit_channels(uint64_t waiting) {
     static const uint8_t uuid[16] = {1, 2, 3};
     static const uint64_t none[1] = {0};
-    zimgasol_settings settings = {.waiting = waiting};
-    zimgasol_session session = {0};
+    zimgasol_load load = {0};
     zimgasol_fault fault;
     uint64_t at = 7;
     put_main_with(1);
@@ -501,49 +537,53 @@ static void limit_channels(uint64_t waiting) {
     AGAIN(zimgasol_put_packet(PAGE, 0, true, (const uint8_t *)"", 0, none, 0, page, 0, none, 0,
         channel_text + 64, MOST - 64, &channel_len));
     channel_len += 64;
-    AGAIN(zimgasol_session_new_within(&session, PAGE, uuid, 16, 1, 1 << 20, &settings));
-    WANT(zimgasol_session_closed_at(&session, &at) == ZIMGASOL_RUNNING && at == 7);
-    WANT(feed_session(&session, MOST) == ZIMGASOL_DONE);
-    WANT(zimgasol_session_verdict(&session, &fault) ==
+    sent_byte = 0;
+    make_several(&load, waiting);
+    WANT(zimgasol_load_closed_at(&load, &at) == ZIMGASOL_RUNNING && at == 7);
+    WANT(feed_several(&load, MOST) == ZIMGASOL_DONE);
+    WANT(zimgasol_load_verdict(&load, &fault) ==
         (waiting == 1 ? ZIMGASOL_STREAM_WAITING : ZIMGASOL_DONE));
-    WANT(zimgasol_session_valid_up_to(&session, ZIMGASOL_MAIN, &at) &&
+    WANT(zimgasol_load_valid_up_to(&load, ZIMGASOL_MAIN, &at) &&
         at == (waiting == 1 ? 56 + 5 + 11 : main_len));
     at = 7;
-    WANT(zimgasol_session_closed_at(&session, &at) ==
+    WANT(zimgasol_load_closed_at(&load, &at) ==
             (waiting == 1 ? ZIMGASOL_RUNNING : ZIMGASOL_DONE) &&
         at == (waiting == 1 ? 7 : main_len));
     at = 7;
-    WANT(!zimgasol_session_valid_up_to(&session, ZIMGASOL_CHANNEL(1), &at) &&
-        !zimgasol_session_valid_up_to(&session, ZIMGASOL_ROUND, &at) && at == 7);
-    zimgasol_session_free(&session);
+    WANT(!zimgasol_load_valid_up_to(&load, ZIMGASOL_CHANNEL(1), &at) &&
+        !zimgasol_load_valid_up_to(&load, ZIMGASOL_ROUND, &at) && at == 7);
+    WANT(zimgasol_load_rounds(&load) == waiting - 1 && has_rounds(waiting - 1));
+    zimgasol_load_free(&load);
     put_main();
 }
 
 /* The magic of a channel's second packet is wrong: the hello has 64 bytes, and the first packet
- * 1,344 and a page. */
+ * 1,344 and a page. No round is complete, so that page isn't in the block. */
 static void wrong_packet(void) {
-    static const uint8_t uuid[16] = {1, 2, 3};
     static const uint64_t second = 64 + 1344 + PAGE;
-    zimgasol_session session = {0};
+    zimgasol_load load = {0};
     zimgasol_fault fault;
     uint64_t at = 7;
     put_channel();
     channel_text[second]++;
-    AGAIN(zimgasol_session_new(&session, PAGE, uuid, 16, 1, 1 << 20, ZIMGASOL_FRAME_RAM));
-    WANT(feed_session(&session, MOST) == ZIMGASOL_DONE);
-    WANT(zimgasol_session_verdict(&session, &fault) == ZIMGASOL_CHANNEL_PACKET_MAGIC &&
+    sent_byte = 9;
+    make_several(&load, 0);
+    WANT(feed_several(&load, MOST) == ZIMGASOL_DONE);
+    WANT(zimgasol_load_verdict(&load, &fault) == ZIMGASOL_CHANNEL_PACKET_MAGIC &&
         fault.source == ZIMGASOL_CHANNEL(0));
-    WANT(zimgasol_session_valid_up_to(&session, fault.source, &at) && at == second);
-    zimgasol_session_free(&session);
+    WANT(zimgasol_load_valid_up_to(&load, fault.source, &at) && at == second);
+    WANT(zimgasol_load_rounds(&load) == 0 && has_rounds(0));
+    zimgasol_load_free(&load);
 }
 
 /* Calls that aren't to be made so. */
 static void misuse(void) {
     static const uint8_t uuid[16] = {0};
+    static const zimgasol_settings whole = {.whole_rounds = 1};
     zimgasol_block blocks[2] = {{.id = "a", .pages = 1}, {.id = "a", .pages = 1}};
     zimgasol_table table = {0};
     zimgasol_loader loader = {0};
-    zimgasol_session session = {0};
+    zimgasol_load load = {0};
     zimgasol_sender sender = {0};
     size_t entry = 9;
     WANT(zimgasol_table_new(&table, 100, blocks, 1, &entry) == ZIMGASOL_BAD_PAGE_SIZE);
@@ -560,15 +600,12 @@ static void misuse(void) {
             ZIMGASOL_BAD_LIMIT &&
         zimgasol_loader_new(&loader, 1, 1, ZIMGASOL_FRAME_RAM) == ZIMGASOL_BAD_PAGE_SIZE &&
         zimgasol_loader_new(&loader, PAGE, 1, (zimgasol_frame)2) == ZIMGASOL_BAD_FRAME);
-    WANT(zimgasol_session_new(&session, PAGE, uuid, 16, 0, 1, ZIMGASOL_FRAME_RAM) ==
-            ZIMGASOL_BAD_CHANNELS &&
-        zimgasol_session_new(&session, PAGE, uuid, 16, 256, 1, ZIMGASOL_FRAME_RAM) ==
-            ZIMGASOL_BAD_CHANNELS);
-    WANT(zimgasol_session_new(&session, PAGE, uuid, 15, 1, 1, ZIMGASOL_FRAME_RAM) ==
-            ZIMGASOL_BAD_LENGTH &&
-        session.at == NULL);
     WANT(zimgasol_table_new(&table, PAGE, blocks + 1, 1, &entry) == ZIMGASOL_DONE &&
         zimgasol_sender_new(&sender, &table) == ZIMGASOL_DONE);
+    WANT(zimgasol_load_new(&load, &table, uuid, 16, 0, &whole) == ZIMGASOL_BAD_CHANNELS &&
+        zimgasol_load_new(&load, &table, uuid, 16, 256, &whole) == ZIMGASOL_BAD_CHANNELS);
+    WANT(zimgasol_load_new(&load, &table, uuid, 15, 1, &whole) == ZIMGASOL_BAD_LENGTH &&
+        load.at == NULL);
     WANT(zimgasol_sender_put_page(&sender, 0, 0, page, PAGE) == ZIMGASOL_OUT_OF_TURN &&
         zimgasol_sender_end_round(&sender) == ZIMGASOL_OUT_OF_TURN);
     WANT(zimgasol_sender_cancel_round(&sender) == ZIMGASOL_OUT_OF_TURN &&

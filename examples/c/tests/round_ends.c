@@ -1,7 +1,7 @@
 /* What ends a round of a main stream: FLUSH, EOS, or what the stream shows. Each stream is written
  * here by hand: a table of 4 pages, and two channels with an empty round first, a round of pages,
- * and in two of them an empty round last. It is loaded in place and by a session, cut into pieces,
- * by each setting. The round of pages has a zero record on the main stream. */
+ * and in two of them an empty round last. It is loaded as it comes and by whole rounds, cut into
+ * pieces, by each setting. The round of pages has a zero record on the main stream. */
 #include "zimgasol.h"
 #include <stdio.h>
 #include <stdlib.h>
@@ -103,18 +103,30 @@ static int write_channels(int rounds) {
 
 /* ---- loads */
 
-static int is_guest(const uint8_t *bytes) {
-    for (size_t i = 0; i < PAGES * PAGE; i++) {
-        int page = (int)(i / PAGE);
-        if (bytes[i] != (page == 0 ? 0xEE : page == 3 ? 0 : 0x30 + page)) return 0;
+/* The memory has these rounds and nothing else. The second one alone has pages, all but page 0. */
+static int has_rounds(uint64_t rounds) {
+    static uint8_t before[PAGES * PAGE], after[PAGES * PAGE];
+    if (before[0] == 0) {
+        memset(before, 0xEE, sizeof before);
+        memset(after, 0xEE, PAGE);
+        memset(after + PAGE, 0x31, PAGE);
+        memset(after + 2 * PAGE, 0x32, PAGE);
     }
-    return 1;
+    return memcmp(memory, rounds < 2 ? before : after, sizeof memory) == 0;
 }
 
-/* Loads in place, each source in pieces of `cut` bytes, as long as one is taken. */
-static uint32_t load_in_place(zimgasol_table *table, zimgasol_round_end ends, size_t cut,
-    uint64_t *rounds) {
-    zimgasol_settings settings = {.frame = ZIMGASOL_FRAME_RAM, .round_end = ends};
+/* How streams are loaded: what ends a round, by whole rounds or not, and how many bytes a piece has
+ * at most. */
+typedef struct way {
+    zimgasol_round_end ends;
+    uint64_t whole_rounds;
+    size_t cut;
+} way;
+
+/* Loads by turns, as long as a piece is taken. By whole rounds that are the streams' own (`is_own`)
+ * the memory has those counted after each piece. */
+static uint32_t load(zimgasol_table *table, way by, int is_own, uint64_t *rounds) {
+    zimgasol_settings settings = {.round_end = by.ends, .whole_rounds = by.whole_rounds};
     zimgasol_load load = {0};
     zimgasol_fault fault = {0};
     size_t fed[3] = {0};
@@ -123,13 +135,14 @@ static uint32_t load_in_place(zimgasol_table *table, zimgasol_round_end ends, si
     for (int moves = 1; moves;) {
         moves = 0;
         for (size_t s = 0; s < 3; s++) {
-            size_t len = length[s] - fed[s] < cut ? length[s] - fed[s] : cut, taken = 0;
+            size_t left = length[s] - fed[s], len = left < by.cut ? left : by.cut, taken = 0;
             if (len == 0) continue;
             if (zimgasol_load_feed(&load, into, 1, s, stream[s] + fed[s], len, &taken) !=
                 ZIMGASOL_DONE)
                 return 1001;
             fed[s] += taken;
             moves |= taken > 0;
+            if (by.whole_rounds && is_own && !has_rounds(zimgasol_load_rounds(&load))) return 1003;
         }
     }
     for (size_t s = 0; s < 3; s++)
@@ -140,51 +153,31 @@ static uint32_t load_in_place(zimgasol_table *table, zimgasol_round_end ends, si
     return verdict;
 }
 
-static uint32_t load_whole(zimgasol_round_end ends, uint64_t *rounds) {
-    zimgasol_settings settings = {.frame = ZIMGASOL_FRAME_RAM, .round_end = ends};
-    zimgasol_session load = {0};
-    zimgasol_fault fault = {0};
-    if (zimgasol_session_new_within(&load, PAGE, uuid, 16, 2, 1 << 20, &settings) != ZIMGASOL_DONE)
-        return 1000;
-    for (size_t s = 0; s < 3; s++) {
-        if (zimgasol_session_feed(&load, s, stream[s], length[s]) != ZIMGASOL_DONE) return 1001;
-        if (zimgasol_session_end(&load, s) != ZIMGASOL_DONE) return 1002;
-    }
-    uint32_t verdict = zimgasol_session_verdict(&load, &fault);
-    *rounds = zimgasol_session_rounds(&load);
-    zimgasol_session_free(&load);
-    return verdict;
-}
-
 /* The streams are done by these settings, with this many rounds and the guest's memory, and by the
  * other ones they aren't. */
 static int try_all(zimgasol_table *table, const int done[3], uint64_t want) {
     static const size_t cuts[] = {1, 7, 100, MOST};
     uint64_t rounds = 0;
-    for (int ends = 0; ends < 3; ends++) {
-        for (size_t i = 0; i < 4; i++) {
-            uint32_t verdict = load_in_place(table, (zimgasol_round_end)ends, cuts[i], &rounds);
+    for (int ends = 0; ends < 3; ends++)
+        for (size_t i = 0; i < 8; i++) {
+            way by = {(zimgasol_round_end)ends, i / 4, cuts[i % 4]};
+            uint32_t verdict = load(table, by, done[ends], &rounds);
             if (!done[ends]) WANT(verdict != ZIMGASOL_DONE && verdict < 1000);
-            else WANT(verdict == ZIMGASOL_DONE && rounds == want && is_guest(memory));
+            else WANT(verdict == ZIMGASOL_DONE && rounds == want && has_rounds(want));
         }
-        uint32_t verdict = load_whole((zimgasol_round_end)ends, &rounds);
-        if (!done[ends]) WANT(verdict != ZIMGASOL_DONE && verdict < 1000);
-        else WANT(verdict == ZIMGASOL_DONE && rounds == want);
-    }
     return 0;
 }
 
 int main(void) {
     static const int by_eos[3] = {0, 1, 1}, by_flush[3] = {1, 0, 1};
     zimgasol_block block = {.id = "ram", .pages = PAGES};
-    zimgasol_settings settings = {.round_end = (zimgasol_round_end)3};
-    zimgasol_session session = {0};
+    zimgasol_settings settings = {.round_end = (zimgasol_round_end)3, .whole_rounds = 1};
+    zimgasol_load none = {0};
     zimgasol_table table = {0};
     size_t entry;
     WANT(zimgasol_table_new(&table, PAGE, &block, 1, &entry) == ZIMGASOL_DONE);
-    WANT(zimgasol_session_new_within(&session, PAGE, uuid, 16, 2, 1 << 20, &settings) ==
-            ZIMGASOL_BAD_ROUND_END &&
-        session.full == 0);
+    WANT(zimgasol_load_new(&none, &table, uuid, 16, 2, &settings) == ZIMGASOL_BAD_ROUND_END &&
+        none.full == 0);
 
     /* as QEMU writes machine types of 8.0 and older: no FLUSH */
     begin_start();

@@ -1,8 +1,9 @@
 /* Blocks that were zeros when a load began (`zero_blocks`): a page that comes as zeros is neither
  * read nor written, unless something else may be in it. Such pages are protected here, so that a
  * load which touches one ends this program. Two rounds are loaded: of one stream by pieces, and by
- * pages that are read to their places; of a main stream and its channel by pieces, and by packets
- * whose pages are. Each load says how many pages no round had. */
+ * pages that are read to their places; of a main stream and its channel by pieces, also by whole
+ * rounds, and by packets whose pages are read to their places. Each load says how many pages no
+ * round had. */
 #define _DEFAULT_SOURCE
 #include "zimgasol.h"
 #include <stdio.h>
@@ -22,6 +23,7 @@ enum { PAGE = 4096, PAGES = 12, SENT = 10, MOST = 1 << 18, PIECE = 700 };
 static const uint8_t uuid[16] = {9};
 static uint8_t guest[PAGES * PAGE];
 static const zimgasol_settings settings = {.zero_blocks = 1};
+static const zimgasol_settings whole = {.zero_blocks = 1, .whole_rounds = 1};
 
 /* A stream, and how many of its bytes were drained. Of two the second one is the channel's. */
 static uint8_t stream[2][MOST];
@@ -120,11 +122,11 @@ static int is_guest(void) {
 /* ---- loads */
 
 /* Loads by pieces: one stream, or the main stream and its channel. */
-static int load_pieces(zimgasol_table *table, size_t channels) {
+static int load_pieces(zimgasol_table *table, size_t channels, const zimgasol_settings *with) {
     zimgasol_load load = {0};
     zimgasol_fault fault;
     size_t fed[2] = {0}, taken;
-    WANT(zimgasol_load_new(&load, table, uuid, 16, channels, &settings) == ZIMGASOL_DONE);
+    WANT(zimgasol_load_new(&load, table, uuid, 16, channels, with) == ZIMGASOL_DONE);
     WANT(zimgasol_load_missing(&load) == PAGES);
     for (bool moved = true; moved;) {
         moved = false;
@@ -233,10 +235,11 @@ int main(void) {
     size_t entry;
     WANT(zimgasol_table_new(&table, PAGE, blocks, 1, &entry) == ZIMGASOL_DONE);
     if (send_single(&table)) return 1;
-    if (map_block() || load_pieces(&table, 0) || is_guest()) return 1;
+    if (map_block() || load_pieces(&table, 0, &settings) || is_guest()) return 1;
     if (map_block() || load_wanted(&table) || is_guest()) return 1;
     if (send_channel(&table)) return 1;
-    if (map_block() || load_pieces(&table, 1) || is_guest()) return 1;
+    if (map_block() || load_pieces(&table, 1, &settings) || is_guest()) return 1;
+    if (map_block() || load_pieces(&table, 1, &whole) || is_guest()) return 1;
     if (map_block() || load_claimed(&table) || is_guest()) return 1;
     zimgasol_table_free(&table);
     printf("blocks that were zeros: no load touched a page that came as zeros alone; pages that "

@@ -7,6 +7,7 @@ use Rattle.mig_in_place.specs.Session.{InPlaceLoad, Loading, Loads, with_over}
 use Rattle.mig_in_place.proofs.Ended.{never_due, end_bytes}
 use Rattle.mig_in_place.proofs.Over.{end_stands, end_lacks}
 use Rattle.mig_in_place.proofs.Takes.{loads_of}
+use Rattle.mig_in_place.proofs.WholeRounds.{alone_ended}
 use Rattle.mig_in_place.proofs.session.InPlaceSession.end.Goals as goal
 
 pub returns-then-eq-clause-steps : goal.returns-then-eq-clause-steps
@@ -42,3 +43,11 @@ returns-else-eq-clause-steps g c = λ memory given uuid first texts stands.
 pub returns-else-eq-clause-lacking : goal.returns-else-eq-clause-lacking
 returns-else-eq-clause-lacking g c = λ memory given uuid first texts lacks. end_lacks given uuid first texts memory
     c.args.self.now c.end_source.new.self c.args.source c.end_source.ensures.others lacks
+
+pub returns-then-eq-clause-keeps : goal.returns-then-eq-clause-keeps
+returns-then-eq-clause-keeps g c = λ memory kept. alone_ended c.args.source memory kept c.args.self.now c.tell.new.self
+    (ap (λ (x : InPlaceLoad). x.rounds) c.tell.ensures.others ∙ ap (λ (x : InPlaceLoad). x.rounds) c.end_source.ensures.others)
+
+pub returns-else-eq-clause-keeps : goal.returns-else-eq-clause-keeps
+returns-else-eq-clause-keeps g c = λ memory kept. alone_ended c.args.source memory kept c.args.self.now c.end_source.new.self
+    (ap (λ (x : InPlaceLoad). x.rounds) c.end_source.ensures.others)

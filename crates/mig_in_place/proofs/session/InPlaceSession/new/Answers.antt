@@ -7,7 +7,7 @@ use Rattle.mig_mem.specs.PlaceSet.{PlaceSet}
 use Rattle.mig_packet.specs.Reading.{Settings}
 use Rattle.mig_packet.specs.Paging.{none_given}
 use Rattle.mig_load_types.specs.declared.settings.LoadSettings.{LoadSettings}
-use Rattle.mig_load_types.specs.Settings.{main_of, channel_of}
+use Rattle.mig_load_types.specs.Settings.{for_table, main_of, channel_of}
 use Rattle.mig_sources.specs.declared.counts.Count.{Count}
 use Rattle.mig_answer.specs.declared.verdict.Verdict.TheVariants.{Running}
 use Rattle.mig_answer.specs.Texts.{Text, no_text}
@@ -15,6 +15,7 @@ use Rattle.mig_in_place.specs.Round.{Keeps}
 use Rattle.mig_in_place.specs.Sources.{KeptChannel, HoldsChannel, HoldsMain, channel_count}
 use Rattle.mig_in_place.specs.Session.{InPlaceLoad}
 use Rattle.mig_in_place.proofs.Beginning.{stands_first, first_channels, first_main}
+use Rattle.mig_in_place.proofs.WholeRounds.{alone_first}
 use Rattle.mig_in_place.proofs.session.InPlaceSession.new.Goals as goal
 
 pub new_channels-requires : goal.new_channels-requires
@@ -71,3 +72,8 @@ returns-clause-stands g c = λ first image same.
     (c.in_ok-new_channels.ensures.holds first.table))
     (subst (λ (t : RamTable). Keeps t [] c.in_ok-new.field-0) (sym same) c.in_ok-new.ensures.keeps)
     (c.in_ok-none.ensures ∙ ap (λ (t : RamTable). record { table = t; marked = [] }) (sym same))
+
+pub returns-clause-alone : goal.returns-clause-alone
+returns-clause-alone g c = λ first image same.
+    let is : IsTable first.table = subst IsTable (sym same) c.keeps_limits.ensures in
+    alone_first (for_table first.table c.args.settings) c.args.uuid.now first c.args.channels is.has_page_size image

@@ -1,6 +1,6 @@
-use Rattle.std.proofs.Common.{◌∙◌, take, ap, arith}
-use Rattle.mig_in_place.specs.Sources.{counts_of}
-use Rattle.mig_in_place.specs.Session.{InPlaceLoad, with_bytes}
+use Rattle.std.proofs.Common.{◌∙◌, take, sym, ap, subst, arith}
+use Rattle.mig_in_place.specs.Sources.{KeptSources, counts_of}
+use Rattle.mig_in_place.specs.Session.{InPlaceLoad, TakesNoMore, with_bytes}
 use Rattle.mig_in_place.proofs.Midway.{any_err}
 use Rattle.mig_in_place.proofs.session.InPlaceSession.read_round.Goals as goal
 
@@ -26,3 +26,8 @@ returns-in_err-judged-clause-lacks g c = any_err c.from_residual-in_err-judged.r
         (c.in_ok-count.ensures.read f loads),
   );
 })
+
+pub returns-clause-waits : goal.returns-clause-waits
+returns-clause-waits g c = λ below.
+    subst (λ (x : KeptSources). TakesNoMore c.args.source x) (sym (ap (λ (x : InPlaceLoad). x.sources) c.judge_round.ensures.others))
+    (c.in_ok-count.ensures.waits below)
