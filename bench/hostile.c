@@ -3,7 +3,8 @@
  *
  * Some streams are small and declare a large guest. Others have records of a few bytes, each of
  * which takes more memory than it has bytes, or a search of the table. A plain guest is there to
- * compare them with. Each is fed in pieces of 64 KiB, but for main streams, which are one piece.
+ * compare them with. Each is fed in pieces of 64 KiB, but for main streams, which are one piece. It
+ * is loaded by whole sections, and record by record.
  *
  * The memory is the most that is resident during the five runs, less what was resident before them,
  * with the stream and the blocks. Linux reports it as `VmHWM` in `/proc/self/status`; writing 5 to
@@ -14,6 +15,7 @@
 #include <malloc.h>
 #include <stdlib.h>
 #include <string.h>
+#include <sys/mman.h>
 
 /* Pages of the guests whose pages are sent, and how often the guest of zeros is sent; records of
  * the streams made by hand. */
@@ -103,14 +105,14 @@ static void report_cost(const char *name, const char *unit, uint64_t len, work *
 
 /* ---- loads */
 
-/* A stream, its table, whether all its pages are zeros, and what a load of it ends with. `blocks`
- * are those of a load in place, of `pages` pages each, fresh ones or others. */
+/* A stream, its table, whether all its pages are zeros, and what a load of it ends with. The load
+ * writes into `blocks`, of `pages` pages each, fresh ones or others, by whole sections or not. */
 typedef struct hostile {
     stream bytes;
     guest guest; /* it has the stream's table */
     size_t count;
     uint64_t pages;
-    bool is_zeros, is_fresh;
+    bool is_zeros, is_fresh, is_whole;
     zimgasol_frame frame;
     zimgasol_status verdict;
     zimgasol_buffer blocks[BLOCKS];
@@ -122,26 +124,12 @@ static void check_verdict(zimgasol_status found, const hostile *h, const char *c
     give_up(zimgasol_status_text(h->verdict));
 }
 
-/* Loads a stream into memory of the loader's. Returns how many sections it had. */
-static uint64_t load(void *of) {
-    const hostile *h = of;
-    zimgasol_loader loader = {0};
-    zimgasol_fault fault;
-    size_t len;
-    check(zimgasol_loader_new(&loader, PAGE, LIMIT, h->frame), "loader_new");
-    for (size_t at = 0; (len = piece_len(&h->bytes, at, PIECE)) > 0; at += len)
-        check(zimgasol_loader_feed(&loader, h->bytes.bytes + at, len), "loader_feed");
-    zimgasol_loader_end(&loader);
-    check_verdict(zimgasol_loader_verdict(&loader, &fault), h, "loader_verdict");
-    uint64_t rounds = zimgasol_loader_rounds(&loader);
-    zimgasol_loader_free(&loader);
-    return rounds;
-}
-
 /* Loads a stream into blocks. Returns how many sections it had. */
-static uint64_t place(void *of) {
+static uint64_t load(void *of) {
     hostile *h = of;
-    const zimgasol_settings settings = {.frame = h->frame, .zero_blocks = h->is_fresh};
+    const zimgasol_settings settings = {.frame = h->frame,
+        .zero_blocks = h->is_fresh,
+        .whole_rounds = h->is_whole};
     zimgasol_load load = {0};
     zimgasol_fault fault;
     size_t len, count;
@@ -245,28 +233,34 @@ static stream flush_section(bool has_records) {
 
 /* ---- what is measured of a stream */
 
-static void report_load(const char *name, hostile *h) {
-    report_cost(name, "rounds loaded", h->bytes.len, load, h);
-}
-
-/* Makes blocks of zeros, and returns their memory. */
+/* Makes blocks of zeros, of which the system has no memory before they are written, and returns
+ * their memory. */
 static uint8_t *make_blocks(hostile *h) {
     size_t len = h->pages * PAGE;
-    uint8_t *memory = taken(calloc(h->count, len), "the blocks");
-    for (size_t i = 0; i < h->count; i++) h->blocks[i] = (zimgasol_buffer){memory + i * len, len};
+    int flags = MAP_PRIVATE | MAP_ANONYMOUS | MAP_NORESERVE;
+    void *memory = mmap(NULL, h->count * len, PROT_READ | PROT_WRITE, flags, -1, 0);
+    if (memory == MAP_FAILED) give_up("no memory for the blocks");
+    for (size_t i = 0; i < h->count; i++)
+        h->blocks[i] = (zimgasol_buffer){(uint8_t *)memory + i * len, len};
     return memory;
 }
 
-/* Measures a load into blocks that are in use before, or into fresh ones, which the load is told.
- */
-static void report_place(const char *name, hostile *h, bool is_fresh) {
+static void unmake_blocks(const hostile *h) {
+    munmap(h->blocks[0].bytes, h->count * h->blocks[0].len);
+}
+
+/* Measures a load into blocks that are in use before, or into fresh ones, which the load is told;
+ * by whole sections, or not. */
+static void report_load(const char *name, hostile *h, bool is_whole, bool is_fresh) {
     uint8_t *memory = make_blocks(h);
     for (size_t at = 0; !is_fresh && at < h->count * h->pages * PAGE; at += PAGE)
         ((volatile uint8_t *)memory)[at] = 0;
     h->is_fresh = is_fresh;
-    report_cost(name, is_fresh ? "rounds, fresh blocks" : "rounds in place", h->bytes.len, place,
-        h);
-    free(memory);
+    h->is_whole = is_whole;
+    const char *unit = "rounds by sections";
+    if (!is_whole) unit = is_fresh ? "rounds, fresh blocks" : "rounds in place";
+    report_cost(name, unit, h->bytes.len, load, h);
+    unmake_blocks(h);
 }
 
 static void hostile_free(hostile *h) {
@@ -275,15 +269,16 @@ static void hostile_free(hostile *h) {
 }
 
 /* Measures the loads of a stream, and where `cut` names it those without its last byte: a fault
- * that shows after all else was read. */
+ * that shows after all else was read. If all its pages are zeros the loads by whole sections are
+ * into fresh blocks. */
 static void report_both(const char *name, const char *cut, hostile *h) {
-    report_load(name, h);
-    report_place(name, h, false);
-    if (h->is_zeros) report_place(name, h, true);
+    report_load(name, h, true, h->is_zeros);
+    report_load(name, h, false, false);
+    if (h->is_zeros) report_load(name, h, false, true);
     if (cut != NULL) {
         h->bytes.len--;
         h->verdict = ZIMGASOL_STREAM_TRUNCATED;
-        report_load(cut, h);
+        report_load(cut, h, true, h->is_zeros);
     }
     hostile_free(h);
 }
@@ -293,7 +288,7 @@ static void report_claim(const char *name, ids of, size_t count, uint64_t pages)
     hostile h = hostile_of(of, count, pages, ZIMGASOL_FRAME_RAM);
     stream none = {0};
     fill_with(&h, &none);
-    report_load(name, &h);
+    report_load(name, &h, true, true);
     hostile_free(&h);
 }
 
@@ -328,9 +323,9 @@ static void report_main(const char *name, bool has_records) {
     stream section = flush_section(has_records);
     fill_with(&h, &section);
     h.verdict = ZIMGASOL_RUNNING;
-    uint8_t *memory = make_blocks(&h);
+    make_blocks(&h);
     report_cost(name, "bytes taken", h.bytes.len, feed_main, &h);
-    free(memory);
+    unmake_blocks(&h);
     hostile_free(&h);
 }
 
@@ -367,19 +362,20 @@ static void report_commands(void) {
 
 /* The bytes up to the section's first record and that record; a piece of others; the most records
  * that may wait, or 0; and how many pieces are fed. They are fed again and again, so that only one
- * piece of the stream is resident. */
+ * piece of the stream is resident. `into` has the table and the block. */
 typedef struct open_section {
     stream opening, piece;
     uint64_t waiting, pieces;
+    hostile into;
 } open_section;
 
 static open_section open_section_of(void) {
-    open_section made = {0};
-    hostile h = hostile_of(ONE, 1, OPEN_PAGES, ZIMGASOL_FRAME_RAM);
+    open_section made = {.into = hostile_of(ONE, 1, OPEN_PAGES, ZIMGASOL_FRAME_RAM)};
     stream whole = {0};
     uint8_t page[PAGE];
     memset(page, 7, PAGE);
-    send_single(&h.guest, ZIMGASOL_FRAME_RAM, 0, &whole);
+    make_blocks(&made.into);
+    send_single(&made.into.guest, ZIMGASOL_FRAME_RAM, 0, &whole);
     append(&made.opening, whole.bytes, whole.len - CLOSING);
     append(&made.opening, part_head, sizeof part_head);
     append(&made.opening, named_page, sizeof named_page);
@@ -389,25 +385,27 @@ static open_section open_section_of(void) {
         append(&made.piece, page, PAGE);
     }
     stream_free(&whole);
-    hostile_free(&h);
     return made;
 }
 
-/* Feeds the section to a loader. Returns how many pieces were fed. */
+/* Feeds the section to a load by whole sections. Returns how many pieces were fed. */
 static uint64_t feed_open_section(void *of) {
-    const open_section *s = of;
-    const zimgasol_settings settings = {.waiting = s->waiting};
-    zimgasol_loader loader = {0};
+    open_section *s = of;
+    const zimgasol_settings settings = {.waiting = s->waiting, .zero_blocks = 1, .whole_rounds = 1};
+    zimgasol_load load = {0};
     zimgasol_fault fault;
-    check(zimgasol_loader_new_within(&loader, PAGE, OPEN_PAGES * PAGE, &settings),
-        "loader_new_within");
-    check(zimgasol_loader_feed(&loader, s->opening.bytes, s->opening.len), "loader_feed");
-    for (uint64_t i = 0; i < s->pieces; i++)
-        check(zimgasol_loader_feed(&loader, s->piece.bytes, s->piece.len), "loader_feed");
+    size_t count;
+    check(zimgasol_load_new(&load, &s->into.guest.table, uuid, 0, 0, &settings), "load_new");
+    for (uint64_t i = 0; i <= s->pieces; i++) {
+        const stream *piece = i == 0 ? &s->opening : &s->piece;
+        check(zimgasol_load_feed(&load, s->into.blocks, 1, ZIMGASOL_MAIN, piece->bytes, piece->len,
+                  &count),
+            "load_feed");
+    }
     zimgasol_status wanted = s->waiting > 0 ? ZIMGASOL_STREAM_WAITING : ZIMGASOL_RUNNING;
-    if (zimgasol_loader_verdict(&loader, &fault) != wanted)
+    if (zimgasol_load_verdict(&load, &fault) != wanted)
         give_up("an open section has another verdict than it should");
-    zimgasol_loader_free(&loader);
+    zimgasol_load_free(&load);
     return s->pieces;
 }
 
@@ -422,6 +420,8 @@ static void report_open_sections(void) {
     }
     stream_free(&section.opening);
     stream_free(&section.piece);
+    unmake_blocks(&section.into);
+    hostile_free(&section.into);
 }
 
 void run_hostile(void) {

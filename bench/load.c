@@ -1,6 +1,6 @@
-/* Sends a guest as one stream, and loads the stream: by a loader with memory of its own, as one
- * piece and in pieces of 64 KiB, and in such pieces into a block. It does so as a stream of RAM
- * alone and as a machine's. */
+/* Sends a guest as one stream, and loads the stream: by whole sections into a block of zeros, as
+ * one piece and in pieces of 64 KiB, and in such pieces record by record. It does so as a stream of
+ * RAM alone and as a machine's. */
 #define _GNU_SOURCE
 #include "yardstick.h"
 #include <stdlib.h>
@@ -41,8 +41,8 @@ static void report_sending(const char *name, guest *of, const yardstick *copies)
 
 /* ---- loading */
 
-/* What is loaded, how many bytes are fed at once, and the block that a load in place writes into:
- * null for one of fresh memory. */
+/* What is loaded, how many bytes are fed at once, and the block that a load record by record writes
+ * into: null for one of fresh memory. */
 typedef struct loading {
     guest *guest;
     const stream *stream;
@@ -51,33 +51,13 @@ typedef struct loading {
     uint8_t *block;
 } loading;
 
-/* Loads the stream into memory of the loader's. Returns how many sections it had. */
-static uint64_t load(void *of) {
-    const loading *l = of;
-    zimgasol_loader loader = {0};
-    zimgasol_fault fault;
-    uint8_t page[PAGE];
-    size_t len;
-    check(zimgasol_loader_new(&loader, PAGE, LIMIT, l->frame), "loader_new");
-    for (size_t at = 0; (len = piece_len(l->stream, at, l->piece)) > 0; at += len)
-        check(zimgasol_loader_feed(&loader, l->stream->bytes + at, len), "loader_feed");
-    zimgasol_loader_end(&loader);
-    check(zimgasol_loader_verdict(&loader, &fault), "loader_verdict");
-    check(zimgasol_loader_page(&loader, 0, l->guest->pages - 1, page, PAGE), "loader_page");
-    check_last_page(l->guest, page);
-    uint64_t rounds = zimgasol_loader_rounds(&loader);
-    zimgasol_loader_free(&loader);
-    return rounds;
-}
-
 /* Loads the stream into a block. Returns how many sections it had. */
-static uint64_t place_into(uint8_t *bytes, const loading *l) {
-    const zimgasol_settings settings = {.frame = l->frame};
+static uint64_t load_into(uint8_t *bytes, const loading *l, const zimgasol_settings *settings) {
     zimgasol_load load = {0};
     zimgasol_buffer block = {bytes, l->guest->len};
     zimgasol_fault fault;
     size_t len, count;
-    check(zimgasol_load_new(&load, &l->guest->table, uuid, 0, 0, &settings), "load_new");
+    check(zimgasol_load_new(&load, &l->guest->table, uuid, 0, 0, settings), "load_new");
     for (size_t at = 0; (len = piece_len(l->stream, at, l->piece)) > 0; at += len)
         check(zimgasol_load_feed(&load, &block, 1, ZIMGASOL_MAIN, l->stream->bytes + at, len,
                   &count),
@@ -90,17 +70,32 @@ static uint64_t place_into(uint8_t *bytes, const loading *l) {
     return rounds;
 }
 
-static uint64_t place(void *of) {
-    const loading *l = of;
-    if (l->block != NULL) return place_into(l->block, l);
+/* Loads into a block of zeros that is made here and freed. */
+static uint64_t load_fresh(const loading *l, const zimgasol_settings *settings) {
     size_t len = l->guest->len;
     void *fresh = mmap(NULL, len, PROT_READ | PROT_WRITE, MAP_PRIVATE | MAP_ANONYMOUS, -1, 0);
-    uint64_t rounds = place_into(taken(fresh == MAP_FAILED ? NULL : fresh, "a block"), l);
+    uint64_t rounds = load_into(taken(fresh == MAP_FAILED ? NULL : fresh, "a block"), l, settings);
     munmap(fresh, len);
     return rounds;
 }
 
-/* The names of the loads: as one piece, in pieces, in place, and so in fresh memory. */
+/* Loads by whole sections. */
+static uint64_t load_whole(void *of) {
+    const loading *l = of;
+    const zimgasol_settings settings = {.frame = l->frame, .zero_blocks = 1, .whole_rounds = 1};
+    return load_fresh(l, &settings);
+}
+
+/* Loads record by record. */
+static uint64_t place(void *of) {
+    const loading *l = of;
+    const zimgasol_settings settings = {.frame = l->frame};
+    if (l->block != NULL) return load_into(l->block, l, &settings);
+    return load_fresh(l, &settings);
+}
+
+/* The names of the loads: by whole sections as one piece, and so in pieces, in place, and so in
+ * fresh memory. */
 static const char *const names[2][4] = {
     {"  whole", "  in pieces", "  in place", "  in place, fresh"},
     {"  machine's, whole", "  machine's, pieces", "  machine's, in place", "  machine's, fresh"},
@@ -112,9 +107,9 @@ static void report_loading(guest *of, zimgasol_frame frame, const yardstick *cop
     stream sent = {0};
     send_single(of, frame, 1, &sent);
     loading l = {of, &sent, frame, sent.len, block};
-    report(names[frame][0], "rounds loaded", copies, load, &l);
+    report(names[frame][0], "rounds loaded", copies, load_whole, &l);
     l.piece = PIECE;
-    report(names[frame][1], "rounds loaded", copies, load, &l);
+    report(names[frame][1], "rounds loaded", copies, load_whole, &l);
     report(names[frame][2], "rounds loaded", copies, place, &l);
     l.block = NULL;
     report(names[frame][3], "rounds loaded", copies, place, &l);

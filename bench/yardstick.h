@@ -12,9 +12,6 @@
 
 enum { PAGE = 4096, PIECE = 1 << 16, KINDS = 3, COUNTS = 3, MOST = 4 };
 
-/* The most bytes that a guest may have. */
-#define LIMIT ((uint64_t)1 << 40)
-
 /* The UUID of the senders on several channels. */
 extern const uint8_t uuid[16];
 

@@ -29,8 +29,8 @@
  *    power of two up to 16 that divides its size.
  *
  * No call keeps a pointer to a caller's buffer, and none returns a buffer of the library, but for
- * the constant texts of zimgasol_read_status_text. What was loaded is copied out page by page, or
- * into blocks that the caller passes to each call.
+ * the constant texts of zimgasol_read_status_text. What is loaded is written into blocks that the
+ * caller passes to each call.
  *
  * The library calls `malloc`, `realloc`, `free` and the functions of <string.h> that move and
  * compare bytes, and nothing else. So no call starts a thread, waits, reads or writes a file, or
@@ -144,7 +144,7 @@ typedef enum zimgasol_status {
     ZIMGASOL_STREAM_FOOTER = 18,
     /* the configuration's name is longer than 1,024 bytes */
     ZIMGASOL_STREAM_CONFIG_LENGTH = 19,
-    /* the size list's total is 0, or above the limit */
+    /* the size list's total is 0, or above 2^40 */
     ZIMGASOL_STREAM_TOTAL = 20,
     /* an entry's id isn't 1 to 255 bytes of 0x20 to 0x7E */
     ZIMGASOL_STREAM_ID = 21,
@@ -249,9 +249,7 @@ typedef enum zimgasol_status {
     ZIMGASOL_RUNNING = 100,
     /* a page size other than 4096 and 8192 */
     ZIMGASOL_BAD_PAGE_SIZE = 101,
-    /* a limit above 2^40 */
-    ZIMGASOL_BAD_LIMIT = 102,
-    /* more than 255 channels, or none with whole_rounds (zimgasol_settings) */
+    /* more than 255 channels */
     ZIMGASOL_BAD_CHANNELS = 103,
     /* no such source */
     ZIMGASOL_BAD_SOURCE = 104,
@@ -259,7 +257,7 @@ typedef enum zimgasol_status {
     ZIMGASOL_IS_OVER = 105,
     /* the stream would have 2^63 bytes or more (a source of several channels: 2^64) */
     ZIMGASOL_TOO_LONG = 106,
-    /* no such block or page, or no memory yet */
+    /* no such block or page */
     ZIMGASOL_NO_PAGE = 107,
     /* a buffer of another length than is needed */
     ZIMGASOL_BAD_LENGTH = 108,
@@ -269,9 +267,6 @@ typedef enum zimgasol_status {
     ZIMGASOL_OUT_OF_TURN = 109,
     /* more pages than a packet has: 128 of 4096 bytes, 64 of 8192 */
     ZIMGASOL_TOO_MANY_PAGES = 110,
-    /* the piece was taken, and no memory was found for the guest: zimgasol_loader_settle tries
-     * again, and so does the next piece */
-    ZIMGASOL_WAITS = 111,
     /* a frame that isn't one */
     ZIMGASOL_BAD_FRAME = 113,
     /* an end of rounds that isn't one */
@@ -323,28 +318,29 @@ ZIMGASOL_ASSERT(sizeof(zimgasol_round_end) == sizeof(uint32_t), "an enum has the
  *  - `round_end`: what ends a round of a main stream. A load of a single stream doesn't use it.
  *  - `waiting`: the most page records of one section of a single stream, or of one round of a main
  *    stream. One more is the fault STREAM_WAITING. Each channel may have as many packets and pages
- *    together in a round; one more is CHANNEL_WAITING. 0 sets no limit. A loader keeps the pages of
- *    a section until its footer has come, so this bounds what it keeps of an open section: some
- *    `waiting` pages, and 48 bytes for each. A load of several channels keeps the main stream's
- *    page records of the open round, which are bounded as much. The sections, and the rounds of a
- *    main stream, that one piece completes aren't bounded. So pieces are short, and a sender whose
- *    `_fed` rises far without `_rounds` is given up. Each load tests `waiting`, so that all have
- *    one result. 2 * pages + 1 suffices if each page is sent at most once in a section or round.
- *  - `zero_blocks`: any number but 0 says that the blocks of a load into the caller's own hold
- *    zeros when it begins, as a fresh mapping does. The load keeps a bit for each page that may
- *    hold something else. Any other page that comes as zeros it leaves alone: it neither reads nor
- *    writes it. So blocks of a memfd, of a file or of huge pages stay as small as what they hold,
- *    and a sender that repeats pages of zeros costs little. It is the caller's word that nothing
- *    proves: where a page holds something else that was never written, it is left in the guest. A
- *    load with memory of its own doesn't use it.
- *  - `whole_rounds`: any number but 0 says that a load of 1 to 255 channels writes whole rounds
- *    alone. After each call the blocks have the rounds that zimgasol_load_rounds counts, and
- *    nothing else, whatever has come of the next round. So they stay after a fault, too, and after
- *    a refused allocation. The load keeps the pages of the open round apart until that round was
- *    judged, and copies them into the blocks then. It reserves memory for a second guest: the
- *    system gives it as a round needs it, and each round uses it again. Pages aren't claimed
- *    (zimgasol_load_claim). A load of 0 channels is refused with it: one stream by whole sections
- *    is a zimgasol_loader. A load with memory of its own doesn't use it.
+ *    together in a round; one more is CHANNEL_WAITING. 0 sets no limit. A load of one stream with
+ *    `whole_rounds` keeps the pages of a section until its footer has come, so this bounds what it
+ *    keeps of an open section: some `waiting` pages, and 48 bytes for each. A load of several
+ *    channels keeps the main stream's page records of the open round, which are bounded as much.
+ *    The sections, and the rounds of a main stream, that one piece completes aren't bounded. So
+ *    pieces are short, and a sender whose `_fed` rises far without `_rounds` is given up. Each load
+ *    tests `waiting`, so that all have one result. 2 * pages + 1 suffices if each page is sent at
+ *    most once in a section or round.
+ *  - `zero_blocks`: any number but 0 says that the blocks hold zeros when the load begins, as a
+ *    fresh mapping does. The load keeps a bit for each page that may hold something else. Any other
+ *    page that comes as zeros it leaves alone: it neither reads nor writes it. So blocks of a
+ *    memfd, of a file or of huge pages stay as small as what they hold, and a sender that repeats
+ *    pages of zeros costs little. It is the caller's word that nothing proves: where a page holds
+ *    something else that was never written, it is left in the guest.
+ *  - `whole_rounds`: any number but 0 says that the load writes whole rounds alone, or of one
+ *    stream whole sections. After each call the blocks have those that zimgasol_load_rounds counts,
+ *    and nothing else, whatever has come of the next one. So they stay after a fault, too, and
+ *    after a refused allocation. The load keeps the pages of the open round or section apart until
+ *    it is complete and without a fault, and copies them into the blocks then. Of several channels
+ *    it reserves memory for a second guest: the system gives it as a round needs it, and each round
+ *    uses it again. Of one stream it keeps the page records of the open section (`waiting`). All
+ *    bytes are fed: no page is read straight to its place (zimgasol_load_wanted,
+ *    zimgasol_load_claim).
  *  - `reserved`: zeros, as room for what may come. */
 typedef struct zimgasol_settings {
     zimgasol_frame frame;
@@ -445,7 +441,6 @@ typedef struct zimgasol_next {
 /* The handles. `full` is 0 if a handle is empty. Its other values, and `at`, are the library's. */
 typedef struct zimgasol_table { void *at; uint64_t full; } zimgasol_table;
 typedef struct zimgasol_load { void *at; uint64_t full; } zimgasol_load;
-typedef struct zimgasol_loader { void *at; uint64_t full; } zimgasol_loader;
 typedef struct zimgasol_sender { void *at; uint64_t full; } zimgasol_sender;
 typedef struct zimgasol_multi { void *at; uint64_t full; } zimgasol_multi;
 typedef struct zimgasol_worker { void *at; uint64_t full; } zimgasol_worker;
@@ -505,7 +500,9 @@ ZIMGASOL_CHECKED zimgasol_status zimgasol_table_new(zimgasol_table *table, uint6
  * is made again with all of them and some more (the size list of 256 blocks has less than 70,000
  * bytes); the number of the fault that stands before the table; BAD_PAGE_SIZE, BAD_FRAME or
  * NO_MEMORY. So a reader finds the blocks of a file, maps or allocates them, and loads into them:
- * blocks of zeros from calloc are a memory of the reader's own. */
+ * blocks of zeros from calloc are a memory of the reader's own, which with whole_rounds has
+ * complete sections alone. All blocks may have up to 2^40 bytes together: how much one guest is to
+ * get is for the caller to test. */
 ZIMGASOL_CHECKED zimgasol_status zimgasol_table_of_stream(zimgasol_table *table, uint64_t page_size,
     zimgasol_frame frame, const uint8_t *bytes, size_t len);
 
@@ -520,90 +517,6 @@ ZIMGASOL_CHECKED zimgasol_status zimgasol_table_block(zimgasol_table *table, siz
 /* Frees it. Senders and loads that were made of it keep their own copy. */
 ZIMGASOL_API void zimgasol_table_free(zimgasol_table *table);
 
-/* ---- a loader of one stream, which is fed in pieces and loads into memory of its own */
-
-/* Makes a loader of a stream with pages of this size, which is read in this frame. A stream whose
- * blocks have more than `limit` bytes together is refused (fault 20): `limit` is how much one guest
- * is to get. Returns DONE, BAD_PAGE_SIZE, BAD_LIMIT, BAD_FRAME or NO_MEMORY. */
-ZIMGASOL_CHECKED zimgasol_status zimgasol_loader_new(zimgasol_loader *loader, uint64_t page_size,
-    uint64_t limit, zimgasol_frame frame);
-
-/* As zimgasol_loader_new, with settings. */
-ZIMGASOL_CHECKED zimgasol_status zimgasol_loader_new_within(zimgasol_loader *loader,
-    uint64_t page_size, uint64_t limit, const zimgasol_settings *settings);
-
-/* Takes the next piece of the stream, of any length, and puts the sections that it makes whole into
- * the memory. The piece may go afterwards. Returns DONE; NO_MEMORY, where nothing has changed and
- * the piece can be fed again; WAITS, where it was taken, and sections wait for memory of the guest,
- * which the next piece and zimgasol_loader_settle ask for again; IS_OVER after zimgasol_loader_end;
- * TOO_LONG. Once the stream is closed or has a fault, bytes are only counted, and NO_MEMORY doesn't
- * come; WAITS still may. */
-ZIMGASOL_CHECKED zimgasol_status zimgasol_loader_feed(zimgasol_loader *loader, const uint8_t *piece,
-    size_t len);
-
-/* Puts the sections that wait for a refused allocation into the memory. Returns DONE, also where
- * none waits, or NO_MEMORY, where they go on waiting. */
-ZIMGASOL_CHECKED zimgasol_status zimgasol_loader_settle(zimgasol_loader *loader);
-
-/* Ends the stream: no piece is fed from now on. */
-ZIMGASOL_API void zimgasol_loader_end(zimgasol_loader *loader);
-
-/* Reports the verdict on the stream so far: DONE if it is closed (its end byte was read, or in the
- * frame MACHINE the footer of RAM's END); RUNNING if it has no fault so far, and STREAM_TRUNCATED
- * (34) in its place after zimgasol_loader_end; else the number of its first fault; NO_MEMORY if
- * sections wait. *found has the same number, with where it is. */
-ZIMGASOL_CHECKED zimgasol_status zimgasol_loader_verdict(zimgasol_loader *loader,
-    zimgasol_fault *found);
-
-/* Returns how many sections are in the memory. START and END count, too. */
-ZIMGASOL_API uint64_t zimgasol_loader_rounds(zimgasol_loader *loader);
-
-/* Reports in *count how many pages of the guest no record of these sections named: they are zeros,
- * as the memory was at first. With DONE the stream doesn't have them: it is 0 for a whole guest; a
- * stream of changes, or the main stream of a multifd migration without its channels, leaves pages
- * out and is DONE all the same. Returns whether the memory is there: else *count is unchanged. */
-ZIMGASOL_API bool zimgasol_loader_missing(zimgasol_loader *loader, uint64_t *count);
-
-/* Returns how many bytes were fed. */
-ZIMGASOL_API uint64_t zimgasol_loader_fed(zimgasol_loader *loader);
-
-/* Reports in *at how many of the bytes fed the stream has: those up to its end byte, or in the
- * frame MACHINE up to the footer of RAM's END. The bytes fed after them are the caller's. Returns
- * DONE; or RUNNING if the stream isn't closed, and *at is unchanged. */
-ZIMGASOL_CHECKED zimgasol_status zimgasol_loader_closed_at(zimgasol_loader *loader, uint64_t *at);
-
-/* Returns how many of the bytes fed are complete items without a fault, from the first byte on. If
- * the verdict is a fault of the stream (11 to 34, 46 to 49, 64), the item at fault begins after
- * them: at this byte, counted from 0. */
-ZIMGASOL_API uint64_t zimgasol_loader_valid_up_to(zimgasol_loader *loader);
-
-/* Returns how many blocks the guest has: 0 where its memory isn't there yet. */
-ZIMGASOL_API size_t zimgasol_loader_blocks(zimgasol_loader *loader);
-
-/* Reports the id and the pages of block i. Returns DONE or NO_PAGE. */
-ZIMGASOL_CHECKED zimgasol_status zimgasol_loader_block(zimgasol_loader *loader, size_t i,
-    zimgasol_block *out);
-
-/* Copies a page of a block to `out`, whose length `len` is the page size. Returns DONE, NO_PAGE or
- * BAD_LENGTH. */
-ZIMGASOL_CHECKED zimgasol_status zimgasol_loader_page(zimgasol_loader *loader, size_t block,
-    uint64_t number, uint8_t *out, size_t len);
-
-/* Copies the pages of a block from `number` on to `out`, one after another, as many as its length
- * `len` is multiples of the page size. Returns DONE; NO_PAGE where the block doesn't have as many
- * bytes from there on, or there is no such block or no memory yet; or BAD_LENGTH. */
-ZIMGASOL_CHECKED zimgasol_status zimgasol_loader_read(zimgasol_loader *loader, size_t block,
-    uint64_t number, uint8_t *out, size_t len);
-
-/* Reports in *found the first page of a block, from `number` on, that isn't zeros. So a memory of
- * which little was written is read without its pages of zeros. Returns DONE; or NO_PAGE, and *found
- * stays, where there is none, no such block or no memory yet. */
-ZIMGASOL_CHECKED zimgasol_status zimgasol_loader_next_nonzero(zimgasol_loader *loader, size_t block,
-    uint64_t number, uint64_t *found);
-
-/* Frees it, with the memory that it loaded. */
-ZIMGASOL_API void zimgasol_loader_free(zimgasol_loader *loader);
-
 /* ---- a load into the caller's own blocks, as the memory of a machine that is to run the guest:
  *      of one stream, or of a main stream and its channels
  *
@@ -612,7 +525,8 @@ ZIMGASOL_API void zimgasol_loader_free(zimgasol_loader *loader);
  * kept: a page is written when its bytes have come. The load keeps a bit for each page, three of
  * several channels, and of each source the beginning of one item at most. Of several channels it
  * also keeps 8 bytes for each packet of the round, and the main stream's page records, which few
- * senders write. With whole_rounds (zimgasol_settings) it keeps the pages of the open round, too.
+ * senders write. With whole_rounds (zimgasol_settings) it keeps the pages of the open round or
+ * section, too.
  *
  * Each call gets the blocks as the call before left them, but for pages that the caller read to
  * their places (zimgasol_load_wanted, zimgasol_load_claim). Blocks share no byte with each other,
@@ -621,16 +535,16 @@ ZIMGASOL_API void zimgasol_loader_free(zimgasol_loader *loader);
  * that fresh pages of private anonymous memory take none of the system's. A table's stream has its
  * blocks, the same in the same order: of another one nothing is written, and the verdict is
  * OTHER_TABLE. A caller without blocks finds the table by zimgasol_table_of_stream: blocks of zeros
- * from calloc, with zero_blocks, are a memory of his own.
+ * from calloc or mmap, with zero_blocks, are a memory of his own.
  *
  * Of one stream the blocks have at any time all its page records so far, on top of what they held
  * at first: those of the complete sections, and those of the section that isn't complete yet. After
  * NO_MEMORY for good they have the first of these, in their order. Of several channels they have
  * all rounds that are counted between two rounds, and at DONE; within a round they may hold
  * anything at the places that it names, and so they stay where a round fails. With whole_rounds
- * they have the rounds counted, and nothing else, after each call. In all of these the guest may
- * run after DONE alone. Where no record and no packet writes a page, a block holds what it held at
- * first.
+ * they have the rounds or sections counted, and nothing else, after each call. In all of these the
+ * guest may run after DONE alone. Where no record and no packet writes a page, a block holds what
+ * it held at first.
  *
  * A channel takes bytes up to the end of the current round. What follows waits with the caller
  * until all sources have the round, and it was judged: a _feed that takes fewer bytes than it is
@@ -645,13 +559,13 @@ ZIMGASOL_API void zimgasol_loader_free(zimgasol_loader *loader);
  *
  * Of a channel only the hello is taken while the main stream's size list may follow. Verdict and
  * rounds depend on the bytes taken of each source alone, not on the pieces in which they come, nor
- * on which source's come first. Of one stream they are a zimgasol_loader's. */
+ * on which source's come first. With whole_rounds they are the same. */
 
 /* Makes a load into blocks of a table, of which it keeps copies, with settings: of one stream, if
  * `channels` is 0, where neither UUID nor round_end is looked at; or of a main stream and 1 to 255
  * channels under a UUID of 16 bytes. Nothing is claimed. Returns DONE, or the first of these that
- * applies: BAD_CHANNELS (more than 255, or 0 with whole_rounds), BAD_LENGTH (of the UUID),
- * BAD_FRAME, BAD_ROUND_END, NO_MEMORY. */
+ * applies: BAD_CHANNELS (more than 255), BAD_LENGTH (of the UUID), BAD_FRAME, BAD_ROUND_END,
+ * NO_MEMORY. */
 ZIMGASOL_CHECKED zimgasol_status zimgasol_load_new(zimgasol_load *load, zimgasol_table *table,
     const uint8_t *uuid, size_t uuid_len, size_t channels, const zimgasol_settings *settings);
 
@@ -666,7 +580,8 @@ ZIMGASOL_CHECKED zimgasol_status zimgasol_load_new(zimgasol_load *load, zimgasol
  * those of one stream are only counted. Or the first of these that applies, and nothing has
  * changed: OUT_OF_TURN, where pages are claimed; BAD_SOURCE; IS_OVER after _end; TOO_LONG;
  * BAD_LENGTH (the blocks aren't the table's). Or NO_MEMORY: where the verdict is NO_MEMORY then,
- * the load has failed for good; else nothing has changed, and the piece can be fed again. */
+ * the load has failed for good; else nothing has changed, and the piece can be fed again. One
+ * stream with whole_rounds never fails for good. */
 ZIMGASOL_CHECKED zimgasol_status zimgasol_load_feed(zimgasol_load *load, zimgasol_buffer *blocks,
     size_t count, size_t source, const uint8_t *piece, size_t len, size_t *taken);
 
@@ -716,14 +631,16 @@ ZIMGASOL_API bool zimgasol_load_has_all_rounds(zimgasol_load *load);
 
 /* Returns how many rounds of several channels were judged lawful: the blocks have all of them, and
  * with whole_rounds nothing else. START and END are none. Of one stream it is how many sections are
- * complete in the blocks, which may have records of the next one, too. START and END count. */
+ * complete in the blocks, which may have records of the next one, too, but with whole_rounds
+ * haven't. START and END count. */
 ZIMGASOL_API uint64_t zimgasol_load_rounds(zimgasol_load *load);
 
 /* Returns how many pages of the blocks no record and no packet of the rounds counted, or of the one
- * stream so far, named. With DONE, or where all rounds are in, the streams don't have these pages:
- * the blocks hold there what they held at first. It is 0 for a whole guest; a stream of changes, or
- * a main stream whose channels were lost, leaves pages out and is DONE all the same. It is all
- * pages with OTHER_TABLE. After NO_MEMORY the number says nothing. */
+ * stream so far, named. With whole_rounds the one stream's open section names none. With DONE, or
+ * where all rounds are in, the streams don't have these pages: the blocks hold there what they held
+ * at first. It is 0 for a whole guest; a stream of changes, or a main stream whose channels were
+ * lost, leaves pages out and is DONE all the same. It is all pages with OTHER_TABLE. After
+ * NO_MEMORY for good the number says nothing. */
 ZIMGASOL_API uint64_t zimgasol_load_missing(zimgasol_load *load);
 
 /* Returns how many bytes of a source were taken; 0 if there is no such source. */
@@ -764,20 +681,23 @@ ZIMGASOL_API void zimgasol_load_free(zimgasol_load *load);
  * success. A page may be read by several calls of `read`, and zimgasol_load_page_read comes once
  * all of it is there. Until then none of the page counts as fed. If the stream ends before that,
  * the block has a part of the page. Bytes that were read past a page, as by `readv`, are fed after
- * it. Instead of reading a page so, a caller may feed its bytes as any others. */
+ * it. Instead of reading a page so, a caller may feed its bytes as any others.
+ *
+ * A load of whole sections (whole_rounds of zimgasol_settings) wants nothing: its blocks have no
+ * page of a section that isn't complete. All bytes are fed to it, while _takes returns true. */
 
 /* Reports in *next what the next bytes of one stream are: those of an item that isn't complete, or
  * the content of a page, which lies within the blocks. Returns whether the stream has more: not
  * once it is closed or has a fault, is of another table, or a piece failed for good with NO_MEMORY;
- * and never of several channels. Then *next is unchanged. It says nothing of _end, after which no
- * call takes bytes. */
+ * and never of several channels, nor with whole_rounds. Then *next is unchanged. It says nothing of
+ * _end, after which no call takes bytes. */
 ZIMGASOL_API bool zimgasol_load_wanted(zimgasol_load *load, zimgasol_next *next);
 
 /* Takes the page that comes next, whose bytes the caller has read into its block, as those of the
  * stream. The other bytes of the blocks are as the call before left them. Returns DONE. Of several
- * channels it is OUT_OF_TURN. Of one stream it is the first of these that applies, and nothing has
- * changed: IS_OVER after _end; OUT_OF_TURN, where no page comes next; TOO_LONG; BAD_LENGTH (the
- * blocks aren't the table's). */
+ * channels, and with whole_rounds, it is OUT_OF_TURN. Of one stream it is the first of these that
+ * applies, and nothing has changed: IS_OVER after _end; OUT_OF_TURN, where no page comes next;
+ * TOO_LONG; BAD_LENGTH (the blocks aren't the table's). */
 ZIMGASOL_CHECKED zimgasol_status zimgasol_load_page_read(zimgasol_load *load,
     const zimgasol_buffer *blocks, size_t count);
 

@@ -17,7 +17,6 @@ TOP = pathlib.Path(__file__).resolve().parent.parent
 PLAIN = {"u8": "uint8_t", "u32": "uint32_t", "u64": "uint64_t", "usize": "size_t", "bool": "bool"}
 STRUCTS = {
     "TableHandle": "zimgasol_table",
-    "LoaderHandle": "zimgasol_loader",
     "LoadHandle": "zimgasol_load",
     "SenderHandle": "zimgasol_sender",
     "MultiHandle": "zimgasol_multi",

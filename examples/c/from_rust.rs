@@ -9,9 +9,6 @@ struct Handle {
     full: u64,
 }
 
-/// RAM's section alone, as the senders of the library write it.
-const FRAME_RAM: u32 = 0;
-
 const EMPTY: Handle = Handle { at: std::ptr::null_mut(), full: 0 };
 
 #[repr(C)]
@@ -31,7 +28,28 @@ struct Fault {
     reserved: [u64; 3],
 }
 
+/// All zeros are a stream of RAM's section alone, as the senders of the library write it.
+#[repr(C)]
+#[derive(Default)]
+struct Settings {
+    frame: u32,
+    round_end: u32,
+    waiting: u64,
+    zero_blocks: u64,
+    whole_rounds: u64,
+    reserved: [u64; 4],
+}
+
+#[repr(C)]
+struct Buffer {
+    bytes: *mut u8,
+    len: usize,
+}
+
 type Status = u32;
+
+/// The only source of one stream.
+const MAIN: usize = 0;
 
 extern "C" {
     fn zimgasol_table_new(
@@ -55,18 +73,26 @@ extern "C" {
     fn zimgasol_sender_finish(sender: &mut Handle) -> Status;
     fn zimgasol_sender_drain(sender: &mut Handle, out: *mut u8, len: usize) -> usize;
     fn zimgasol_sender_free(sender: &mut Handle);
-    fn zimgasol_loader_new(loader: &mut Handle, page_size: u64, limit: u64, frame: u32) -> Status;
-    fn zimgasol_loader_feed(loader: &mut Handle, piece: *const u8, len: usize) -> Status;
-    fn zimgasol_loader_end(loader: &mut Handle);
-    fn zimgasol_loader_verdict(loader: &mut Handle, found: &mut Fault) -> Status;
-    fn zimgasol_loader_page(
-        loader: &mut Handle,
-        block: usize,
-        number: u64,
-        out: *mut u8,
-        len: usize,
+    fn zimgasol_load_new(
+        load: &mut Handle,
+        table: &mut Handle,
+        uuid: *const u8,
+        uuid_len: usize,
+        channels: usize,
+        settings: &Settings,
     ) -> Status;
-    fn zimgasol_loader_free(loader: &mut Handle);
+    fn zimgasol_load_feed(
+        load: &mut Handle,
+        blocks: *mut Buffer,
+        count: usize,
+        source: usize,
+        piece: *const u8,
+        len: usize,
+        taken: &mut usize,
+    ) -> Status;
+    fn zimgasol_load_end(load: &mut Handle, source: usize) -> Status;
+    fn zimgasol_load_verdict(load: &mut Handle, found: &mut Fault) -> Status;
+    fn zimgasol_load_free(load: &mut Handle);
 }
 
 /// A call's status as a `Result`.
@@ -83,33 +109,40 @@ impl Drop for Sender {
     }
 }
 
-/// A loader, which is freed when it is dropped.
-struct Loader(Handle);
+/// A load, which is freed when it is dropped.
+struct Load(Handle);
 
-impl Drop for Loader {
+impl Drop for Load {
     fn drop(&mut self) {
-        unsafe { zimgasol_loader_free(&mut self.0) }
+        unsafe { zimgasol_load_free(&mut self.0) }
     }
 }
 
-/// Creates a sender of one block with two pages.
-fn sender() -> Result<Sender, Status> {
+/// A table, which is freed when it is dropped.
+struct Table(Handle);
+
+impl Drop for Table {
+    fn drop(&mut self) {
+        unsafe { zimgasol_table_free(&mut self.0) }
+    }
+}
+
+/// Creates the table of one block with two pages.
+fn table() -> Result<Table, Status> {
     let mut block = Block { id: [0; 256], pages: 2 };
     block.id[..6].copy_from_slice(b"pc.ram");
-    let (mut table, mut handle, mut entry) = (EMPTY, EMPTY, 0);
-    unsafe {
-        done(zimgasol_table_new(&mut table, 4096, &block, 1, &mut entry))?;
-        let made = done(zimgasol_sender_new(&mut handle, &mut table));
-        zimgasol_table_free(&mut table);
-        made.map(|()| Sender(handle))
-    }
+    let (mut handle, mut entry) = (EMPTY, 0);
+    done(unsafe { zimgasol_table_new(&mut handle, 4096, &block, 1, &mut entry) })?;
+    Ok(Table(handle))
 }
 
 /// Sends one page as a stream of its own.
 fn sent(page: &[u8; 4096]) -> Result<Vec<u8>, Status> {
-    let Sender(handle) = &mut sender()?;
+    let (mut table, mut handle) = (table()?, EMPTY);
     let (mut stream, mut piece) = (Vec::new(), [0; 1000]);
     unsafe {
+        done(zimgasol_sender_new(&mut handle, &mut table.0))?;
+        let Sender(handle) = &mut Sender(handle);
         done(zimgasol_sender_begin_round(handle))?;
         done(zimgasol_sender_put_page(handle, 0, 1, page.as_ptr(), page.len()))?;
         done(zimgasol_sender_end_round(handle))?;
@@ -123,26 +156,31 @@ fn sent(page: &[u8; 4096]) -> Result<Vec<u8>, Status> {
     }
 }
 
-/// Loads a stream, and returns a page of its only block.
-fn loaded(stream: &[u8], number: u64) -> Result<[u8; 4096], Status> {
-    let (mut handle, mut fault, mut page) = (EMPTY, Fault::default(), [0; 4096]);
+/// Loads a stream into a block of zeros, by complete sections alone.
+fn loaded(stream: &[u8]) -> Result<Vec<u8>, Status> {
+    let (mut table, mut handle, mut fault) = (table()?, EMPTY, Fault::default());
+    let mut ram = vec![0; 2 * 4096];
+    let mut blocks = [Buffer { bytes: ram.as_mut_ptr(), len: ram.len() }];
+    let settings = Settings { zero_blocks: 1, whole_rounds: 1, ..Settings::default() };
+    let mut taken = 0;
     unsafe {
-        done(zimgasol_loader_new(&mut handle, 4096, 1 << 30, FRAME_RAM))?;
-        let Loader(handle) = &mut Loader(handle);
+        // no channels: one stream, which has no UUID
+        done(zimgasol_load_new(&mut handle, &mut table.0, stream.as_ptr(), 0, 0, &settings))?;
+        let Load(handle) = &mut Load(handle);
         for piece in stream.chunks(777) {
-            done(zimgasol_loader_feed(handle, piece.as_ptr(), piece.len()))?;
+            let (at, len) = (piece.as_ptr(), piece.len());
+            done(zimgasol_load_feed(handle, blocks.as_mut_ptr(), 1, MAIN, at, len, &mut taken))?;
         }
-        zimgasol_loader_end(handle);
-        done(zimgasol_loader_verdict(handle, &mut fault))?;
-        done(zimgasol_loader_page(handle, 0, number, page.as_mut_ptr(), page.len()))?;
+        done(zimgasol_load_end(handle, MAIN))?;
+        done(zimgasol_load_verdict(handle, &mut fault))?;
     }
-    Ok(page)
+    Ok(ram)
 }
 
 fn main() {
     let page: [u8; 4096] = std::array::from_fn(|i| (i * 7) as u8);
     let stream = sent(&page).expect("the page is sent");
-    assert!(loaded(&stream, 1) == Ok(page) && loaded(&stream, 0) == Ok([0; 4096]));
-    assert_eq!(loaded(&stream[..stream.len() - 1], 1), Err(34));
+    assert_eq!(loaded(&stream), Ok([[0; 4096], page].concat()));
+    assert_eq!(loaded(&stream[..stream.len() - 1]), Err(34));
     println!("from Rust: the page that was sent");
 }

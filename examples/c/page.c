@@ -1,21 +1,33 @@
-/* Loads a stream from standard input, and writes page 1 of block 0 to standard output. */
+/* Loads the stream of a guest of one block, and writes its second page to standard output. */
 #include <stdio.h>
+#include <stdlib.h>
 #include <zimgasol.h>
 
+enum { PAGE = 4096, MOST = 1 << 18 }; /* the most pages that the guest may have */
+
 int main(void) {
-    static uint8_t piece[65536], page[4096];
-    zimgasol_loader loader = {0};
+    static uint8_t piece[1 << 17]; /* more than stands before the first page */
+    const zimgasol_settings settings = {.zero_blocks = 1, .whole_rounds = 1};
+    zimgasol_table table = {0};
+    zimgasol_load load = {0};
+    zimgasol_block block;
     zimgasol_fault fault;
-    size_t len;
-    zimgasol_status status = zimgasol_loader_new(&loader, 4096, 1 << 30, ZIMGASOL_FRAME_RAM);
+    size_t len = fread(piece, 1, sizeof piece, stdin), taken;
+    zimgasol_status status = zimgasol_table_of_stream(&table, PAGE, ZIMGASOL_FRAME_RAM, piece, len);
     if (status != ZIMGASOL_DONE) return 3;
-    while (status == ZIMGASOL_DONE && (len = fread(piece, 1, sizeof piece, stdin)) > 0)
-        status = zimgasol_loader_feed(&loader, piece, len);
-    zimgasol_loader_end(&loader);
-    if (status == ZIMGASOL_DONE) status = zimgasol_loader_verdict(&loader, &fault);
-    if (status == ZIMGASOL_DONE) status = zimgasol_loader_page(&loader, 0, 1, page, sizeof page);
-    zimgasol_loader_free(&loader);
+    status = zimgasol_table_block(&table, 0, &block);
+    if (status != ZIMGASOL_DONE || block.pages < 2 || block.pages > MOST) return 3;
+    zimgasol_buffer ram = {calloc(block.pages, PAGE), block.pages * PAGE};
+    if (ram.bytes == NULL) return 3;
+    status = zimgasol_load_new(&load, &table, piece, 0, 0, &settings);
+    for (; status == ZIMGASOL_DONE && len > 0; len = fread(piece, 1, sizeof piece, stdin))
+        status = zimgasol_load_feed(&load, &ram, 1, ZIMGASOL_MAIN, piece, len, &taken);
+    if (status == ZIMGASOL_DONE) status = zimgasol_load_end(&load, ZIMGASOL_MAIN);
+    if (status == ZIMGASOL_DONE) status = zimgasol_load_verdict(&load, &fault);
     if (status != ZIMGASOL_DONE) fprintf(stderr, "%s\n", zimgasol_status_text(status));
-    else if (fwrite(page, 1, sizeof page, stdout) != sizeof page || fflush(stdout) != 0) return 3;
+    else if (fwrite(ram.bytes + PAGE, 1, PAGE, stdout) != PAGE || fflush(stdout) != 0) return 3;
+    zimgasol_load_free(&load);
+    zimgasol_table_free(&table);
+    free(ram.bytes);
     return status != ZIMGASOL_DONE;
 }

@@ -2,7 +2,6 @@
 use Rattle.std.specs.Prelude.{ℕ, List, Option, None, Some, ⊤}
 use Rattle.mig_mem.specs.RamTable.{RamTable}
 use Rattle.mig_mem.specs.PlaceSet.{PlaceSet}
-use Rattle.mig_single_load.specs.Loader.{Loader}
 use Rattle.mig_c_calls.specs.declared.sender.Sender.{Sender}
 use Rattle.mig_c_calls.specs.declared.sending.Multi.{Multi}
 use Rattle.mig_c_calls.specs.declared.sending.HeldWorker.{HeldWorker}
@@ -12,31 +11,19 @@ use Rattle.mig_c_loads.specs.Loads.{OpensLoad, filled_of}
 use Rattle.mig_c.specs.declared.object.Object.{Object}
 use Rattle.mig_c.specs.declared.object.Object.TheVariants as object
 
--- the table, loader or other value of an object
+-- the table, load or other value of an object
 abbrev pub table_in : Option Object → Option RamTable
 table_in None = None
 table_in (Some (object.Table x)) = Some x
-table_in (Some (object.Loader x)) = None
 table_in (Some (object.Load x)) = None
 table_in (Some (object.Sender x)) = None
 table_in (Some (object.Multi x)) = None
 table_in (Some (object.Worker x)) = None
 table_in (Some object.Empty) = None
 
-abbrev pub loader_in : Option Object → Option Loader
-loader_in None = None
-loader_in (Some (object.Table x)) = None
-loader_in (Some (object.Loader x)) = Some x
-loader_in (Some (object.Load x)) = None
-loader_in (Some (object.Sender x)) = None
-loader_in (Some (object.Multi x)) = None
-loader_in (Some (object.Worker x)) = None
-loader_in (Some object.Empty) = None
-
 abbrev pub load_in : Option Object → Option Load
 load_in None = None
 load_in (Some (object.Table x)) = None
-load_in (Some (object.Loader x)) = None
 load_in (Some (object.Load x)) = Some x
 load_in (Some (object.Sender x)) = None
 load_in (Some (object.Multi x)) = None
@@ -46,7 +33,6 @@ load_in (Some object.Empty) = None
 abbrev pub sender_in : Option Object → Option Sender
 sender_in None = None
 sender_in (Some (object.Table x)) = None
-sender_in (Some (object.Loader x)) = None
 sender_in (Some (object.Load x)) = None
 sender_in (Some (object.Sender x)) = Some x
 sender_in (Some (object.Multi x)) = None
@@ -56,7 +42,6 @@ sender_in (Some object.Empty) = None
 abbrev pub multi_in : Option Object → Option Multi
 multi_in None = None
 multi_in (Some (object.Table x)) = None
-multi_in (Some (object.Loader x)) = None
 multi_in (Some (object.Load x)) = None
 multi_in (Some (object.Sender x)) = None
 multi_in (Some (object.Multi x)) = Some x
@@ -66,7 +51,6 @@ multi_in (Some object.Empty) = None
 abbrev pub worker_in : Option Object → Option HeldWorker
 worker_in None = None
 worker_in (Some (object.Table x)) = None
-worker_in (Some (object.Loader x)) = None
 worker_in (Some (object.Load x)) = None
 worker_in (Some (object.Sender x)) = None
 worker_in (Some (object.Multi x)) = None

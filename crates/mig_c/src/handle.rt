@@ -103,17 +103,6 @@ pub struct TableHandle {
     ghost says: { full ≡ 0 ↔ handle.value ≡ None },
 }
 
-/// A loader of one stream, or none.
-#[repr(C)]
-#[derive(Drop)]
-pub struct LoaderHandle {
-    /// The handle of the object.
-    pub handle: Handle,
-    /// 0 if there is no object, else 1.
-    pub full: u64,
-    ghost says: { full ≡ 0 ↔ handle.value ≡ None },
-}
-
 /// A load into blocks of C, or none.
 #[repr(C)]
 #[derive(Drop)]
@@ -167,14 +156,12 @@ fn crosses<T: Send>(_: &T) {}
 /// and orders the calls by a lock, a thread's start or join, or a sequentially consistent atomic.
 pub(crate) fn all_cross(
     table: &TableHandle,
-    loader: &LoaderHandle,
     load: &LoadHandle,
     sender: &SenderHandle,
     multi: &MultiHandle,
     worker: &WorkerHandle,
 ) {
     crosses(table);
-    crosses(loader);
     crosses(load);
     crosses(sender);
     crosses(multi);

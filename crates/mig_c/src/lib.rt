@@ -1,6 +1,5 @@
-//! The library for callers in C: senders and loaders of one stream and of several channels, also
-//! into blocks of C; hellos and packets. Its header is `include/zimgasol.h`, which describes each
-//! call.
+//! The library for callers in C: senders and loads of one stream and of several channels, into
+//! blocks of C; hellos and packets. Its header is `include/zimgasol.h`, which describes each call.
 //!
 //! C has a handle (`handle`) for each object that it works on, and passes it to each call. The
 //! handle owns the object in a box (`object`). A call requires of its handle that it has an object
@@ -12,7 +11,6 @@
 
 mod handle;
 mod load;
-mod loader;
 mod loose;
 mod multi;
 mod object;

@@ -2,12 +2,11 @@
 //! functions here.
 
 ghost use Rattle.std.specs.Prelude.{◌≡◌, IsSome, Some};
-ghost use Rattle.mig_c.specs.Kinds.{table_in, loader_in, load_in, multi_in, worker_in};
+ghost use Rattle.mig_c.specs.Kinds.{table_in, load_in, multi_in, worker_in};
 
 use mig_c_calls::{HeldWorker, Multi, Sender};
 use mig_c_loads::Load;
 use mig_mem::Table;
-use mig_single_load::SingleLoader;
 use std::alloc::Global;
 
 /// The object of a handle, of each kind that C works on.
@@ -15,8 +14,6 @@ use std::alloc::Global;
 pub enum Object {
     /// A guest's table.
     Table(Table<Global>),
-    /// A loader of one stream.
-    Loader(SingleLoader<Global>),
     /// A load into blocks of C, of one stream or of several channels.
     Load(Load),
     /// A sender of one stream.
@@ -36,17 +33,6 @@ pub(crate) fn table_of(object: &Object) -> &Table<Global>
 {
     match object {
         Object::Table(table) => table,
-        _ => unreachable!(),
-    }
-}
-
-/// Returns the value of an object that is a loader.
-pub(crate) fn loader_of(object: &Object) -> &SingleLoader<Global>
-    requires { IsSome (loader_in (Some object.now)) }
-    ensures { loader_in (Some object.now) ≡ Some result.now }
-{
-    match object {
-        Object::Loader(loader) => loader,
         _ => unreachable!(),
     }
 }

@@ -6,7 +6,7 @@ ghost use Rattle.mig_stream.specs.Format.{most_name_bytes};
 ghost use Rattle.mig_c_calls.specs.Status.{IsOneOf, done, no_memory};
 ghost use Rattle.mig_c_calls.specs.Sending.{Starts, StartsNamed, Begins, Puts, EndsRound, Cancels, Finishes, FinishesOpen, Changes, Drains, Peeks, Counts, Skips};
 ghost use Rattle.mig_c.specs.Kinds.{table_in, sender_in, Turns};
-ghost use Rattle.mig_c_loads.specs.Reading.{place_at};
+ghost use Rattle.mig_mem.specs.Place.{place_at};
 
 use crate::handle::{Handle, SenderHandle, TableHandle};
 use crate::object::{Object, table_of};

@@ -32,10 +32,6 @@ stream_truncated = 34
 abbrev pub bad_page_size : ℕ
 bad_page_size = 101
 
--- a limit above 2^40
-abbrev pub bad_limit : ℕ
-bad_limit = 102
-
 -- no channel, or more than 255
 abbrev pub bad_channels : ℕ
 bad_channels = 103
@@ -67,10 +63,6 @@ out_of_turn = 109
 -- more pages than a packet has
 abbrev pub too_many_pages : ℕ
 too_many_pages = 110
-
--- the piece was taken, and an allocation for the guest's memory was refused
-abbrev pub waits : ℕ
-waits = 111
 
 -- a number that is no frame
 abbrev pub bad_frame : ℕ

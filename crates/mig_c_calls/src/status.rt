@@ -21,9 +21,6 @@ pub const STREAM_TRUNCATED: u32 = 34;
 /// A page size other than 4096 and 8192.
 pub const BAD_PAGE_SIZE: u32 = 101;
 
-/// A limit above 2^40.
-pub const BAD_LIMIT: u32 = 102;
-
 /// No channel, or more than 255.
 pub const BAD_CHANNELS: u32 = 103;
 
@@ -47,9 +44,6 @@ pub const OUT_OF_TURN: u32 = 109;
 
 /// More pages than a packet has.
 pub const TOO_MANY_PAGES: u32 = 110;
-
-/// The piece was taken, and an allocation for the guest's memory was refused.
-pub const WAITS: u32 = 111;
 
 /// A number that is no frame.
 pub const BAD_FRAME: u32 = 113;

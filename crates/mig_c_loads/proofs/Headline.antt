@@ -16,10 +16,11 @@ use Rattle.mig_stream.proofs.Configured.{written_is_closed}
 use Rattle.mig_send.specs.DealtRounds.{DealtRound, IsSending, channel_text, channel_texts}
 use Rattle.mig_send.specs.MultiSending.{Drained}
 use Rattle.mig_load_types.specs.declared.settings.LoadSettings.{LoadSettings}
-use Rattle.mig_single_load.specs.InPlace.{HasRecordsOnto, HasVerdictOnto}
+use Rattle.mig_single_load.specs.InPlace.{HasRecordsOnto, HasSectionsOnto, HasVerdictOnto}
 use Rattle.mig_single_load.specs.MachineSent.{IsMachineSent}
 use Rattle.mig_single_load.proofs.LoadsInPlace.{sent_in_place}
-use Rattle.mig_single_load.proofs.MachineSent.{machine_in_place}
+use Rattle.mig_single_load.proofs.MachineSent.{machine_in_place, machine_read, read_by_sections}
+use Rattle.mig_single_load.proofs.Onto.{sent_sections, sent_verdict}
 use Rattle.mig_answer.specs.declared.verdict.Verdict.{Verdict}
 use Rattle.mig_answer.specs.declared.verdict.Verdict.TheVariants.{Done}
 use Rattle.mig_answer.specs.Texts.{Texts, Readings}
@@ -40,7 +41,7 @@ use Rattle.mig_c_calls.specs.Multi.{MultiSetting, AreEnded, all_channels, SendsT
 use Rattle.mig_c_loads.specs.Found.{seen_so_far, seen_of_verdict}
 use Rattle.mig_c_loads.specs.InPlace.{settings_into}
 use Rattle.mig_c_loads.specs.ByRounds.{opened}
-use Rattle.mig_c_loads.specs.Headline.{DrainedIsLoaded, DrainedMachineStreamIsLoaded, ended_stream, DrainedChannelsAreLoaded, DrainedChannelsAreLoadedByRounds, DrainedMachineIsLoaded, IsAllOf, channels_out}
+use Rattle.mig_c_loads.specs.Headline.{DrainedIsLoaded, DrainedMachineStreamIsLoaded, DrainedIsLoadedBySections, DrainedMachineStreamIsLoadedBySections, ended_stream, DrainedChannelsAreLoaded, DrainedChannelsAreLoadedByRounds, DrainedMachineIsLoaded, IsAllOf, channels_out}
 
 -- ---- one stream
 
@@ -100,6 +101,42 @@ machine_stream_law = λ table name left_open rounds given behind is_table are sh
     } in
     let law = machine_in_place settings first rounds (given ++ behind) memory load.rounds told.0
     (lent_is_image table before fit) refl tt sent loads.stands.has_records told.1 in
+    (told.2 ∙ ap (seen_so_far ended) law.2, law.1, law.0)
+
+-- ---- by whole sections
+
+pub sections_law : DrainedIsLoadedBySections
+sections_law = λ table rounds given is_table are whole before after load ended found fit loads tells.
+    let settings : LoadSettings = settings_into table Ram None in
+    let first : Image = lent_image table before in
+    let memory : Image = lent_image table after in
+    let told = tells memory settings first given ended loads in
+    let onto : HasSectionsOnto settings first (single table rounds) memory load.sections =
+    subst (λ (text : List ℕ). HasSectionsOnto settings first text memory load.sections) whole loads.has_sections.in_memory in
+    let verdict : HasVerdictOnto settings first (single table rounds) told.0 =
+    subst (λ (text : List ℕ). HasVerdictOnto settings first text told.0) whole told.1 in
+    let both = sent_sections (2 ^ 40) first rounds memory load.sections is_table is_table.has_room are onto in
+    let ok = sent_verdict (2 ^ 40) first rounds told.0 is_table is_table.has_room are verdict in
+    (told.2 ∙ ap (seen_so_far ended) ok, both.1, both.0)
+
+pub machine_sections_law : DrainedMachineStreamIsLoadedBySections
+machine_sections_law = λ table name left_open rounds given behind is_table are short whole before after load ended found fit loads tells.
+    let settings : LoadSettings = settings_into table Machine None in
+    let first : Image = lent_image table before in
+    let memory : Image = lent_image table after in
+    let told = tells memory settings first (given ++ behind) ended loads in
+    let on = stream_goes_on left_open name table rounds behind in
+    let sent : IsMachineSent (2 ^ 40) table rounds (given ++ behind) = record {
+      is_table = is_table;
+      has_limit = is_table.has_room;
+      are_rounds = are;
+      name = name;
+      has_name = short_name name short;
+      behind = on.0;
+      is_text = ap (λ (l : List ℕ). l ++ behind) whole ∙ on.1;
+    } in
+    let law = read_by_sections settings first rounds (given ++ behind) memory load.sections told.0 is_table is_table.has_room are
+    (machine_read (for_table table settings) table rounds (given ++ behind) refl tt refl sent) loads.has_sections.in_memory told.1 in
     (told.2 ∙ ap (seen_so_far ended) law.2, law.1, law.0)
 
 -- ---- the streams of a sender on several channels

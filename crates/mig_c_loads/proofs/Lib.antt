@@ -3,7 +3,6 @@ pub mod Moved
 pub mod LentBlocks
 pub mod PageReads
 pub mod PageTakes
-pub mod NoRoom
 mod RoundsFed
 mod LeftOut
 mod NotedPages

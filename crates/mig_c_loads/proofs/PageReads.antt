@@ -3,7 +3,7 @@ use Rattle.std.proofs.Common.{ℕ, ◌≡◌, ◌+◌, ◌*◌, ◌/◌, ◌<◌
 use Rattle.mig_mem.specs.Image.{Image, content}
 use Rattle.mig_mem.specs.Parts.{part_at, ChangesPart}
 use Rattle.mig_mem.proofs.PageSizes.{page_before}
-use Rattle.mig_c_loads.specs.Reading.{place_at}
+use Rattle.mig_mem.specs.Place.{place_at}
 
 -- a part of as many as bytes have
 pub part_within : (size len k : ℕ) → k < len / size → k * size + size ≤ len

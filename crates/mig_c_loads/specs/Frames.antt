@@ -1,7 +1,6 @@
 -- What C passes to a load beside its streams: which source a piece is of, what they are read as, what
 -- ends the rounds, and what may wait.
 use Rattle.std.specs.Prelude.{ℕ, ◌-◌, Bool, not, ◌==◌, Option, None, Some, if◌then◌else◌}
-use Rattle.std.specs.Option.{option_map}
 use Rattle.mig_stream.specs.declared.item.Frame.{Frame}
 use Rattle.mig_stream.specs.declared.item.Frame.TheVariants.{Ram, Machine}
 use Rattle.mig_load_types.specs.declared.settings.LoadSettings.{LoadSettings}
@@ -32,10 +31,6 @@ are_zeros number = not (number == 0)
 
 abbrev pub load_settings : ℕ → ℕ → Option ℕ → Frame → LoadSettings
 load_settings page_size limit waiting frame = record { page_size = page_size; limit = limit; frame = frame; waiting = waiting; round_end = Flush }
-
--- the settings that C asks for, if there is such a frame
-abbrev pub asked_settings : ℕ → ℕ → ℕ → Option ℕ → Option LoadSettings
-asked_settings page_size limit frame waiting = option_map (load_settings page_size limit waiting) (frame_of frame)
 
 -- with another end of a main stream's rounds
 abbrev pub with_round_end : LoadSettings → RoundEnd → LoadSettings

@@ -10,6 +10,7 @@ use Rattle.mig_stream.specs.declared.item.Frame.TheVariants.{Ram, Machine}
 use Rattle.mig_send.specs.DealtRounds.{DealtRound, channel_text}
 use Rattle.mig_send.specs.MultiSending.{Drained}
 use Rattle.mig_single_load.specs.LoadInPlace.{LoadInPlace, LoadsInPlace}
+use Rattle.mig_sections.specs.Sections.{SectionsLoad, LoadsSections}
 use Rattle.mig_answer.specs.Sent.{sent_rounds}
 use Rattle.mig_in_place.specs.Law.{taken_texts}
 use Rattle.mig_in_place.specs.Session.{InPlaceLoad, StandsFor}
@@ -22,6 +23,7 @@ use Rattle.mig_c_calls.specs.Multi.{MultiSetting, Sends, IsOver, is_left_open, e
 use Rattle.mig_c_loads.specs.declared.fault.FoundFault.{FoundFault}
 use Rattle.mig_c_loads.specs.Found.{no_fault, seen_of_verdict}
 use Rattle.mig_c_loads.specs.InPlace.{settings_into, TellsVerdict}
+use Rattle.mig_c_loads.specs.BySections as sections
 use Rattle.mig_c_loads.specs.ByRounds.{RoundsLoad, opened}
 
 -- ---- one stream
@@ -49,6 +51,20 @@ DrainedMachineStreamIsLoaded = (table : RamTable) (name : Option (List ℕ)) (le
     → (before after : List (List ℕ)) (load : LoadInPlace) (ended : Bool) (found : FoundFault) → FitTable table before
     → LoadsInPlace (lent_image table after) (settings_into table Machine None) (lent_image table before) load (given ++ behind) ended → TellsVerdict found load
     → (found ≡ no_fault) × (load.rounds ≡ length rounds + 2) × (lent_image table after ≡ with_rounds (lent_image table before) rounds)
+
+-- So it is of loads by whole sections.
+abbrev pub DrainedIsLoadedBySections : Type 0
+DrainedIsLoadedBySections = (table : RamTable) (rounds : List (List Page)) (given : List ℕ) → IsTable table → All (IsRound table) rounds → given ≡ whole_stream None table rounds
+    → (before after : List (List ℕ)) (load : SectionsLoad) (ended : Bool) (found : FoundFault) → FitTable table before
+    → LoadsSections (lent_image table after) (settings_into table Ram None) (lent_image table before) load given ended → sections.TellsVerdict found load
+    → (found ≡ no_fault) × (load.sections ≡ length rounds + 2) × (lent_image table after ≡ with_rounds (lent_image table before) rounds)
+
+abbrev pub DrainedMachineStreamIsLoadedBySections : Type 0
+DrainedMachineStreamIsLoadedBySections = (table : RamTable) (name : Option (List ℕ)) (left_open : Bool) (rounds : List (List Page)) (given behind : List ℕ) → IsTable table → All (IsRound table) rounds
+    → (IsLongName name → ⊥) → given ≡ ended_stream left_open name table rounds
+    → (before after : List (List ℕ)) (load : SectionsLoad) (ended : Bool) (found : FoundFault) → FitTable table before
+    → LoadsSections (lent_image table after) (settings_into table Machine None) (lent_image table before) load (given ++ behind) ended → sections.TellsVerdict found load
+    → (found ≡ no_fault) × (load.sections ≡ length rounds + 2) × (lent_image table after ≡ with_rounds (lent_image table before) rounds)
 
 -- ---- several channels
 

@@ -44,19 +44,20 @@ pub record OpensInPlace (table : Option RamTable) (frame : ℕ) (waiting : Optio
   pub no_frame : status ≡ bad_frame → frame_of frame ≡ None
   pub has_frame : status ≢ bad_frame → frame_of frame ≢ None
 
--- Whether a piece of `len` bytes may be fed into these blocks. With three of the statuses it may
--- not, for the first reason that applies.
-pub record MayFeed (len : ℕ) (blocks : List (List ℕ)) (status : ℕ) (s : LoadInPlace) : Type 0 where
-  pub over : status ≡ is_over → IsTrue s.ended
-  pub goes_on : status ≢ is_over → IsFalse s.ended
-  pub long : status ≡ too_long → 2 ^ 63 ≤ s.fed + len
-  pub short : status ≢ is_over → status ≢ too_long → s.fed + len < 2 ^ 63
-  pub unfit : status ≡ bad_length → FitTable s.table blocks → ⊥
-  pub fits : status ≢ is_over → status ≢ too_long → status ≢ bad_length → FitTable s.table blocks
+-- Whether a piece of `len` bytes may be fed into these blocks, for a stream of this table of which
+-- `fed` bytes were fed, and which may have ended. With three of the statuses it may not, for the
+-- first reason that applies.
+pub record MayFeed (len : ℕ) (blocks : List (List ℕ)) (status : ℕ) (table : RamTable) (fed : ℕ) (ended : Bool) : Type 0 where
+  pub over : status ≡ is_over → IsTrue ended
+  pub goes_on : status ≢ is_over → IsFalse ended
+  pub long : status ≡ too_long → 2 ^ 63 ≤ fed + len
+  pub short : status ≢ is_over → status ≢ too_long → fed + len < 2 ^ 63
+  pub unfit : status ≡ bad_length → FitTable table blocks → ⊥
+  pub fits : status ≢ is_over → status ≢ too_long → status ≢ bad_length → FitTable table blocks
 
 -- Why a piece isn't fed, or DONE.
-abbrev pub RefusesPiece : ℕ → List (List ℕ) → ℕ → LoadInPlace → Type 0
-RefusesPiece len blocks status s = IsOneOf (done ∷ is_over ∷ too_long ∷ bad_length ∷ []) status × MayFeed len blocks status s
+abbrev pub RefusesPiece : ℕ → List (List ℕ) → ℕ → RamTable → ℕ → Bool → Type 0
+RefusesPiece len blocks status table fed ended = IsOneOf (done ∷ is_over ∷ too_long ∷ bad_length ∷ []) status × MayFeed len blocks status table fed ended
 
 -- The state after a piece was fed into a memory. The memory has all page records of the stream so
 -- far; or an allocation was refused, and it has the first of them. A load that failed so before
@@ -77,7 +78,7 @@ pub record FeedsMemory (piece : List ℕ) (before after : Image) (status : ℕ) 
 -- the load has failed for good.
 pub record FeedsInPlace (piece : List ℕ) (before after : List (List ℕ)) (status : ℕ) (old new : LoadInPlace) : Type 0 where
   pub is_named : IsOneOf (done ∷ no_memory ∷ is_over ∷ too_long ∷ bad_length ∷ []) status
-  pub may_feed : MayFeed (length piece) before status old
+  pub may_feed : MayFeed (length piece) before status old.table old.fed old.ended
   pub feeds : status ≡ done → FeedsMemory piece (lent_image old.table before) (lent_image old.table after) done old new
   pub runs_out : status ≡ no_memory → ((new ≡ old) × (after ≡ before))
       ⊎ FeedsMemory piece (lent_image old.table before) (lent_image old.table after) no_memory old new

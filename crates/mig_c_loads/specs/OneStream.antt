@@ -27,9 +27,9 @@ pub record EndsOne (from : Source) (status : ℕ) (old new : LoadInPlace) : Type
   pub foreign : status ≡ bad_source → (from ≢ source.Main) × (new ≡ old)
   pub ends : status ≡ done → (from ≡ source.Main) × EndsInPlace old new
 
--- how many bytes of a source were fed, or 0 if it isn't the main stream
-pub record CountsOne (from : Source) (fed : ℕ) (s : LoadInPlace) : Type 0 where
-  pub counted : from ≡ source.Main → fed ≡ s.fed
+-- how many bytes of a source were fed: all of the stream's, or 0 if it isn't the main stream
+pub record CountsOne (from : Source) (fed all : ℕ) : Type 0 where
+  pub counted : from ≡ source.Main → fed ≡ all
   pub foreign : from ≢ source.Main → fed ≡ 0
 
 -- Whether bytes of a source are read now: those of the main stream, if it wasn't ended and

@@ -1,12 +1,12 @@
 //! The table of a stream, read from its first bytes: so a caller finds the blocks of a file, and maps
 //! what it loads into.
 
-ghost use Rattle.std.specs.Prelude.{◌≡◌, ◌↔◌, IsTrue, IfOk};
+ghost use Rattle.std.specs.Prelude.{◌≡◌, ◌≤◌, ◌↔◌, IsTrue, IfOk, length};
+ghost use Rattle.mig_c_calls.specs.Blocks.{named_id};
 ghost use Rattle.mig_stream.specs.declared.item.StreamState.TheVariants.{Reading as reading};
 ghost use Rattle.mig_mem.specs.PageSize.{IsPageSize};
 ghost use Rattle.mig_c_loads.specs.FirstTable.{FindsTable, table_settings, status_of, GivesTableBlock};
 
-use crate::reading::filled;
 use mig_c_calls::NamedBlock;
 use mig_c_calls::status::{DONE, MAX_LIMIT, NO_PAGE, RUNNING};
 use mig_mem::{NoMemory, Table};
@@ -65,6 +65,16 @@ pub fn table_status(found: &Option<Table<Global>>, state: StreamState) -> u32
         (None, StreamState::Bad(fault)) => u32::from(fault.number()),
         (None, _) => RUNNING,
     }
+}
+
+// Returns a block's id, then zeros.
+fn filled(id: &[u8]) -> [u8; 256]
+    requires { length id.now ≤ 255 }
+    ensures { result ≡ named_id id.now }
+{
+    let mut bytes = [0; 256];
+    bytes[..id.len()].copy_from_slice(id);
+    bytes
 }
 
 /// Reports the id of a table's block, and its number of pages.

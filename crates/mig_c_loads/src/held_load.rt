@@ -4,16 +4,14 @@
 ghost use Rattle.std.specs.Prelude.{◌≡◌, ◌<◌, ◌+◌, ◌^◌, ◌↔◌, IsFalse, IfOk, IfSome, None, Some, length};
 ghost use Rattle.mig_mem.specs.Place.{IsPlace};
 ghost use Rattle.mig_mem.specs.Lent.{mut_lent_bytes};
-ghost use Rattle.mig_c_loads.specs.InPlace.{Begins, RefusesPiece, FeedsMemory, FeedsInPlace, EndsInPlace, TellsVerdict, TellsClosedAt, TellsValidUpTo, TellsMissing};
+ghost use Rattle.mig_c_loads.specs.InPlace.{Begins, FeedsMemory, FeedsInPlace, EndsInPlace, TellsVerdict, TellsClosedAt, TellsValidUpTo, TellsMissing};
 ghost use Rattle.mig_c_loads.specs.NextBytes.{TellsNext, TakesPage, FillsPage};
 ghost use Rattle.mig_c_loads.specs.ZeroBlocks.{AreZerosBut, filled_at_first, with_filled};
 
 use crate::fault::{FoundFault, of_verdict};
-use crate::lent::{LentBlocks, fit, nothing_filled, put_back, taken_out};
+use crate::lent::{LentBlocks, nothing_filled, put_back, refusal, taken_out};
 use crate::next_bytes::{NextBytes, next_page, take_page, wanted};
-use mig_c_calls::status::{
-    BAD_LENGTH, DONE, IS_OVER, MAX_LIMIT, NO_MEMORY, ROOM, RUNNING, TOO_LONG,
-};
+use mig_c_calls::status::{DONE, MAX_LIMIT, NO_MEMORY, RUNNING};
 use mig_load_types::{LoadSettings, RoundEnd};
 use mig_marking::Fresh;
 use mig_mem::{Dirty, GuestTarget, NoMemory, Place, Table};
@@ -55,22 +53,6 @@ impl Model for HeldLoad {
     ghost invariant = { λ h. (h.table ≡ Some h.state.table) × IfSome h.filled (λ f. f.table ≡ h.state.table) };
 }
 
-// Returns why a piece isn't fed into these blocks, or DONE.
-fn refusal(state: &InPlaceState<Global>, blocks: &[&mut [u8]], piece: &[u8]) -> u32
-    ensures { RefusesPiece (length piece.now) (mut_lent_bytes blocks.now) result state.now }
-{
-    if state.ended() {
-        return IS_OVER;
-    }
-    if state.fed() >= ROOM - piece.len() as u64 {
-        return TOO_LONG;
-    }
-    if !fit(state.table(), blocks) {
-        return BAD_LENGTH;
-    }
-    DONE
-}
-
 // Feeds a piece into a memory of the load's table.
 fn feed_memory<M: GuestTarget>(
     state: &mut InPlaceState<Global>,
@@ -101,7 +83,7 @@ fn feed_blocks(
     ensures table { result.0 ≡ state.new.table }
     ensures feeds { FeedsInPlace piece.now (mut_lent_bytes blocks.old) (mut_lent_bytes blocks.new) result.1 state.old state.new }
 {
-    let status = refusal(state, blocks, piece);
+    let status = refusal(state.table(), state.fed(), state.ended(), blocks, piece);
     if status != DONE {
         return (table, status);
     }
@@ -139,7 +121,7 @@ fn feed_zero_blocks(
     ensures zeros { AreZerosBut (Some result.1) (mut_lent_bytes blocks.new) }
     ensures feeds { FeedsInPlace piece.now (mut_lent_bytes blocks.old) (mut_lent_bytes blocks.new) result.2 state.old state.new }
 {
-    let status = refusal(state, blocks, piece);
+    let status = refusal(state.table(), state.fed(), state.ended(), blocks, piece);
     if status != DONE {
         return (table, filled, status);
     }

@@ -1,7 +1,7 @@
 //! The headline in C, as clauses of functions that do nothing: C's loads load what C's senders
 //! sent. It joins the clauses of the calls of `mig_c_calls` and of this crate.
 
-ghost use Rattle.mig_c_loads.specs.Headline.{DrainedIsLoaded, DrainedMachineStreamIsLoaded, DrainedChannelsAreLoaded, DrainedChannelsAreLoadedByRounds, DrainedMachineIsLoaded};
+ghost use Rattle.mig_c_loads.specs.Headline.{DrainedIsLoaded, DrainedMachineStreamIsLoaded, DrainedIsLoadedBySections, DrainedMachineStreamIsLoadedBySections, DrainedChannelsAreLoaded, DrainedChannelsAreLoadedByRounds, DrainedMachineIsLoaded};
 ghost use Rattle.mig_c_loads.specs.Filling.{PagesReadAreNoted};
 
 /// What was copied out of a sender of one stream is loaded into blocks, in whatever pieces it was
@@ -13,6 +13,16 @@ pub fn drained_is_loaded()
 /// So it is with a machine's stream, whatever follows RAM's END.
 pub fn drained_machine_stream_is_loaded()
     ensures { DrainedMachineStreamIsLoaded }
+{}
+
+/// What was copied out of a sender of one stream is loaded so by whole sections, too.
+pub fn drained_is_loaded_by_sections()
+    ensures { DrainedIsLoadedBySections }
+{}
+
+/// And so is a machine's stream, whatever follows RAM's END.
+pub fn drained_machine_stream_is_loaded_by_sections()
+    ensures { DrainedMachineStreamIsLoadedBySections }
 {}
 
 /// What was copied out of a sender on several channels is loaded into blocks, in whatever pieces it

@@ -6,9 +6,11 @@
 
 ghost use Rattle.std.specs.Prelude.{◌≡◌, ◌↔◌, [], IsTrue, IfOk, OnErr, length};
 ghost use Rattle.mig_mem.specs.Lent.{mut_lent_bytes, FitTable};
+ghost use Rattle.mig_c_loads.specs.InPlace.{RefusesPiece};
 ghost use Rattle.mig_c_loads.specs.ZeroBlocks.{filled_at_first};
 
 use crate::putting::{clear_page, write_page};
+use mig_c_calls::status::{BAD_LENGTH, DONE, IS_OVER, ROOM, TOO_LONG};
 use mig_mem::{Dirty, GuestTarget, NoMemory, Place, Table};
 use std::alloc::Global;
 use std::marker::Model;
@@ -66,6 +68,29 @@ pub(crate) fn fit(table: &Table<Global>, blocks: &[&mut [u8]]) -> bool
         }
     }
     true
+}
+
+/// Returns why a piece of one stream isn't fed into blocks of `table`, or DONE: `fed` bytes of the
+/// stream were fed, and it may have ended.
+pub(crate) fn refusal(
+    table: &Table<Global>,
+    fed: u64,
+    ended: bool,
+    blocks: &[&mut [u8]],
+    piece: &[u8],
+) -> u32
+    ensures { RefusesPiece (length piece.now) (mut_lent_bytes blocks.now) result table.now fed ended }
+{
+    if ended {
+        return IS_OVER;
+    }
+    if fed >= ROOM - piece.len() as u64 {
+        return TOO_LONG;
+    }
+    if !fit(table, blocks) {
+        return BAD_LENGTH;
+    }
+    DONE
 }
 
 /// Takes the slices of blocks out of C's array, until `put_back`.

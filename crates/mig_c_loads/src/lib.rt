@@ -1,15 +1,15 @@
 //! The calls of loads of the library for C, without handles and pointers: `mig_c` exports them.
 //!
-//! They work on a loader of one stream (`loading`), and on loads into blocks of C (`load`): of one
-//! stream (`held_load`, and by its source `one_stream`), and of several channels, with each page as
-//! it comes (`held_apart`) or by whole rounds (`held_rounds`). The blocks are lent to a call
-//! (`lent`), which writes pages into their bytes (`putting`). Of several channels C may read the
-//! pages to their places itself: it sees which it claimed (`claimed_pages`), and which of them may
-//! hold something else than zeros (`filling`). C passes the numbers of a source, of a frame and of
-//! what ends rounds, and settings (`source`, `frame`, `round_end`, `settings`). It sees a load's
-//! fault (`fault`), how a load of several channels stands (`seen`), and what the next bytes are
-//! (`next_bytes`), and reads the pages of a loader's memory (`reading`), and the blocks of a table,
-//! which may be that of a stream's first bytes (`first_table`).
+//! They work on loads into blocks of C (`load`): of one stream, with each page as it comes
+//! (`held_load`, and by its source `one_stream`) or by whole sections (`held_sections`), and of
+//! several channels, with each page as it comes (`held_apart`) or by whole rounds (`held_rounds`).
+//! The blocks are lent to a call (`lent`), which writes pages into their bytes (`putting`). Of
+//! several channels C may read the pages to their places itself: it sees which it claimed
+//! (`claimed_pages`), and which of them may hold something else than zeros (`filling`). C passes the
+//! numbers of a source, of a frame and of what ends rounds, and settings (`source`, `frame`,
+//! `round_end`, `settings`). It sees a load's fault (`fault`), how a load of several channels stands
+//! (`seen`), and what the next bytes are (`next_bytes`), and reads the blocks of a table, which may
+//! be that of a stream's first bytes (`first_table`).
 //! Statuses are those of `mig_c_calls`. What C's senders sent, these loads load (`laws`).
 #![tactic(auto)]
 
@@ -21,14 +21,13 @@ mod frame;
 mod held_apart;
 mod held_load;
 mod held_rounds;
+mod held_sections;
 mod laws;
 mod lent;
 mod load;
-mod loading;
 mod next_bytes;
 mod one_stream;
 mod putting;
-mod reading;
 mod round_end;
 mod seen;
 mod settings;
@@ -41,14 +40,14 @@ pub use frame::frame_of;
 pub use held_apart::HeldApart;
 pub use held_load::HeldLoad;
 pub use held_rounds::HeldRounds;
+pub use held_sections::HeldSections;
 pub use laws::{
     drained_channels_are_loaded, drained_channels_are_loaded_by_rounds, drained_is_loaded,
-    drained_machine_is_loaded, drained_machine_stream_is_loaded, pages_read_are_noted,
+    drained_is_loaded_by_sections, drained_machine_is_loaded, drained_machine_stream_is_loaded,
+    drained_machine_stream_is_loaded_by_sections, pages_read_are_noted,
 };
 pub use load::Load;
-pub use loading::{fault_of, feed_loader, loader_closed_at, loader_missing, settle_loader};
 pub use next_bytes::NextBytes;
-pub use reading::{count_blocks, next_nonzero, read_block, read_page, read_pages};
 pub use round_end::round_end_of;
 pub use settings::{AskedSettings, waiting_of};
 pub use source::source_of;

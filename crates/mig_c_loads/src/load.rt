@@ -1,5 +1,5 @@
-//! A load into blocks of C, of each kind: of one stream, or of several channels, with each page as
-//! it comes or by whole rounds.
+//! A load into blocks of C, of each kind: of one stream with each page as it comes or by whole
+//! sections, or of several channels with each page as it comes or by whole rounds.
 
 ghost use Rattle.std.specs.Prelude.{◌≡◌, ◌≢◌, ◌↔◌, None, Some, IfOk, IfErr};
 ghost use Rattle.mig_mem.specs.Lent.{mut_lent_bytes, lent_bytes};
@@ -8,6 +8,7 @@ ghost use Rattle.mig_c_loads.specs.Frames.{waiting_of as most_waiting, are_zeros
 ghost use Rattle.mig_c_loads.specs.InPlace as stream;
 ghost use Rattle.mig_c_loads.specs.Apart.{OpensApart};
 ghost use Rattle.mig_c_loads.specs.ByRounds.{OpensRounds};
+ghost use Rattle.mig_c_loads.specs.BySections.{OpensSections};
 ghost use Rattle.mig_c_loads.specs.ZeroBlocks.{AreZerosBut, filled_at_first};
 ghost use Rattle.mig_c_loads.specs.Loads.{filled_of, OpensLoad, Feeds, Ends, ReadsPage, Claims, Takes, TellsTakesOf, TellsWanted, TellsClaimed, TellsVerdict, TellsFaultOf, TellsAllIn, TellsRounds, TellsMissingOf, TellsFed, TellsClosed, TellsValid};
 
@@ -17,6 +18,7 @@ use crate::frame::frame_of;
 use crate::held_apart::HeldApart;
 use crate::held_load::HeldLoad;
 use crate::held_rounds::HeldRounds;
+use crate::held_sections::HeldSections;
 use crate::next_bytes::NextBytes;
 use crate::round_end::round_end_of;
 use crate::settings::{AskedSettings, waiting_of};
@@ -33,6 +35,8 @@ use uuid::Uuid;
 pub enum Load {
     /// Of one stream, with each page as it comes.
     One(HeldLoad),
+    /// Of one stream, by whole sections.
+    Sections(HeldSections),
     /// Of several channels, with each page as it comes.
     Several(HeldApart),
     /// Of several channels, by whole rounds.
@@ -53,6 +57,50 @@ fn open_one(alloc: Global, table: &Table<Global>, settings: &AskedSettings) -> R
     match HeldLoad::new(alloc, table, frame, waiting, settings.zero_blocks != 0) {
         Ok(load) => Ok(load),
         Err(NoMemory) => Err(NO_MEMORY),
+    }
+}
+
+// Makes a load of one stream into blocks of a table by whole sections, or returns why there is none.
+fn open_sections(
+    alloc: Global,
+    table: &Table<Global>,
+    settings: &AskedSettings,
+) -> Result<HeldSections, u32>
+    ensures ok { IfOk result (λ s. OpensSections table.now settings.now.frame (most_waiting settings.now.waiting) done (Some s.load)) }
+    ensures filled { IfOk result (λ s. s.filled ≡ filled_at_first (are_zeros settings.now.zero_blocks) table.now) }
+    ensures err { IfErr result (λ status. OpensSections table.now settings.now.frame (most_waiting settings.now.waiting) status None) }
+    ensures refused { IfErr result (λ status. status ≢ done) }
+{
+    let Some(frame) = frame_of(settings.frame) else {
+        return Err(BAD_FRAME);
+    };
+    let waiting = waiting_of(settings.waiting);
+    match HeldSections::new(alloc, table, frame, waiting, settings.zero_blocks != 0) {
+        Ok(load) => Ok(load),
+        Err(NoMemory) => Err(NO_MEMORY),
+    }
+}
+
+// Makes a load of one stream, by the kind that the settings ask for.
+fn open_stream(
+    alloc: Global,
+    table: &Table<Global>,
+    uuid: &[u8],
+    settings: &AskedSettings,
+) -> Result<Load, u32>
+    ensures ok { IfOk result (λ l. OpensLoad table.now uuid.now 0 settings.now done (Some l)) }
+    ensures err { IfErr result (λ status. OpensLoad table.now uuid.now 0 settings.now status None) }
+    ensures refused { IfErr result (λ status. status ≢ done) }
+{
+    if settings.whole_rounds != 0 {
+        return match open_sections(alloc, table, settings) {
+            Ok(load) => Ok(Load::Sections(load)),
+            Err(status) => Err(status),
+        };
+    }
+    match open_one(alloc, table, settings) {
+        Ok(load) => Ok(Load::One(load)),
+        Err(status) => Err(status),
     }
 }
 
@@ -168,16 +216,10 @@ impl Load {
         ensures err { IfErr result (λ status. OpensLoad table.now uuid.now channels settings.now status None) }
         ensures refused { IfErr result (λ status. status ≢ done) }
     {
-        if channels != 0 {
-            return open_channels(alloc, table, uuid, channels, settings);
+        if channels == 0 {
+            return open_stream(alloc, table, uuid, settings);
         }
-        if settings.whole_rounds != 0 {
-            return Err(BAD_CHANNELS);
-        }
-        match open_one(alloc, table, settings) {
-            Ok(load) => Ok(Load::One(load)),
-            Err(status) => Err(status),
-        }
+        open_channels(alloc, table, uuid, channels, settings)
     }
 
     /// Takes the first bytes of a piece of a source, and writes pages into C's blocks, while nothing
@@ -196,6 +238,7 @@ impl Load {
     {
         match self {
             Load::One(load) => load.feed_source(alloc, blocks, source, piece, taken),
+            Load::Sections(load) => load.feed(alloc, blocks, source, piece, taken),
             Load::Several(load) => load.feed(alloc, blocks, source, piece, taken),
             Load::Rounds(load) => load.feed(alloc, blocks, source, piece, taken),
         }
@@ -207,6 +250,7 @@ impl Load {
     {
         match self {
             Load::One(load) => load.takes(source),
+            Load::Sections(load) => load.takes(source),
             Load::Several(load) => load.takes(source),
             Load::Rounds(load) => load.takes(source),
         }
@@ -218,19 +262,20 @@ impl Load {
     {
         match self {
             Load::One(load) => load.end_source(source),
+            Load::Sections(load) => load.end(source),
             Load::Several(load) => load.end(source),
             Load::Rounds(load) => load.end(source),
         }
     }
 
-    /// Reports what the next bytes of one stream are. Returns false if no more of it is read, and of
-    /// several channels.
+    /// Reports what the next bytes of one stream are. Returns false if no more of it is read, by
+    /// whole sections, and of several channels.
     pub fn wanted(&self, next: &mut NextBytes) -> bool
         ensures { TellsWanted result next.old next.new self.now }
     {
         match self {
             Load::One(load) => load.wanted(next),
-            Load::Several(_) | Load::Rounds(_) => false,
+            Load::Sections(_) | Load::Several(_) | Load::Rounds(_) => false,
         }
     }
 
@@ -240,7 +285,7 @@ impl Load {
     {
         match self {
             Load::One(load) => load.page_read(blocks),
-            Load::Several(_) | Load::Rounds(_) => OUT_OF_TURN,
+            Load::Sections(_) | Load::Several(_) | Load::Rounds(_) => OUT_OF_TURN,
         }
     }
 
@@ -249,7 +294,7 @@ impl Load {
         ensures { Claims channel head.now result pages.old pages.new self.old self.new }
     {
         match self {
-            Load::One(_) => BAD_SOURCE,
+            Load::One(_) | Load::Sections(_) => BAD_SOURCE,
             Load::Several(load) => load.claim(channel, head, pages),
             Load::Rounds(load) => load.claim(channel),
         }
@@ -260,7 +305,7 @@ impl Load {
         ensures { Takes channel head.now (lent_bytes contents.now) result self.old self.new }
     {
         match self {
-            Load::One(_) => BAD_SOURCE,
+            Load::One(_) | Load::Sections(_) => BAD_SOURCE,
             Load::Several(load) => load.take(channel, head, contents),
             Load::Rounds(load) => load.take(channel),
         }
@@ -271,7 +316,7 @@ impl Load {
         ensures { TellsClaimed result self.now }
     {
         match self {
-            Load::One(_) | Load::Rounds(_) => 0,
+            Load::One(_) | Load::Sections(_) | Load::Rounds(_) => 0,
             Load::Several(load) => load.claimed(),
         }
     }
@@ -282,6 +327,7 @@ impl Load {
     {
         match self {
             Load::One(load) => load.fault(),
+            Load::Sections(load) => load.verdict(),
             Load::Several(load) => load.verdict(),
             Load::Rounds(load) => load.verdict(),
         }
@@ -293,6 +339,7 @@ impl Load {
     {
         match self {
             Load::One(load) => load.fault_of(source, found),
+            Load::Sections(load) => load.fault_of(source, found),
             Load::Several(load) => load.fault_of(source, found),
             Load::Rounds(load) => load.fault_of(source, found),
         }
@@ -304,6 +351,7 @@ impl Load {
     {
         match self {
             Load::One(load) => load.has_all_rounds(),
+            Load::Sections(load) => load.has_all_rounds(),
             Load::Several(load) => load.has_all_rounds(),
             Load::Rounds(load) => load.has_all_rounds(),
         }
@@ -316,18 +364,20 @@ impl Load {
     {
         match self {
             Load::One(load) => load.rounds(),
+            Load::Sections(load) => load.rounds(),
             Load::Several(load) => load.rounds(),
             Load::Rounds(load) => load.rounds(),
         }
     }
 
     /// Returns how many pages of the blocks no record and no packet of these rounds, or of the
-    /// stream so far, named.
+    /// stream so far, named; by whole sections those that no complete section named.
     pub fn missing(&self) -> u64
         ensures { TellsMissingOf result self.now }
     {
         match self {
             Load::One(load) => load.missing(),
+            Load::Sections(load) => load.missing(),
             Load::Several(load) => load.missing(),
             Load::Rounds(load) => load.missing(),
         }
@@ -339,6 +389,7 @@ impl Load {
     {
         match self {
             Load::One(load) => load.fed_of(source),
+            Load::Sections(load) => load.fed(source),
             Load::Several(load) => load.fed(source),
             Load::Rounds(load) => load.fed(source),
         }
@@ -350,6 +401,7 @@ impl Load {
     {
         match self {
             Load::One(load) => load.closed_at(at),
+            Load::Sections(load) => load.closed_at(at),
             Load::Several(load) => load.closed_at(at),
             Load::Rounds(load) => load.closed_at(at),
         }
@@ -362,6 +414,7 @@ impl Load {
     {
         match self {
             Load::One(load) => load.valid_of(source, at),
+            Load::Sections(load) => load.valid_up_to(source, at),
             Load::Several(load) => load.valid_up_to(source, at),
             Load::Rounds(load) => load.valid_up_to(source, at),
         }

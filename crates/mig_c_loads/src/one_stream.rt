@@ -13,14 +13,15 @@ use mig_c_calls::status::{BAD_SOURCE, DONE, RUNNING};
 use mig_sources::Source;
 use std::alloc::Global;
 
-fn is_main(source: Source) -> bool
+/// Returns whether a source is the main stream.
+pub(crate) fn is_main(source: Source) -> bool
     ensures { IsTrue result ↔ source ≡ main_source }
 {
     matches!(source, Source::Main)
 }
 
-// Returns the fault of a stream, if it has one so far.
-fn fault_in(found: FoundFault) -> FoundFault
+/// Returns the fault of a stream, if it has one so far.
+pub(crate) fn fault_in(found: FoundFault) -> FoundFault
     ensures { result ≡ fault_in found }
 {
     if found.number == RUNNING {
@@ -83,7 +84,7 @@ impl HeldLoad {
 
     /// Returns how many bytes of a source were fed.
     pub fn fed_of(&self, source: Source) -> u64
-        ensures { CountsOne source result self.now.load }
+        ensures { CountsOne source result self.now.load.fed }
     {
         if is_main(source) { self.fed() } else { 0 }
     }

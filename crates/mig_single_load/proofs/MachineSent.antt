@@ -35,7 +35,7 @@ use Rattle.mig_single_load.proofs.Onto.{sent_sections}
 use Rattle.mig_single_load.proofs.LoadsInPlace.{closed_by_sections}
 
 -- the sections that are read of rounds: START and END bring no page
-abbrev sections_of : List (List Page) → List (List PageRecord)
+abbrev pub sections_of : List (List Page) → List (List PageRecord)
 sections_of rounds = [] ∷ map (map written_record) rounds ++ [] ∷ []
 
 -- ---- within a limit
@@ -84,7 +84,7 @@ framed given f table rounds text bytes frame same is read =
     (subst (λ (g : Frame). IsReading (in_frame g (settings Single given.page_size given.limit)) bytes reading) (sym frame)
     (subst (λ (n : ℕ). IsReading (in_frame f (settings Single n given.limit)) bytes reading) same read))
 
-ram_read : (given : LoadSettings) (table : RamTable) (rounds : List (List Page)) (text : List ℕ) → given.frame ≡ Ram
+pub ram_read : (given : LoadSettings) (table : RamTable) (rounds : List (List Page)) (text : List ℕ) → given.frame ≡ Ram
     → LetsThrough given.waiting rounds → table.page_size ≡ given.page_size
     → IsSent given.limit table rounds text → IsReading (single_of given) text (closed table (sections_of rounds))
 ram_read given table rounds text frame lets same sent =
@@ -92,7 +92,7 @@ ram_read given table rounds text frame lets same sent =
     (spelled_law Single given.limit (single table rounds) sent.behind table (sections_of rounds)
     (written_single table rounds given.limit sent.is_table sent.has_limit sent.are_rounds)))
 
-machine_read : (given : LoadSettings) (table : RamTable) (rounds : List (List Page)) (text : List ℕ) → given.frame ≡ Machine
+pub machine_read : (given : LoadSettings) (table : RamTable) (rounds : List (List Page)) (text : List ℕ) → given.frame ≡ Machine
     → LetsThrough given.waiting rounds → table.page_size ≡ given.page_size
     → IsMachineSent given.limit table rounds text → IsReading (single_of given) text (closed table (sections_of rounds))
 machine_read given table rounds text frame lets same sent =
@@ -169,13 +169,14 @@ machine_is_finished given l text a table rounds size frame lets same sent (inr w
 
 -- ---- in place
 
-read_in_place : (given : LoadSettings) (first : Image) (rounds : List
-    (List Page)) (text : List ℕ) (memory : Image) (sections : ℕ) (verdict : Result ⊤ LoadFault) → IsImage first → IsTable first.table
+-- what is read of rounds makes these, of a load that has the complete sections
+pub read_by_sections : (given : LoadSettings) (first : Image) (rounds : List
+    (List Page)) (text : List ℕ) (memory : Image) (sections : ℕ) (verdict : Result ⊤ LoadFault) → IsTable first.table
     → total_bytes first.table ≤ given.limit → All (IsRound first.table) rounds
     → IsReading (settings_of first given) text (closed first.table (sections_of rounds))
-    → HasRecordsOnto given first text memory sections → HasVerdictOnto given first text verdict
+    → HasSectionsOnto given first text memory sections → HasVerdictOnto given first text verdict
     → (memory ≡ with_rounds first rounds) × (sections ≡ length rounds + 2) × (verdict ≡ Ok _)
-read_in_place given first rounds text memory sections verdict is_image is room all read has v =
+read_by_sections given first rounds text memory sections verdict is room all read whole v =
     let table : RamTable = first.table in
     let load : LoadSettings = for_table table given in
     let size : IsPageSize table.page_size = is.has_page_size in
@@ -183,8 +184,6 @@ read_in_place given first rounds text memory sections verdict is_image is room a
     let told : v.reading ≡ reading = same_reading load text v.reading reading size v.is_reading read in
     let own : IsOfOwnTable first v.reading = inr (ap (λ (r : StreamReading). r.table) told) in
     let ok : verdict ≡ Ok _ = v.own own ∙ ap (λ (r : StreamReading). verdict_of (length r.rounds) r.state) told in
-    let whole : HasSectionsOnto given first text memory sections =
-    closed_by_sections given first text memory sections is is_image has (subst (λ (r : Result ⊤ LoadFault). HasVerdictOnto given first text r) ok v) in
     let here : whole.reading ≡ reading = same_reading load text whole.reading reading size whole.is_reading read in
     let alone : HasSectionsOnto (ram_settings table.page_size given.limit) first (single table rounds) memory sections = record {
       reading = whole.reading;
@@ -196,6 +195,22 @@ read_in_place given first rounds text memory sections verdict is_image is room a
     } in
     let both = sent_sections given.limit first rounds memory sections is room all alone in
     (both.0, both.1, ok)
+
+-- and so of a load in place, whose verdict says that it has no records of an open section
+read_in_place : (given : LoadSettings) (first : Image) (rounds : List
+    (List Page)) (text : List ℕ) (memory : Image) (sections : ℕ) (verdict : Result ⊤ LoadFault) → IsImage first → IsTable first.table
+    → total_bytes first.table ≤ given.limit → All (IsRound first.table) rounds
+    → IsReading (settings_of first given) text (closed first.table (sections_of rounds))
+    → HasRecordsOnto given first text memory sections → HasVerdictOnto given first text verdict
+    → (memory ≡ with_rounds first rounds) × (sections ≡ length rounds + 2) × (verdict ≡ Ok _)
+read_in_place given first rounds text memory sections verdict is_image is room all read has v =
+    let table : RamTable = first.table in
+    let reading : StreamReading = closed table (sections_of rounds) in
+    let told : v.reading ≡ reading = same_reading (for_table table given) text v.reading reading is.has_page_size v.is_reading read in
+    let own : IsOfOwnTable first v.reading = inr (ap (λ (r : StreamReading). r.table) told) in
+    let ok : verdict ≡ Ok _ = v.own own ∙ ap (λ (r : StreamReading). verdict_of (length r.rounds) r.state) told in
+    read_by_sections given first rounds text memory sections verdict is room all read
+    (closed_by_sections given first text memory sections is is_image has (subst (λ (r : Result ⊤ LoadFault). HasVerdictOnto given first text r) ok v)) v
 
 -- RAM that was sent is loaded in place as it was sent
 pub ram_in_place : SentIsLoadedWithin

@@ -25,5 +25,5 @@ mod single;
 pub use in_place::{InPlaceLoader, machine_sent_is_loaded_in_place, sent_is_loaded_in_place};
 pub use in_place_state::{InPlaceState, in_place_keeps_other_places, in_place_ok_is_whole};
 pub use loader::SingleLoader;
-pub use settle::{no_memory, without_memory};
+pub use settle::{no_memory, other_table, verdict_at, without_memory};
 pub use single::{load_single, load_single_with};

@@ -59,7 +59,7 @@ pub(crate) fn settle<A: Allocator + Copy>(
 }
 
 /// Returns the state of a stream, as a verdict after `rounds` complete sections.
-pub(crate) fn verdict_at(rounds: u64, state: StreamState) -> Result<(), LoadFault>
+pub fn verdict_at(rounds: u64, state: StreamState) -> Result<(), LoadFault>
     ensures { result ≡ verdict_of rounds state }
 {
     let fault = match state {
@@ -75,7 +75,7 @@ pub(crate) fn verdict_at(rounds: u64, state: StreamState) -> Result<(), LoadFaul
 }
 
 /// Returns the verdict on a stream of another table than the memory's.
-pub(crate) fn other_table() -> Result<(), LoadFault>
+pub fn other_table() -> Result<(), LoadFault>
     ensures { result ≡ at_main 0 OtherTable }
 {
     Err(LoadFault {

@@ -11,6 +11,7 @@
 //! | one stream, whole | `load_single` |
 //! | one stream, in pieces, and no memory yet | `SingleLoader` |
 //! | one stream, in pieces, and the blocks of the guest | `InPlaceLoader`, `InPlaceState` |
+//! | the same, and blocks with whole sections alone at any time | `SectionsLoad` |
 //! | a main stream and channels, whole | `load_multi` |
 //! | a main stream and channels, in pieces or from readers | `Session`, `pump` |
 //! | a main stream and channels, and the blocks of the guest | `InPlaceSession` |
@@ -382,6 +383,7 @@ pub use mig_mem::{
     PAGE_SIZE_4K, PAGE_SIZE_8K, Place, Table, TableFault, differences, first_difference,
     is_page_size,
 };
+pub use mig_sections::SectionsLoad;
 pub use mig_send::{
     ChannelWorker, MultiRound, MultiSender, OpenGate, OpenRound, SendFault, Sent, SingleSender,
 };

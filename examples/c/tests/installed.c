@@ -15,41 +15,44 @@
 #error "the header has a later version"
 #endif
 
-static int send_page(const uint8_t *page, uint8_t *stream, size_t len, size_t *sent) {
-    zimgasol_block block = {.id = "pc.ram", .pages = 1};
-    zimgasol_table table = {0};
+static int send_page(zimgasol_table *table, const uint8_t *page, uint8_t *stream, size_t len,
+    size_t *sent) {
     zimgasol_sender sender = {0};
-    size_t entry;
-    int done = zimgasol_table_new(&table, 4096, &block, 1, &entry) == ZIMGASOL_DONE &&
-        zimgasol_sender_new(&sender, &table) == ZIMGASOL_DONE &&
+    int done = zimgasol_sender_new(&sender, table) == ZIMGASOL_DONE &&
         zimgasol_sender_begin_round(&sender) == ZIMGASOL_DONE &&
         zimgasol_sender_put_page(&sender, 0, 0, page, 4096) == ZIMGASOL_DONE &&
         zimgasol_sender_end_round(&sender) == ZIMGASOL_DONE &&
         zimgasol_sender_finish(&sender) == ZIMGASOL_DONE;
     *sent = done ? zimgasol_sender_drain(&sender, stream, len) : 0;
     zimgasol_sender_free(&sender);
-    zimgasol_table_free(&table);
     return done;
 }
 
-static int load_page(const uint8_t *stream, size_t len, uint8_t *page) {
-    zimgasol_loader loader = {0};
+static int load_page(zimgasol_table *table, const uint8_t *stream, size_t len, uint8_t *page) {
+    const zimgasol_settings settings = {.zero_blocks = 1, .whole_rounds = 1};
+    zimgasol_buffer block = {page, 4096};
+    zimgasol_load load = {0};
     zimgasol_fault fault;
-    int done = zimgasol_loader_new(&loader, 4096, 4096, ZIMGASOL_FRAME_RAM) == ZIMGASOL_DONE &&
-        zimgasol_loader_feed(&loader, stream, len) == ZIMGASOL_DONE &&
-        zimgasol_loader_verdict(&loader, &fault) == ZIMGASOL_DONE &&
-        zimgasol_loader_page(&loader, 0, 0, page, 4096) == ZIMGASOL_DONE;
-    zimgasol_loader_free(&loader);
+    size_t taken;
+    int done = zimgasol_load_new(&load, table, stream, 0, 0, &settings) == ZIMGASOL_DONE &&
+        zimgasol_load_feed(&load, &block, 1, ZIMGASOL_MAIN, stream, len, &taken) == ZIMGASOL_DONE &&
+        zimgasol_load_verdict(&load, &fault) == ZIMGASOL_DONE && taken == len;
+    zimgasol_load_free(&load);
     return done;
 }
 
 int main(void) {
     static uint8_t page[4096], loaded[4096], stream[8192];
-    size_t sent;
+    zimgasol_block block = {.id = "pc.ram", .pages = 1};
+    zimgasol_table table = {0};
+    size_t entry, sent;
     memset(page, 7, sizeof page);
     if (zimgasol_version() != ZIMGASOL_VERSION_NUMBER) return 2;
-    if (!send_page(page, stream, sizeof stream, &sent)) return 3;
-    if (!load_page(stream, sent, loaded) || memcmp(page, loaded, sizeof page) != 0) return 4;
+    if (zimgasol_table_new(&table, 4096, &block, 1, &entry) != ZIMGASOL_DONE) return 3;
+    if (!send_page(&table, page, stream, sizeof stream, &sent)) return 3;
+    if (!load_page(&table, stream, sent, loaded) || memcmp(page, loaded, sizeof page) != 0)
+        return 4;
+    zimgasol_table_free(&table);
     puts(ZIMGASOL_VERSION);
     return 0;
 }

@@ -4,13 +4,11 @@
 
 int main() {
     zimgasol_table table = {};
-    zimgasol_loader loader = {};
     zimgasol_load load = {};
     zimgasol_sender sender = {};
     zimgasol_multi multi = {};
     zimgasol_worker workers[4] = {};
     zimgasol_table_free(&table);
-    zimgasol_loader_free(&loader);
     zimgasol_load_free(&load);
     zimgasol_sender_free(&sender);
     zimgasol_multi_free(&multi);

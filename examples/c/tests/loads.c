@@ -1,7 +1,8 @@
 /* A load into blocks, by its sources. A load of one stream has the main stream alone, and one of
  * several channels has no call that reads a page of one stream: each call is asked of sources that
- * the load has, and of others. One stream is whole, cut, has a fault, or is of another table. Each
- * argument that no load is made of is tried, in the order in which they are refused. */
+ * the load has, and of others. One stream is whole, cut, has a fault, or is of another table. It is
+ * loaded record by record, and by whole sections. Each argument that no load is made of is tried,
+ * in the order in which they are refused. */
 #include "zimgasol.h"
 #include <stdio.h>
 #include <string.h>
@@ -103,15 +104,16 @@ static int refuse_all(zimgasol_table *table) {
     if (refuse(table, 16, 1, &both, ZIMGASOL_BAD_FRAME)) return 1;
     if (refuse(table, 16, 1, &round_end, ZIMGASOL_BAD_ROUND_END)) return 1;
     if (make(table, 16, 1, &shown) || make(table, 16, 255, &plain)) return 1;
-    /* by whole rounds, too, of which one stream has none */
+    /* by whole rounds, too */
     if (refuse(table, 15, 256, &wrong_whole, ZIMGASOL_BAD_CHANNELS)) return 1;
     if (refuse(table, 15, 255, &wrong_whole, ZIMGASOL_BAD_LENGTH)) return 1;
     if (refuse(table, 16, 255, &wrong_whole, ZIMGASOL_BAD_FRAME)) return 1;
-    if (refuse(table, 15, 0, &wrong_whole, ZIMGASOL_BAD_CHANNELS)) return 1;
-    if (refuse(table, 0, 0, &whole, ZIMGASOL_BAD_CHANNELS)) return 1;
     if (make(table, 16, 1, &whole) || make(table, 16, 255, &whole)) return 1;
     /* one stream: neither a UUID nor an end of rounds is looked at */
     if (refuse(table, 15, 0, &both, ZIMGASOL_BAD_FRAME)) return 1;
+    if (refuse(table, 15, 0, &wrong_whole, ZIMGASOL_BAD_FRAME)) return 1;
+    wrong_whole.frame = ZIMGASOL_FRAME_MACHINE;
+    if (make(table, 15, 0, &wrong_whole) || make(table, 0, 0, &whole)) return 1;
     return make(table, 15, 0, &round_end) || make(table, 0, 0, &plain);
 }
 
@@ -149,6 +151,13 @@ static int ask_no_packet(zimgasol_load *load, size_t channel) {
 
 /* ---- one stream */
 
+/* How it is loaded, and whether by whole sections: then no page is read straight to its place. */
+static const zimgasol_settings *loads_with;
+
+static bool is_whole(void) {
+    return loads_with->whole_rounds != 0;
+}
+
 /* What a load of one stream says of every other source, however it stands. */
 static int ask_others_of_one(zimgasol_load *load) {
     if (ask_foreign(load, ZIMGASOL_CHANNEL(0))) return 1;
@@ -156,6 +165,7 @@ static int ask_others_of_one(zimgasol_load *load) {
         if (ask_foreign(load, others[i])) return 1;
     if (ask_no_packet(load, 0) || ask_no_packet(load, 1) || ask_no_packet(load, SIZE_MAX)) return 1;
     WANT(zimgasol_load_claimed(load) == 0);
+    if (is_whole()) WANT(zimgasol_load_page_read(load, into, 1) == ZIMGASOL_OUT_OF_TURN);
     return 0;
 }
 
@@ -171,13 +181,15 @@ static int feed_main(zimgasol_load *load, const uint8_t *bytes, size_t len) {
 /* A load of one stream that goes on, with no fault so far. */
 static int ask_running(zimgasol_load *load) {
     zimgasol_fault found = {.number = 7};
-    zimgasol_next next = {0};
+    zimgasol_next next = {.len = 7, .offset = 7};
     uint64_t at = 7;
     WANT(zimgasol_load_verdict(load, &found) == ZIMGASOL_RUNNING &&
         found.number == ZIMGASOL_RUNNING && found.source == 0);
     WANT(zimgasol_load_fault_of(load, ZIMGASOL_MAIN, &found) == ZIMGASOL_DONE &&
         found.number == 0 && found.round == 0 && found.source == 0);
-    WANT(zimgasol_load_takes(load, ZIMGASOL_MAIN) && zimgasol_load_wanted(load, &next));
+    WANT(zimgasol_load_takes(load, ZIMGASOL_MAIN));
+    WANT(zimgasol_load_wanted(load, &next) == !is_whole());
+    if (is_whole()) WANT(next.len == 7 && next.is_page == 0 && next.offset == 7);
     WANT(!zimgasol_load_has_all_rounds(load));
     WANT(zimgasol_load_closed_at(load, &at) == ZIMGASOL_RUNNING && at == 7);
     WANT(zimgasol_load_valid_up_to(load, ZIMGASOL_MAIN, &at) &&
@@ -221,7 +233,7 @@ static int load_single(zimgasol_table *table) {
     zimgasol_next next = {.len = 7};
     uint64_t at = 7;
     memset(loaded, 0xEE, sizeof loaded);
-    WANT(zimgasol_load_new(&load, table, uuid, 0, 0, &plain) == ZIMGASOL_DONE);
+    WANT(zimgasol_load_new(&load, table, uuid, 0, 0, loads_with) == ZIMGASOL_DONE);
     WANT(zimgasol_load_rounds(&load) == 0 && zimgasol_load_missing(&load) == PAGES);
     if (ask_running(&load) || feed_main(&load, single, 0) || ask_running(&load)) return 1;
     for (size_t len = single_len - 1, fed = 0; fed < len; fed += len / 2) {
@@ -254,7 +266,7 @@ static int load_failing(zimgasol_table *table, const uint8_t *bytes, size_t len,
     zimgasol_status wanted, uint64_t round) {
     zimgasol_load load = {0};
     uint64_t valid = 7, at = 7;
-    WANT(zimgasol_load_new(&load, table, uuid, 0, 0, &plain) == ZIMGASOL_DONE);
+    WANT(zimgasol_load_new(&load, table, uuid, 0, 0, loads_with) == ZIMGASOL_DONE);
     if (feed_main(&load, bytes, len) || ask_failed(&load, wanted, round)) return 1;
     WANT(zimgasol_load_valid_up_to(&load, ZIMGASOL_MAIN, &valid) ==
         (wanted != ZIMGASOL_OTHER_TABLE));
@@ -269,7 +281,7 @@ static int load_failing(zimgasol_table *table, const uint8_t *bytes, size_t len,
 /* A stream that is cut: it goes on until it is ended. */
 static int load_cut(zimgasol_table *table, size_t len) {
     zimgasol_load load = {0};
-    WANT(zimgasol_load_new(&load, table, uuid, 0, 0, &plain) == ZIMGASOL_DONE);
+    WANT(zimgasol_load_new(&load, table, uuid, 0, 0, loads_with) == ZIMGASOL_DONE);
     if (feed_main(&load, single, len) || ask_running(&load)) return 1;
     uint64_t round = zimgasol_load_rounds(&load);
     if (end_main(&load) || ask_failed(&load, ZIMGASOL_STREAM_TRUNCATED, round)) return 1;
@@ -277,7 +289,8 @@ static int load_cut(zimgasol_table *table, size_t len) {
     return 0;
 }
 
-static int load_one_stream(zimgasol_table *table) {
+static int load_one_stream(zimgasol_table *table, const zimgasol_settings *settings) {
+    loads_with = settings;
     if (load_single(table)) return 1;
     for (size_t len = 0; len < single_len; len += 500)
         if (load_cut(table, len)) return 1;
@@ -295,10 +308,11 @@ static int load_one_stream(zimgasol_table *table) {
 }
 
 /* A stream of a block with another id: nothing is written. */
-static int load_other(void) {
+static int load_other(const zimgasol_settings *settings) {
     zimgasol_block block = {.id = "rom", .pages = PAGES};
     zimgasol_table table = {0};
     size_t entry;
+    loads_with = settings;
     memset(loaded, 0xEE, sizeof loaded);
     WANT(zimgasol_table_new(&table, PAGE, &block, 1, &entry) == ZIMGASOL_DONE);
     if (load_failing(&table, single, single_len, ZIMGASOL_OTHER_TABLE, 0)) return 1;
@@ -413,7 +427,8 @@ int main(void) {
     memset(guest, 0x5A, PAGE);
     WANT(zimgasol_table_new(&table, PAGE, &block, 1, &entry) == ZIMGASOL_DONE);
     if (send_single(&table) || send_several(&table)) return 1;
-    if (refuse_all(&table) || load_one_stream(&table) || load_other()) return 1;
+    if (refuse_all(&table) || load_one_stream(&table, &plain) || load_other(&plain)) return 1;
+    if (load_one_stream(&table, &whole) || load_other(&whole)) return 1;
     if (load_several(&table, &plain) || load_several(&table, &whole)) return 1;
     zimgasol_table_free(&table);
     printf("loads of one stream and of several channels: each call, of sources that a load has and "

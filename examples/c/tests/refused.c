@@ -1,7 +1,8 @@
-/* Each allocation refused in turn. A guest of two blocks is sent, loaded by a loader and read out,
- * and loaded into blocks, with the nth call of malloc or realloc refused: the call that wanted it
- * says so, and is made again. So is a main stream with its channel, by whole rounds. What comes of
- * it is the same as with no refusal, and no block is left. */
+/* Each allocation refused in turn. A guest of two blocks is sent, and loaded into blocks by whole
+ * sections and record by record, with the nth call of malloc or realloc refused: the call that
+ * wanted it says so, and is made again. So is a main stream with its channel, by whole rounds. What
+ * comes of it is the same as with no refusal, and no block is left. One stream by whole sections is
+ * also cut everywhere, has faults, and is of another table. */
 #include "zimgasol.h"
 #include "refusing.h"
 #include <string.h>
@@ -9,6 +10,8 @@
 enum { PAGE = 4096, MOST = 1 << 17 };
 
 static const zimgasol_settings plain = {.frame = ZIMGASOL_FRAME_RAM};
+static const zimgasol_settings whole = {.whole_rounds = 1};
+static const zimgasol_settings whole_zeros = {.zero_blocks = 1, .whole_rounds = 1};
 
 static uint8_t page[PAGE], text[MOST], main_text[MOST], channel_text[MOST];
 static size_t text_len, main_len, channel_len;
@@ -89,83 +92,10 @@ static void send(void) {
         text[text_len - 1] == 0);
 }
 
-/* Several pages at once, and the next one that isn't zeros: of block 0 only page 2 is none. */
-static void read_loaded(zimgasol_loader *loader) {
-    static uint8_t pages[3 * PAGE];
-    uint64_t at = 77;
-    memset(pages, 0xEE, sizeof pages);
-    WANT(zimgasol_loader_read(loader, 0, 0, pages, sizeof pages) == ZIMGASOL_DONE);
-    WANT(pages[0] == 0 && memcmp(pages, pages + 1, 2 * PAGE - 1) == 0 && pages[2 * PAGE] == 3 &&
-        pages[2 * PAGE + 1] == 7 && pages[3 * PAGE - 1] == 7);
-    memset(pages, 0xEE, sizeof pages);
-    WANT(zimgasol_loader_read(loader, 0, 1, pages, 2 * PAGE) == ZIMGASOL_DONE &&
-        pages[PAGE - 1] == 0 && pages[PAGE] == 3 && pages[2 * PAGE] == 0xEE);
-    WANT(zimgasol_loader_read(loader, 0, 1, pages, 3 * PAGE) == ZIMGASOL_NO_PAGE &&
-        zimgasol_loader_read(loader, 0, 4, pages, 0) == ZIMGASOL_NO_PAGE);
-    WANT(zimgasol_loader_read(loader, 0, UINT64_MAX, pages, PAGE) == ZIMGASOL_NO_PAGE &&
-        zimgasol_loader_read(loader, 2, 0, pages, PAGE) == ZIMGASOL_NO_PAGE);
-    WANT(zimgasol_loader_read(loader, 0, 1, pages, PAGE + 1) == ZIMGASOL_BAD_LENGTH &&
-        zimgasol_loader_read(loader, 0, 3, pages, 0) == ZIMGASOL_DONE);
-    WANT(pages[PAGE - 1] == 0 && pages[PAGE] == 3 && pages[2 * PAGE] == 0xEE);
-    WANT(zimgasol_loader_next_nonzero(loader, 0, 0, &at) == ZIMGASOL_DONE && at == 2);
-    WANT(zimgasol_loader_next_nonzero(loader, 0, 2, &at) == ZIMGASOL_DONE && at == 2);
-    at = 77;
-    WANT(zimgasol_loader_next_nonzero(loader, 0, 3, &at) == ZIMGASOL_NO_PAGE &&
-        zimgasol_loader_next_nonzero(loader, 0, UINT64_MAX, &at) == ZIMGASOL_NO_PAGE);
-    WANT(zimgasol_loader_next_nonzero(loader, 1, 0, &at) == ZIMGASOL_NO_PAGE &&
-        zimgasol_loader_next_nonzero(loader, 2, 0, &at) == ZIMGASOL_NO_PAGE && at == 77);
-}
-
-static void load(size_t cut) {
-    zimgasol_loader loader = {0};
-    zimgasol_fault fault;
-    AGAIN(zimgasol_loader_new(&loader, PAGE, 1 << 20, ZIMGASOL_FRAME_RAM));
-    for (size_t at = 0; at < text_len; at += cut) {
-        size_t len = text_len - at < cut ? text_len - at : cut;
-        uint32_t status = zimgasol_loader_feed(&loader, text + at, len);
-        if (status == ZIMGASOL_NO_MEMORY) status = zimgasol_loader_feed(&loader, text + at, len);
-        if (status == ZIMGASOL_WAITS) {
-            WANT(zimgasol_loader_verdict(&loader, &fault) == ZIMGASOL_NO_MEMORY &&
-                fault.source == ZIMGASOL_ROUND);
-            WANT(zimgasol_loader_blocks(&loader) == 0);
-            status = zimgasol_loader_settle(&loader);
-        }
-        WANT(status == ZIMGASOL_DONE);
-        if (at == 0 && len < text_len) {
-            uint64_t none = 7;
-            if (zimgasol_loader_blocks(&loader) == 0)
-                WANT(zimgasol_loader_next_nonzero(&loader, 0, 0, &none) == ZIMGASOL_NO_PAGE &&
-                    zimgasol_loader_read(&loader, 0, 0, page, 0) == ZIMGASOL_NO_PAGE &&
-                    !zimgasol_loader_missing(&loader, &none) && none == 7);
-            WANT(zimgasol_loader_verdict(&loader, &fault) == ZIMGASOL_RUNNING &&
-                fault.number == ZIMGASOL_RUNNING);
-            WANT(zimgasol_loader_closed_at(&loader, &none) == ZIMGASOL_RUNNING && none == 7);
-        }
-    }
-    uint64_t closed = 7, missing = 7;
-    WANT(zimgasol_loader_fed(&loader) == text_len);
-    WANT(zimgasol_loader_closed_at(&loader, &closed) == ZIMGASOL_DONE && closed == text_len);
-    zimgasol_loader_end(&loader);
-    WANT(zimgasol_loader_feed(&loader, text, 1) == ZIMGASOL_IS_OVER);
-    WANT(zimgasol_loader_verdict(&loader, &fault) == ZIMGASOL_DONE && fault.number == 0);
-    WANT(zimgasol_loader_rounds(&loader) == 4);
-    WANT(zimgasol_loader_missing(&loader, &missing) && missing == 3);
-    WANT(zimgasol_loader_blocks(&loader) == 2);
-    zimgasol_block block;
-    WANT(zimgasol_loader_block(&loader, 1, &block) == ZIMGASOL_DONE && block.pages == 2 &&
-        strcmp((char *)block.id, "pc.ram") == 0);
-    WANT(zimgasol_loader_block(&loader, 2, &block) == ZIMGASOL_NO_PAGE);
-    WANT(zimgasol_loader_page(&loader, 0, 2, page, PAGE) == ZIMGASOL_DONE && page[0] == 3 &&
-        page[PAGE - 1] == 7);
-    WANT(zimgasol_loader_page(&loader, 1, 1, page, PAGE) == ZIMGASOL_DONE && page[0] == 0);
-    WANT(zimgasol_loader_page(&loader, 1, 2, page, PAGE) == ZIMGASOL_NO_PAGE);
-    WANT(zimgasol_loader_page(&loader, 1, 1, page, PAGE - 1) == ZIMGASOL_BAD_LENGTH);
-    read_loaded(&loader);
-    zimgasol_loader_free(&loader);
-}
-
-/* The guest's blocks, and what they hold before the stream comes. */
-static uint8_t first_block[3 * PAGE], second_block[2 * PAGE];
+/* The guest's blocks, and the byte that they hold before the stream comes. */
+static uint8_t first_block[3 * PAGE], second_block[2 * PAGE], at_first;
+static zimgasol_buffer into[2] = {{first_block, sizeof first_block},
+    {second_block, sizeof second_block}};
 
 static int is_filled(const uint8_t *bytes, size_t len, uint8_t byte) {
     for (size_t i = 0; i < len; i++)
@@ -173,16 +103,259 @@ static int is_filled(const uint8_t *bytes, size_t len, uint8_t byte) {
     return 1;
 }
 
-static void make_in_place(zimgasol_load *load) {
+static void make_in_place(zimgasol_load *load, const zimgasol_settings *settings) {
     zimgasol_block blocks[2] = {{.id = "a", .pages = 3}, {.id = "pc.ram", .pages = 2}};
     zimgasol_table table = {0};
     size_t entry;
     AGAIN(zimgasol_table_new(&table, PAGE, blocks, 2, &entry));
-    AGAIN(zimgasol_load_new(load, &table, (const uint8_t *)"", 0, 0, &plain));
+    AGAIN(zimgasol_load_new(load, &table, (const uint8_t *)"", 0, 0, settings));
     zimgasol_table_free(&table);
-    memset(first_block, 0xEE, sizeof first_block);
-    memset(second_block, 0xEE, sizeof second_block);
+    at_first = settings->zero_blocks ? 0 : 0xEE;
+    memset(first_block, at_first, sizeof first_block);
+    memset(second_block, at_first, sizeof second_block);
 }
+
+/* ---- the stream by whole sections */
+
+/* Where the sections of the stream end: START, two PARTs of two records each, and END, which the
+ * end byte follows. A PART has its head, a page's record with an id, the record of a page of zeros
+ * with the other id, EOS and footer. */
+enum { START = 71, SECOND = 5 + 8 + 2 + PAGE, PART = SECOND + 8 + 7 + 1 + 8 + 5, END = 5 + 8 + 5 };
+static const size_t section_ends[4] = {START, START + PART, START + 2 * PART,
+    START + 2 * PART + END};
+
+static uint64_t sections_in(uint64_t bytes) {
+    uint64_t sections = 0;
+    while (sections < 4 && section_ends[sections] <= bytes) sections++;
+    return sections;
+}
+
+/* The blocks have the first sections, and nothing else: a PART has page 2 of the first block, and
+ * page 0 of the second one, which is zeros. */
+static int has_sections(uint64_t sections) {
+    uint8_t first = sections > 2 ? 3 : sections > 1 ? 1 : at_first;
+    uint8_t rest = sections > 1 ? 7 : at_first, zeros = sections > 1 ? 0 : at_first;
+    return is_filled(first_block, 2 * PAGE, at_first) && first_block[2 * PAGE] == first &&
+        is_filled(first_block + 2 * PAGE + 1, PAGE - 1, rest) &&
+        is_filled(second_block, PAGE, zeros) && is_filled(second_block + PAGE, PAGE, at_first);
+}
+
+/* No page is read straight to its place, nor claimed. */
+static void check_fed_alone(zimgasol_load *load) {
+    const zimgasol_pages untouched = {.block = 77, .normal = 78, .zero = 79, .pages = {80}};
+    const zimgasol_lent content = {page, PAGE};
+    zimgasol_next next = {.len = 77, .is_page = 78, .block = 79, .offset = 80};
+    zimgasol_pages pages = untouched;
+    WANT(!zimgasol_load_wanted(load, &next) && next.len == 77 && next.is_page == 78 &&
+        next.block == 79 && next.offset == 80);
+    WANT(zimgasol_load_page_read(load, into, 2) == ZIMGASOL_OUT_OF_TURN);
+    WANT(zimgasol_load_claim(load, 0, text, ZIMGASOL_HEAD_LEN(PAGE), &pages) ==
+            ZIMGASOL_BAD_SOURCE &&
+        memcmp(&pages, &untouched, sizeof pages) == 0);
+    WANT(zimgasol_load_take(load, 0, text, ZIMGASOL_HEAD_LEN(PAGE), &content, 1) ==
+        ZIMGASOL_BAD_SOURCE);
+    WANT(zimgasol_load_claimed(load) == 0);
+}
+
+/* What a load of these first bytes of the stream says, and its blocks. */
+static void check_sections(zimgasol_load *load, uint64_t fed) {
+    zimgasol_fault fault;
+    uint64_t sections = sections_in(fed), at = 7;
+    int is_closed = fed >= text_len;
+    WANT(zimgasol_load_fed(load, ZIMGASOL_MAIN) == fed && has_sections(sections));
+    WANT(zimgasol_load_rounds(load) == sections &&
+        zimgasol_load_missing(load) == (sections > 1 ? 3 : 5));
+    WANT(zimgasol_load_verdict(load, &fault) == (is_closed ? ZIMGASOL_DONE : ZIMGASOL_RUNNING) &&
+        fault.round == (is_closed ? 0 : sections) && fault.source == 0 && fault.first == 0);
+    WANT(zimgasol_load_fault_of(load, ZIMGASOL_MAIN, &fault) == ZIMGASOL_DONE);
+    WANT(zimgasol_load_takes(load, ZIMGASOL_MAIN) == !is_closed &&
+        zimgasol_load_has_all_rounds(load) == is_closed);
+    WANT(zimgasol_load_closed_at(load, &at) == (is_closed ? ZIMGASOL_DONE : ZIMGASOL_RUNNING) &&
+        at == (is_closed ? text_len : 7));
+    WANT(zimgasol_load_valid_up_to(load, ZIMGASOL_MAIN, &at) && at <= fed &&
+        (!is_closed || at == text_len));
+}
+
+/* Feeds the next bytes of the stream. A refused allocation changes nothing, and they are fed again.
+ */
+static void feed_sections(zimgasol_load *load, size_t at, size_t len) {
+    size_t taken = 7;
+    zimgasol_status status =
+        zimgasol_load_feed(load, into, 2, ZIMGASOL_MAIN, text + at, len, &taken);
+    if (status == ZIMGASOL_NO_MEMORY) {
+        WANT(refusals == 1 && taken == 0);
+        check_sections(load, at);
+        status = zimgasol_load_feed(load, into, 2, ZIMGASOL_MAIN, text + at, len, &taken);
+    }
+    WANT(status == ZIMGASOL_DONE && taken == len);
+    WANT(into[0].bytes == first_block && into[0].len == sizeof first_block &&
+        into[1].bytes == second_block && into[1].len == sizeof second_block);
+    check_sections(load, at + len);
+}
+
+/* Ends a load that is closed. Bytes after the stream's end are only counted. */
+static void end_sections(zimgasol_load *load) {
+    zimgasol_fault fault;
+    uint64_t at = 7;
+    size_t taken = 7;
+    AGAIN(zimgasol_load_feed(load, into, 2, ZIMGASOL_MAIN, text, 9, &taken));
+    WANT(taken == 9 && zimgasol_load_fed(load, ZIMGASOL_MAIN) == text_len + 9);
+    WANT(zimgasol_load_closed_at(load, &at) == ZIMGASOL_DONE && at == text_len);
+    for (int turn = 0; turn < 2; turn++)
+        WANT(zimgasol_load_end(load, ZIMGASOL_MAIN) == ZIMGASOL_DONE);
+    WANT(zimgasol_load_feed(load, into, 0, ZIMGASOL_MAIN, text, 1, &taken) == ZIMGASOL_IS_OVER &&
+        taken == 0);
+    check_fed_alone(load);
+    WANT(zimgasol_load_verdict(load, &fault) == ZIMGASOL_DONE && fault.number == 0 &&
+        zimgasol_load_rounds(load) == 4 && zimgasol_load_missing(load) == 3);
+    zimgasol_load_free(load);
+    WANT(load->full == 0 && load->at == NULL && has_sections(4));
+}
+
+/* Loads in pieces of `cut` bytes, and tries first what isn't to be done. */
+static void load_sections(const zimgasol_settings *settings, size_t cut) {
+    zimgasol_load load = {0};
+    size_t taken = 7;
+    make_in_place(&load, settings);
+    for (size_t at = 0; at < text_len; at += cut) {
+        size_t len = text_len - at < cut ? text_len - at : cut;
+        WANT(zimgasol_load_feed(&load, into, 1, ZIMGASOL_MAIN, text + at, len, &taken) ==
+                ZIMGASOL_BAD_LENGTH &&
+            taken == 0);
+        into[1].len--;
+        WANT(zimgasol_load_feed(&load, into, 2, ZIMGASOL_MAIN, text + at, len, &taken) ==
+                ZIMGASOL_BAD_LENGTH &&
+            taken == 0);
+        into[1].len++;
+        WANT(zimgasol_load_feed(&load, into, 2, ZIMGASOL_CHANNEL(0), text + at, len, &taken) ==
+                ZIMGASOL_BAD_SOURCE &&
+            taken == 0);
+        check_fed_alone(&load);
+        feed_sections(&load, at, len);
+    }
+    end_sections(&load);
+}
+
+/* Cuts the stream at each byte: into two pieces, and into pieces of one byte. Before a page's
+ * content none is asked for. */
+static void cut_sections(void) {
+    zimgasol_load load = {0};
+    WANT(text_len == section_ends[3] + 1);
+    for (size_t at = 0; at <= text_len; at++) {
+        make_in_place(&load, at % 2 == 0 ? &whole : &whole_zeros);
+        check_sections(&load, 0);
+        feed_sections(&load, 0, at);
+        if (at < text_len) feed_sections(&load, at, text_len - at);
+        zimgasol_load_free(&load);
+        WANT(has_sections(4));
+    }
+    load_sections(&whole, 1);
+    load_sections(&whole_zeros, 1);
+}
+
+/* Feeds a stream with a fault in its second PART or after it, and ends it. The blocks have the
+ * sections before, and nothing else; record by record they have the records before, too. `valid` is
+ * where the item at fault begins. */
+static void fail_section(size_t cut, size_t len, zimgasol_status wanted, uint64_t valid) {
+    static uint8_t before[2][sizeof first_block];
+    zimgasol_load load = {0};
+    zimgasol_fault fault;
+    for (int is_whole = 0; is_whole < 2; is_whole++) {
+        uint64_t sections = sections_in(valid), at = 7;
+        size_t taken = 0;
+        make_in_place(&load, is_whole ? &whole : &plain);
+        for (size_t from = 0; from < len; from += taken)
+            AGAIN(zimgasol_load_feed(&load, into, 2, ZIMGASOL_MAIN, text + from,
+                len - from < cut ? len - from : cut, &taken));
+        memcpy(before[0], first_block, sizeof first_block);
+        memcpy(before[1], second_block, sizeof second_block);
+        if (wanted == ZIMGASOL_STREAM_TRUNCATED) WANT(zimgasol_load_takes(&load, ZIMGASOL_MAIN));
+        else AGAIN(zimgasol_load_feed(&load, into, 2, ZIMGASOL_MAIN, text, text_len, &taken));
+        WANT(zimgasol_load_end(&load, ZIMGASOL_MAIN) == ZIMGASOL_DONE);
+        WANT(zimgasol_load_verdict(&load, &fault) == wanted && fault.number == wanted &&
+            fault.round == sections && fault.source == ZIMGASOL_MAIN);
+        WANT(zimgasol_load_fault_of(&load, ZIMGASOL_MAIN, &fault) == wanted &&
+            fault.round == sections);
+        WANT(zimgasol_load_rounds(&load) == sections && zimgasol_load_missing(&load) == 3 &&
+            !zimgasol_load_takes(&load, ZIMGASOL_MAIN) && !zimgasol_load_has_all_rounds(&load));
+        WANT(zimgasol_load_valid_up_to(&load, ZIMGASOL_MAIN, &at) && at == valid);
+        at = 7;
+        WANT(zimgasol_load_closed_at(&load, &at) == ZIMGASOL_RUNNING && at == 7);
+        if (is_whole) check_fed_alone(&load);
+        zimgasol_load_free(&load);
+        /* record by record the page of the second PART is there */
+        WANT(has_sections(is_whole ? sections : 3));
+        WANT(memcmp(before[0], first_block, sizeof first_block) == 0 &&
+            memcmp(before[1], second_block, sizeof second_block) == 0);
+    }
+}
+
+/* Faults of several kinds, each made in one byte: where, what is changed in it, and where the item
+ * at fault begins. */
+static void fail_sections(void) {
+    static const struct {
+        size_t at;
+        uint8_t change;
+        zimgasol_status wanted;
+        size_t valid;
+    } faults[] = {
+        /* the second record of the second PART: its flags, its id, its fill byte */
+        {START + PART + SECOND + 7, 0x40, ZIMGASOL_STREAM_FLAGS, START + PART + SECOND},
+        {START + PART + SECOND + 9, 1, ZIMGASOL_STREAM_UNKNOWN_BLOCK, START + PART + SECOND + 8},
+        {START + PART + SECOND + 15, 1, ZIMGASOL_STREAM_FILL, START + PART + SECOND + 15},
+        /* its footer, and END's type and section id */
+        {START + 2 * PART - 5, 1, ZIMGASOL_STREAM_FOOTER, START + 2 * PART - 5},
+        {START + 2 * PART, 8, ZIMGASOL_STREAM_SECTION_TYPE, START + 2 * PART},
+        {START + 2 * PART + 4, 1, ZIMGASOL_STREAM_SECTION_ID, START + 2 * PART + 1},
+    };
+    for (size_t cut = 1000; cut <= MOST; cut += MOST - 1000)
+        for (size_t i = 0; i < sizeof faults / sizeof faults[0]; i++) {
+            text[faults[i].at] ^= faults[i].change;
+            fail_section(cut, text_len, faults[i].wanted, faults[i].valid);
+            text[faults[i].at] ^= faults[i].change;
+        }
+    /* cut after the second PART's page, before its footer, and before the end byte */
+    fail_section(MOST, START + PART + SECOND, ZIMGASOL_STREAM_TRUNCATED, START + PART + SECOND);
+    fail_section(700, START + 2 * PART - 5, ZIMGASOL_STREAM_TRUNCATED, START + 2 * PART - 5);
+    fail_section(MOST, text_len - 1, ZIMGASOL_STREAM_TRUNCATED, text_len - 1);
+}
+
+/* A stream of another table: nothing is written, and nothing more of it is kept. */
+static void load_other_sections(size_t cut) {
+    zimgasol_load load = {0};
+    zimgasol_fault fault;
+    size_t taken = 0;
+    uint64_t at = 7;
+    /* the second block is `qc.ram` in the stream: its id ends before its length, EOS and footer */
+    uint8_t *id = text + START - 13 - 8 - 6;
+    WANT(memcmp(id, "pc.ram", 6) == 0);
+    make_in_place(&load, &whole);
+    id[0] = 'q';
+    for (size_t from = 0; from < text_len; from += taken) {
+        AGAIN(zimgasol_load_feed(&load, into, 2, ZIMGASOL_MAIN, text + from,
+            text_len - from < cut ? text_len - from : cut, &taken));
+        if (from + taken < START) continue;
+        WANT(zimgasol_load_verdict(&load, &fault) == ZIMGASOL_OTHER_TABLE && fault.round == 0 &&
+            fault.source == ZIMGASOL_MAIN);
+    }
+    long then = held;
+    for (int more = 0; more < 9; more++)
+        AGAIN(zimgasol_load_feed(&load, into, 2, ZIMGASOL_MAIN, text, text_len, &taken));
+    WANT(held == then && zimgasol_load_fed(&load, ZIMGASOL_MAIN) == 10 * text_len);
+    WANT(zimgasol_load_fault_of(&load, ZIMGASOL_MAIN, &fault) == ZIMGASOL_OTHER_TABLE);
+    WANT(zimgasol_load_rounds(&load) == 0 && zimgasol_load_missing(&load) == 5 &&
+        !zimgasol_load_takes(&load, ZIMGASOL_MAIN) && !zimgasol_load_has_all_rounds(&load));
+    WANT(!zimgasol_load_valid_up_to(&load, ZIMGASOL_MAIN, &at) &&
+        zimgasol_load_closed_at(&load, &at) == ZIMGASOL_RUNNING && at == 7);
+    check_fed_alone(&load);
+    WANT(zimgasol_load_end(&load, ZIMGASOL_MAIN) == ZIMGASOL_DONE);
+    WANT(zimgasol_load_verdict(&load, &fault) == ZIMGASOL_OTHER_TABLE);
+    zimgasol_load_free(&load);
+    WANT(has_sections(0));
+    id[0] = 'p';
+}
+
+/* ---- the stream record by record */
 
 /* Feeds the stream, and tries first what isn't to be done. A piece is fed again where nothing had
  * changed. Returns NO_MEMORY where the load has failed. */
@@ -285,11 +458,11 @@ static void load_in_place(size_t cut) {
     zimgasol_load load = {0};
     zimgasol_fault fault;
     uint64_t at = 7;
-    make_in_place(&load);
+    make_in_place(&load, &plain);
     if ((cut > 0 ? feed_in_place(&load, cut) : read_in_place(&load)) == ZIMGASOL_NO_MEMORY) {
         WANT(zimgasol_load_closed_at(&load, &at) == ZIMGASOL_RUNNING && at == 7);
         zimgasol_load_free(&load);
-        make_in_place(&load);
+        make_in_place(&load, &plain);
         WANT((cut > 0 ? feed_in_place(&load, cut) : read_in_place(&load)) == ZIMGASOL_DONE);
     }
     WANT(zimgasol_load_closed_at(&load, &at) == ZIMGASOL_DONE && at == text_len);
@@ -310,7 +483,7 @@ static void cut_in_place(void) {
         {second_block, sizeof second_block}};
     zimgasol_fault fault;
     size_t page_end = 0, taken;
-    make_in_place(&load);
+    make_in_place(&load, &plain);
     while (first_block[2 * PAGE] != 1)
         AGAIN(zimgasol_load_feed(&load, blocks, 2, ZIMGASOL_MAIN, text + page_end++, 1, &taken));
     WANT(is_filled(first_block, 2 * PAGE, 0xEE) &&
@@ -471,33 +644,25 @@ static void load_several(size_t cut) {
 /* Each section of the stream has two page records: with a limit of one, the second one of the first
  * round is at fault. It begins after START, the head of the section, and a record with its own
  * head, an id and a page. */
-static void limit_one_stream(uint64_t waiting) {
-    static const uint64_t second = 71 + 5 + 8 + 2 + PAGE;
+static void limit_one_stream(uint64_t waiting, bool is_whole) {
+    static const uint64_t second = START + SECOND;
     static const char words[] = "64, stream: too many records wait, after 1 rounds, at byte 4182";
-    zimgasol_settings settings = {.waiting = waiting};
-    zimgasol_loader loader = {0};
+    zimgasol_settings settings = {.waiting = waiting, .whole_rounds = is_whole};
     zimgasol_load load = {0};
-    zimgasol_buffer blocks[2] = {{first_block, sizeof first_block},
-        {second_block, sizeof second_block}};
-    zimgasol_block named[2] = {{.id = "a", .pages = 3}, {.id = "pc.ram", .pages = 2}};
-    zimgasol_table table = {0};
     zimgasol_fault fault;
     char told[100], few[10];
-    size_t entry, taken;
+    size_t taken;
     uint64_t at = 7;
-    AGAIN(zimgasol_loader_new_within(&loader, PAGE, 1 << 20, &settings));
-    AGAIN(zimgasol_table_new(&table, PAGE, named, 2, &entry));
-    AGAIN(zimgasol_load_new(&load, &table, (const uint8_t *)"", 0, 0, &settings));
-    zimgasol_table_free(&table);
-    WANT(zimgasol_loader_feed(&loader, text, text_len) == ZIMGASOL_DONE &&
-        zimgasol_load_feed(&load, blocks, 2, ZIMGASOL_MAIN, text, text_len, &taken) ==
-            ZIMGASOL_DONE);
+    make_in_place(&load, &settings);
+    WANT(zimgasol_load_feed(&load, into, 2, ZIMGASOL_MAIN, text, text_len, &taken) ==
+        ZIMGASOL_DONE);
     uint32_t wanted = waiting == 1 ? ZIMGASOL_STREAM_WAITING : ZIMGASOL_DONE;
     uint64_t valid = waiting == 1 ? second : text_len;
-    WANT(zimgasol_loader_verdict(&loader, &fault) == wanted &&
-        zimgasol_loader_valid_up_to(&loader) == valid);
     WANT(zimgasol_load_verdict(&load, &fault) == wanted &&
         zimgasol_load_valid_up_to(&load, ZIMGASOL_MAIN, &at) && at == valid);
+    /* record by record the first record is there */
+    if (is_whole || waiting > 1) WANT(has_sections(waiting == 1 ? 1 : 4));
+    else WANT(first_block[2 * PAGE] == 1 && is_filled(second_block, 2 * PAGE, 0xEE));
     if (waiting == 1) {
         WANT(fault.round == 1 && fault.source == ZIMGASOL_MAIN);
         WANT(zimgasol_fault_text_at(&fault, at, told, sizeof told) == (int)strlen(words) &&
@@ -507,18 +672,14 @@ static void limit_one_stream(uint64_t waiting) {
         WANT(zimgasol_fault_text_at(&fault, at, told, strlen(words)) == (int)strlen(words) &&
             strncmp(told, words, strlen(words) - 1) == 0);
     }
-    zimgasol_loader_free(&loader);
     zimgasol_load_free(&load);
-    settings.frame = (zimgasol_frame)2;
-    WANT(zimgasol_loader_new_within(&loader, PAGE, 1 << 20, &settings) == ZIMGASOL_BAD_FRAME &&
-        loader.full == 0);
     /* of a stream of another table it isn't known how much is valid */
-    make_in_place(&load);
-    text[71 - 13 - 8 - 6]++;
-    WANT(zimgasol_load_feed(&load, blocks, 2, ZIMGASOL_MAIN, text, text_len, &taken) ==
+    make_in_place(&load, &settings);
+    text[START - 13 - 8 - 6]++;
+    WANT(zimgasol_load_feed(&load, into, 2, ZIMGASOL_MAIN, text, text_len, &taken) ==
             ZIMGASOL_DONE &&
         zimgasol_load_verdict(&load, &fault) == ZIMGASOL_OTHER_TABLE);
-    text[71 - 13 - 8 - 6]--;
+    text[START - 13 - 8 - 6]--;
     at = 7;
     WANT(!zimgasol_load_valid_up_to(&load, ZIMGASOL_MAIN, &at) && at == 7);
     zimgasol_load_free(&load);
@@ -579,10 +740,9 @@ static void wrong_packet(void) {
 /* Calls that aren't to be made so. */
 static void misuse(void) {
     static const uint8_t uuid[16] = {0};
-    static const zimgasol_settings whole = {.whole_rounds = 1};
+    zimgasol_settings wrong = whole;
     zimgasol_block blocks[2] = {{.id = "a", .pages = 1}, {.id = "a", .pages = 1}};
     zimgasol_table table = {0};
-    zimgasol_loader loader = {0};
     zimgasol_load load = {0};
     zimgasol_sender sender = {0};
     size_t entry = 9;
@@ -596,15 +756,12 @@ static void misuse(void) {
     memset(blocks[0].id, 'b', 256);
     WANT(zimgasol_table_new(&table, PAGE, blocks, 1, &entry) == ZIMGASOL_ID && entry == 0 &&
         table.at == NULL);
-    WANT(zimgasol_loader_new(&loader, PAGE, (1ull << 40) + 1, ZIMGASOL_FRAME_RAM) ==
-            ZIMGASOL_BAD_LIMIT &&
-        zimgasol_loader_new(&loader, 1, 1, ZIMGASOL_FRAME_RAM) == ZIMGASOL_BAD_PAGE_SIZE &&
-        zimgasol_loader_new(&loader, PAGE, 1, (zimgasol_frame)2) == ZIMGASOL_BAD_FRAME);
     WANT(zimgasol_table_new(&table, PAGE, blocks + 1, 1, &entry) == ZIMGASOL_DONE &&
         zimgasol_sender_new(&sender, &table) == ZIMGASOL_DONE);
-    WANT(zimgasol_load_new(&load, &table, uuid, 16, 0, &whole) == ZIMGASOL_BAD_CHANNELS &&
-        zimgasol_load_new(&load, &table, uuid, 16, 256, &whole) == ZIMGASOL_BAD_CHANNELS);
-    WANT(zimgasol_load_new(&load, &table, uuid, 15, 1, &whole) == ZIMGASOL_BAD_LENGTH &&
+    wrong.frame = (zimgasol_frame)2;
+    WANT(zimgasol_load_new(&load, &table, uuid, 16, 256, &whole) == ZIMGASOL_BAD_CHANNELS &&
+        zimgasol_load_new(&load, &table, uuid, 15, 1, &whole) == ZIMGASOL_BAD_LENGTH);
+    WANT(zimgasol_load_new(&load, &table, uuid, 16, 0, &wrong) == ZIMGASOL_BAD_FRAME &&
         load.at == NULL);
     WANT(zimgasol_sender_put_page(&sender, 0, 0, page, PAGE) == ZIMGASOL_OUT_OF_TURN &&
         zimgasol_sender_end_round(&sender) == ZIMGASOL_OUT_OF_TURN);
@@ -638,15 +795,22 @@ int main(int count, char **words) {
     put_main();
     send();
     cut_in_place();
+    cut_sections();
+    fail_sections();
+    load_other_sections(1);
+    load_other_sections(MOST);
     for (uint64_t waiting = 1; waiting <= 2; waiting++) {
-        limit_one_stream(waiting);
+        limit_one_stream(waiting, false);
+        limit_one_stream(waiting, true);
         limit_channels(waiting);
     }
     wrong_packet();
     for (refused = first; refused <= last; refused++) {
         counted = refusals = 0;
         send();
-        load(1000);
+        load_sections(&whole, 1000);
+        load_sections(&whole_zeros, 5000);
+        load_sections(&whole, MOST);
         load_in_place(0);
         load_in_place(900);
         load_in_place(5000);

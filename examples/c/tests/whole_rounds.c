@@ -1,8 +1,8 @@
-/* A load of whole rounds (`whole_rounds`): after each call the blocks have the rounds counted, and
- * nothing else. The streams are written here, round by round, and so is the memory that they have
- * after each round. They are fed in pieces of many lengths, by turns; with a fault in each round;
- * and with each allocation refused in turn. A load without the setting is fed the same pieces, and
- * reports the same. */
+/* A load of several channels by whole rounds (`whole_rounds`): after each call the blocks have the
+ * rounds counted, and nothing else. The streams are written here, round by round, and so is the
+ * memory that they have after each round. They are fed in pieces of many lengths, by turns; with a
+ * fault in each round; and with each allocation refused in turn. A load without the setting is fed
+ * the same pieces, and reports the same. */
 #include "zimgasol.h"
 #include "refusing.h"
 #include <string.h>
@@ -447,9 +447,6 @@ static void feed_unclaimed(zimgasol_table *table) {
 static void make(zimgasol_table *table) {
     zimgasol_settings settings = {.whole_rounds = UINT64_MAX}, wrong = {.whole_rounds = 1};
     zimgasol_load load = {0};
-    WANT(zimgasol_load_new(&load, table, uuid, sizeof uuid, 0, &settings) ==
-            ZIMGASOL_BAD_CHANNELS &&
-        zimgasol_load_new(&load, table, uuid, 0, 0, &wrong) == ZIMGASOL_BAD_CHANNELS);
     WANT(zimgasol_load_new(&load, table, uuid, sizeof uuid, 256, &settings) ==
             ZIMGASOL_BAD_CHANNELS &&
         zimgasol_load_new(&load, table, uuid, 15, 1, &settings) == ZIMGASOL_BAD_LENGTH);

@@ -1,9 +1,9 @@
 /* Blocks that were zeros when a load began (`zero_blocks`): a page that comes as zeros is neither
  * read nor written, unless something else may be in it. Such pages are protected here, so that a
- * load which touches one ends this program. Two rounds are loaded: of one stream by pieces, and by
- * pages that are read to their places; of a main stream and its channel by pieces, also by whole
- * rounds, and by packets whose pages are read to their places. Each load says how many pages no
- * round had. */
+ * load which touches one ends this program. Two rounds are loaded: of one stream by pieces, also by
+ * whole sections, and by pages that are read to their places; of a main stream and its channel by
+ * pieces, also by whole rounds, and by packets whose pages are read to their places. Each load says
+ * how many pages no round had. */
 #define _DEFAULT_SOURCE
 #include "zimgasol.h"
 #include <stdio.h>
@@ -236,6 +236,7 @@ int main(void) {
     WANT(zimgasol_table_new(&table, PAGE, blocks, 1, &entry) == ZIMGASOL_DONE);
     if (send_single(&table)) return 1;
     if (map_block() || load_pieces(&table, 0, &settings) || is_guest()) return 1;
+    if (map_block() || load_pieces(&table, 0, &whole) || is_guest()) return 1;
     if (map_block() || load_wanted(&table) || is_guest()) return 1;
     if (send_channel(&table)) return 1;
     if (map_block() || load_pieces(&table, 1, &settings) || is_guest()) return 1;

@@ -1,0 +1,2 @@
+-- The load of a single stream by whole sections
+pub mod Sections
