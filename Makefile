@@ -70,6 +70,7 @@ documents: header ## at once | compares header, case lists, contracts, examples 
 	@tools/tool_page.py --check
 	@tools/zimgasol_page.py --check
 	@tools/quotes.py
+	@tools/widths.py
 
 site: ## at once | builds the documents as HTML into out/site, and checks their links
 	@tools/site.py

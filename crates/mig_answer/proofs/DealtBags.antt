@@ -1,6 +1,7 @@
 -- Lists that are made of the same elements in another order, and numbers that each stand in a list
 -- once.
-use Rattle.std.proofs.Common.{ℕ, ◌≡◌, ◌+◌, ◌-◌, ◌<◌, List, [], ◌∷◌, ◌++◌, length, map, get_or, refl, sym, ap, ◌∙◌, inl, inr, arith, zero, suc, Bool, true, false, not, cond, subst, append_assoc}
+use Rattle.std.proofs.Common.{ℕ, ◌≡◌, ◌+◌, ◌-◌, ◌<◌, List, [], ◌∷◌, ◌++◌, length, map, get_or, refl, sym, ap, ◌∙◌, inl, inr, arith, zero, suc, Bool, true}
+use Rattle.std.proofs.Common.{false, not, cond, subst, append_assoc}
 use Rattle.std.specs.Prelude.{◌==◌, Contains, flat_map, sum_by, IsPermutation}
 use Rattle.std.specs.List.{filter, range_with_len}
 use Rattle.std.proofs.lemmas.Bool.{cases_Bool, cases_eq, cases_lt, cond-true, cond-false, eq-eqb, eqb-true, ne_eqb}
@@ -13,7 +14,8 @@ use Rattle.mig_mem.proofs.Members.{map_agree, All-range}
 use Rattle.mig_deal.specs.Deal.{HasEachOnce, times}
 use Rattle.mig_deal.proofs.Counts.{count_by-append, count_by-cons}
 use Rattle.mig_assemble.proofs.Bags.{SameBag}
-use Rattle.mig_assemble.proofs.Elements.{contains_cases, contains_here, contains_later, contains_none, contains_map, map_contains, contains_flat_map, flat_map_contains, contains_filter, filter_contains}
+use Rattle.mig_assemble.proofs.Elements.{contains_cases, contains_here, contains_later, contains_none, contains_map, map_contains, contains_flat_map}
+use Rattle.mig_assemble.proofs.Elements.{flat_map_contains, contains_filter, filter_contains}
 
 -- ---- the same elements
 

@@ -1,5 +1,6 @@
 -- The readings of streams that stay when they continue.
-use Rattle.std.proofs.Common.{ℕ, ◌≡◌, ◌≢◌, ◌+◌, ◌<◌, ◌≤◌, Bool, true, false, ◌&&◌, List, [], ◌∷◌, ◌++◌, length, map, flat_map, get_or, refl, sym, ap, subst, ◌∙◌, inl, inr, Option, Some, None, is_none, option_map, option_and_then, sum_by, arith}
+use Rattle.std.proofs.Common.{ℕ, ◌≡◌, ◌≢◌, ◌+◌, ◌<◌, ◌≤◌, Bool, true, false, ◌&&◌, List, [], ◌∷◌, ◌++◌, length, map, flat_map, get_or, refl, sym, ap, subst}
+use Rattle.std.proofs.Common.{◌∙◌, inl, inr, Option, Some, None, is_none, option_map, option_and_then, sum_by, arith}
 use Rattle.std.specs.Prelude.{◌⊎◌, IsTrue}
 use Rattle.std.specs.Option.{unwrap_or}
 use Rattle.std.specs.List.{All, AllZip, list_all, list_any, enumerate_from, range_with_len}
@@ -35,8 +36,10 @@ use Rattle.mig_answer.specs.declared.status.Status.{Status}
 use Rattle.mig_answer.specs.declared.status.Status.TheVariants.{Whole, Clean, Bad, Pending}
 use Rattle.mig_answer.specs.Status.{status_at, main_status, channel_status, stream_end, channel_end, is_whole, is_pending}
 use Rattle.mig_answer.specs.Texts.{Text, Texts, Readings, AreReadings}
-use Rattle.mig_answer.specs.Rounds.{record_pages_at, channel_packets_at, packets_at, packet_count_at, base_at, refusal_of, refusal_at, pages_at, memory_at, named_at}
-use Rattle.mig_answer.specs.MultiLoad.{Standing, main_standing, main_at, channels_at, sources_at, hello_ids, repeated_hello, passes, failed, sources_verdicts, verdict_at}
+use Rattle.mig_answer.specs.Rounds.{record_pages_at, channel_packets_at, packets_at, packet_count_at, base_at, refusal_of, refusal_at, pages_at, memory_at}
+use Rattle.mig_answer.specs.Rounds.{named_at}
+use Rattle.mig_answer.specs.MultiLoad.{Standing, main_standing, main_at, channels_at, sources_at, hello_ids, repeated_hello, passes, failed, sources_verdicts}
+use Rattle.mig_answer.specs.MultiLoad.{verdict_at}
 use Rattle.mig_answer.specs.Growing.{GoesOn, GoOn, AnswersStay, WithoutMemoryStays, RoundsStay}
 use Rattle.mig_answer.proofs.Statuses.{status_whole, status_end, stream_ends, status_behind}
 use Rattle.mig_answer.proofs.Judged.{IsWhole, IsFinal, has_round, whole_at}

@@ -1,5 +1,6 @@
 -- Streams that have ended are done or have a fault.
-use Rattle.std.proofs.Common.{ℕ, ◌≡◌, ◌≢◌, ◌+◌, ◌<◌, ◌≤◌, Bool, true, false, cond, ◌&&◌, List, [], ◌∷◌, length, map, refl, sym, ap, ◌∙◌, inl, inr, Option, Some, None, is_none, arith, find}
+use Rattle.std.proofs.Common.{ℕ, ◌≡◌, ◌≢◌, ◌+◌, ◌<◌, ◌≤◌, Bool, true, false, cond, ◌&&◌, List, [], ◌∷◌, length, map, refl, sym, ap, ◌∙◌, inl, inr, Option, Some}
+use Rattle.std.proofs.Common.{None, is_none, arith, find}
 use Rattle.std.specs.Bool.{then_some}
 use Rattle.std.specs.Option.{option_map, unwrap_or}
 use Rattle.std.specs.List.{All, AllZip, list_all, list_any, enumerate_from}
@@ -28,7 +29,8 @@ use Rattle.mig_answer.specs.declared.status.Status.{Status}
 use Rattle.mig_answer.specs.Status.{status_at, main_status, channel_status, stream_end, channel_end, is_whole, is_clean, is_pending, fault_of}
 use Rattle.mig_answer.specs.Texts.{Text, Texts, Readings, AreReadings}
 use Rattle.mig_answer.specs.Rounds.{refusal_at}
-use Rattle.mig_answer.specs.MultiLoad.{Standing, main_at, channels_at, sources_at, hello_ids, repeated_hello, passes, IsFirstStop, failed, failed_at_first, failed_with_own, verdicts_at, verdict_at}
+use Rattle.mig_answer.specs.MultiLoad.{Standing, main_at, channels_at, sources_at, hello_ids, repeated_hello, passes, IsFirstStop, failed, failed_at_first}
+use Rattle.mig_answer.specs.MultiLoad.{failed_with_own, verdicts_at, verdict_at}
 use Rattle.mig_answer.specs.Law.{EndedTextsAreJudged}
 use Rattle.mig_answer.proofs.Statuses.{status_whole, status_end, stream_ends, channel_ends, sound, passes_all, find_none, first_none, first_is}
 

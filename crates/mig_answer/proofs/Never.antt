@@ -20,7 +20,8 @@ use Rattle.mig_answer.specs.declared.status.Status.{Status}
 use Rattle.mig_answer.specs.Status.{channel_status, is_whole, is_clean, is_pending, fault_of}
 use Rattle.mig_answer.specs.Texts.{Readings}
 use Rattle.mig_answer.specs.Rounds.{refusal_at}
-use Rattle.mig_answer.specs.MultiLoad.{Standing, main_at, channels_at, sources_at, hello_ids, repeated_hello, sources_verdicts, verdicts_at, verdict_at, failed, failed_at_first, failed_with_own}
+use Rattle.mig_answer.specs.MultiLoad.{Standing, main_at, channels_at, sources_at, hello_ids, repeated_hello, sources_verdicts, verdicts_at, verdict_at, failed}
+use Rattle.mig_answer.specs.MultiLoad.{failed_at_first, failed_with_own}
 use Rattle.mig_answer.proofs.Statuses.{first_is}
 
 -- equal failed verdicts have equal faults

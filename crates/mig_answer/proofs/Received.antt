@@ -1,5 +1,6 @@
 -- What was received of a channel's items says what its bytes say.
-use Rattle.std.proofs.Common.{ℕ, suc, ◌≡◌, ◌≢◌, ◌+◌, ◌<◌, Bool, true, false, cond, List, [], ◌∷◌, ◌++◌, length, map, get_or, refl, sym, ap, ◌∙◌, inl, inr, Option, Some, None, append_assoc, arith, subst}
+use Rattle.std.proofs.Common.{ℕ, suc, ◌≡◌, ◌≢◌, ◌+◌, ◌<◌, Bool, true, false, cond, List, [], ◌∷◌, ◌++◌, length, map, get_or, refl, sym, ap, ◌∙◌, inl, inr}
+use Rattle.std.proofs.Common.{Option, Some, None, append_assoc, arith, subst}
 use Rattle.std.specs.Prelude.{flat_map, IsFalse, IsTrue}
 use Rattle.std.specs.List.{All}
 use Rattle.std.proofs.Math.ListN.{get_or-map}
@@ -20,7 +21,8 @@ use Rattle.mig_packet.proofs.Limits.{limits_law}
 use Rattle.mig_packet.proofs.Unique.{one_reading}
 use Rattle.mig_answer.specs.declared.status.Status.TheVariants.{Pending}
 use Rattle.mig_answer.specs.Status.{status_at, channel_end}
-use Rattle.mig_answer.specs.Received.{ends_round, round_count, before_rounds, rounds_in, hello_in, end_in, TellsChannel, FrontTellsChannel, StopIsLast, RoundsAreCounted}
+use Rattle.mig_answer.specs.Received.{ends_round, round_count, before_rounds, rounds_in, hello_in, end_in, TellsChannel, FrontTellsChannel, StopIsLast}
+use Rattle.mig_answer.specs.Received.{RoundsAreCounted}
 use Rattle.mig_answer.proofs.Statuses.{status_whole}
 
 -- ---- as many rounds as SYNC packets

@@ -1,5 +1,6 @@
 -- What the streams of a sending say to a load.
-use Rattle.std.proofs.Common.{ℕ, zero, suc, ◌≡◌, ◌+◌, ◌<◌, ◌≤◌, ◌==◌, true, false, List, [], ◌∷◌, length, map, get_or, replicate, refl, sym, ap, ◌∙◌, inl, inr, Option, Some, None, subst, arith, IsPermutation}
+use Rattle.std.proofs.Common.{ℕ, zero, suc, ◌≡◌, ◌+◌, ◌<◌, ◌≤◌, ◌==◌, true, false, List, [], ◌∷◌, length, map, get_or, replicate, refl, sym, ap, ◌∙◌, inl, inr}
+use Rattle.std.proofs.Common.{Option, Some, None, subst, arith, IsPermutation}
 use Rattle.std.specs.List.{All, AllZip, range_with_len, enumerate_from, IsDistinct, AllByRecursion}
 use Rattle.std.proofs.lemmas.Bool.{eqb-true, eqb-false, eq-eqb, ne_eqb, cases_Bool}
 use Rattle.std.proofs.lemmas.List.{length-map, length-replicate}

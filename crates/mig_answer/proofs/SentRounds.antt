@@ -1,5 +1,6 @@
 -- The rounds of a sending, as a load finds them: each is lawful, and brings what was sent of it.
-use Rattle.std.proofs.Common.{ℕ, zero, suc, ◌≡◌, ◌+◌, ◌<◌, ◌≤◌, ◌^◌, List, [], ◌∷◌, ◌++◌, length, map, take, get_or, refl, sym, ap, ◌∙◌, None, subst, arith, flat_map, sum_by}
+use Rattle.std.proofs.Common.{ℕ, zero, suc, ◌≡◌, ◌+◌, ◌<◌, ◌≤◌, ◌^◌, List, [], ◌∷◌, ◌++◌, length, map, take, get_or, refl, sym, ap, ◌∙◌, None, subst, arith}
+use Rattle.std.proofs.Common.{flat_map, sum_by}
 use Rattle.std.specs.List.{All, range_with_len}
 use Rattle.std.proofs.lemmas.List.{length-map, length-append, get_or-map, get_or-replicate, map-id, take_more, take_all}
 use Rattle.std.proofs.lemmas.List.Concat.{flat_map-cons}

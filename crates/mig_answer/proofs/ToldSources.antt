@@ -1,5 +1,6 @@
 -- What the sources' verdict at a round says of the answer on streams that have ended.
-use Rattle.std.proofs.Common.{ℕ, ◌≡◌, ◌≢◌, ◌+◌, ◌<◌, ◌≤◌, Bool, true, false, cond, ◌&&◌, List, [], ◌∷◌, ◌++◌, length, map, refl, sym, ap, subst, ◌∙◌, inl, inr, Option, Some, None, is_none, is_some, find}
+use Rattle.std.proofs.Common.{ℕ, ◌≡◌, ◌≢◌, ◌+◌, ◌<◌, ◌≤◌, Bool, true, false, cond, ◌&&◌, List, [], ◌∷◌, ◌++◌, length, map, refl, sym, ap, subst, ◌∙◌, inl, inr}
+use Rattle.std.proofs.Common.{Option, Some, None, is_none, is_some, find}
 use Rattle.std.specs.Prelude.{IsTrue, slice_get, get_or, nat_lt}
 use Rattle.std.specs.Bool.{then_some}
 use Rattle.std.specs.Option.{option_map, unwrap_or}
@@ -26,10 +27,12 @@ use Rattle.mig_answer.specs.declared.status.Status.TheVariants.{Whole, Clean, Ba
 use Rattle.mig_answer.specs.Status.{main_status, stream_end, is_whole, is_clean, is_pending, fault_of}
 use Rattle.mig_answer.specs.Texts.{Text, Readings, AreReadings, ended_text, ended_texts}
 use Rattle.mig_answer.specs.Rounds.{refusal_at}
-use Rattle.mig_answer.specs.MultiLoad.{Standing, main_standing, main_at, channels_at, sources_at, hello_ids, repeated_hello, passes, IsFirstStop, failed, failed_at_first, failed_with_own, sources_verdicts, verdicts_at, verdict_at}
+use Rattle.mig_answer.specs.MultiLoad.{Standing, main_standing, main_at, channels_at, sources_at, hello_ids, repeated_hello, passes, IsFirstStop, failed}
+use Rattle.mig_answer.specs.MultiLoad.{failed_at_first, failed_with_own, sources_verdicts, verdicts_at, verdict_at}
 use Rattle.mig_answer.specs.Told.{standings}
 use Rattle.mig_answer.proofs.Statuses.{stream_ends, sound, passes_all, finds_none, first_none, first_is}
-use Rattle.mig_answer.proofs.Judged.{IsWhole, IsFinal, reached, has_round, over_settles, whole_at, channels_settled, no_fault, all_clean, all_whole, none_found, all_told}
+use Rattle.mig_answer.proofs.Judged.{IsWhole, IsFinal, reached, has_round, over_settles, whole_at, channels_settled, no_fault, all_clean, all_whole, none_found}
+use Rattle.mig_answer.proofs.Judged.{all_told}
 
 -- These say how the sources stand at round k, and which hello comes again.
 pub record TellsSources (k : ℕ) (readings : Readings) (main : Status) (channels : List Status) (repeated : Option ℕ) : Type 0 where

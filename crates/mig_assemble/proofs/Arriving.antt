@@ -1,5 +1,6 @@
 -- A round that is judged as it comes.
-use Rattle.std.proofs.Common.{ℕ, ◌≡◌, List, [], ◌∷◌, ◌++◌, map, refl, sym, ap, subst, ◌∙◌, append_assoc, Option, Some, None, true, false, cond, suc, arith, inl, inr}
+use Rattle.std.proofs.Common.{ℕ, ◌≡◌, List, [], ◌∷◌, ◌++◌, map, refl, sym, ap, subst, ◌∙◌, append_assoc, Option, Some, None, true, false, cond, suc, arith, inl}
+use Rattle.std.proofs.Common.{inr}
 use Rattle.std.specs.Prelude.{flat_map, nat_lt, IsPermutation}
 use Rattle.std.specs.List.{All}
 use Rattle.std.specs.Option.{option_map, option_map_or, option_or, option_and_then, is_some}
@@ -7,7 +8,8 @@ use Rattle.std.proofs.lemmas.Bool.{cases_Bool, cond-false, or_parts, ltb-true, l
 use Rattle.std.proofs.lemmas.Option.{same_Some}
 use Rattle.std.proofs.lemmas.List.{map-append, append-nil}
 use Rattle.std.proofs.lemmas.List.Concat.{flat_map-append}
-use Rattle.std.proofs.lemmas.List.Sorted.{IsPermutation-refl, IsPermutation-append_right, IsPermutation-append_left, IsPermutation-append_comm, IsPermutation-trans}
+use Rattle.std.proofs.lemmas.List.Sorted.{IsPermutation-refl, IsPermutation-append_right, IsPermutation-append_left, IsPermutation-append_comm}
+use Rattle.std.proofs.lemmas.List.Sorted.{IsPermutation-trans}
 use Rattle.mig_mem.specs.First.{first_some}
 use Rattle.mig_mem.specs.RamTable.{RamTable}
 use Rattle.mig_mem.specs.declared.place.Place.{Place}
@@ -25,7 +27,8 @@ use Rattle.mig_assemble.specs.declared.fault.RoundFault.TheVariants.{DoublePage}
 use Rattle.mig_assemble.specs.Judging.{numbers, place_fault, least_misplaced, least_place_fault, packet_pages, all_round_pages, places_of}
 use Rattle.mig_assemble.specs.Sorted.{number_refusal}
 use Rattle.mig_assemble.specs.Seen.{HasSeen, SeesMore}
-use Rattle.mig_assemble.specs.Arrivals.{Arrival, Records, OnePacket, records_in, packets_in, refusal_of, arrival_pages, pages_that_came, RoundSoFar, KnowsMisplaced, lesser_misplaced, HasCome, HasSame, ArrivalsMakeTheRound, OtherPlacesStay}
+use Rattle.mig_assemble.specs.Arrivals.{Arrival, Records, OnePacket, records_in, packets_in, refusal_of, arrival_pages, pages_that_came, RoundSoFar}
+use Rattle.mig_assemble.specs.Arrivals.{KnowsMisplaced, lesser_misplaced, HasCome, HasSame, ArrivalsMakeTheRound, OtherPlacesStay}
 use Rattle.mig_assemble.proofs.Bags.{bag_permutation}
 use Rattle.mig_assemble.proofs.Marked.{seen_nothing}
 use Rattle.mig_assemble.proofs.Misplaced.{kept, first_bad, lesser_bad, kept_bad, all_lawful}

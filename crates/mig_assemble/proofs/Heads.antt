@@ -12,7 +12,8 @@ use Rattle.mig_mem.specs.Image.{Page}
 use Rattle.mig_packet.specs.Packet.{Fields}
 use Rattle.mig_assemble.specs.declared.fault.RoundFault.{RoundFault}
 use Rattle.mig_assemble.specs.declared.fault.RoundFault.TheVariants.{UnknownBlock, Offset}
-use Rattle.mig_assemble.specs.Judging.{offsets, is_outside, offset_fault, place_fault, numbers, least, lesser, twice, least_misplaced, least_place_fault, packet_pages, places_of}
+use Rattle.mig_assemble.specs.Judging.{offsets, is_outside, offset_fault, place_fault, numbers, least, lesser, twice, least_misplaced, least_place_fault}
+use Rattle.mig_assemble.specs.Judging.{packet_pages, places_of}
 use Rattle.mig_assemble.specs.Sorted.{number_refusal}
 use Rattle.mig_assemble.specs.Arrivals.{SameHead, HeadsAreJudged}
 use Rattle.mig_assemble.proofs.PacketPlaces.{place_of, places-in}

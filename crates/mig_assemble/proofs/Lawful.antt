@@ -81,7 +81,8 @@ lawful_lies_right table base records packets e =
     let after_missing = or_none missing (first_some (least_place_fault table packets ∷ (last ∷ []))) after_doubled.1 in
     none_wrong table packets (or_none (least_place_fault table packets) (first_some (last ∷ [])) after_missing.1).0
 
-all_of_map : {X Y : Type 0} (P : Y → Type 0) (f : X → Y) (xs : List X) → All P (map f xs) → All (λ x. P (f x)) xs
+-- what is true of each element's value is true of each value in the list of them
+pub all_of_map : {X Y : Type 0} (P : Y → Type 0) (f : X → Y) (xs : List X) → All P (map f xs) → All (λ x. P (f x)) xs
 all_of_map P f xs all k d lt = subst P (get_or-map f xs k d (f d) lt) (all k (f d) (rw (length-map xs f) lt))
 
 -- the same of packets that lend their bytes

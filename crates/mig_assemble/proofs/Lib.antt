@@ -19,4 +19,5 @@ pub mod Arriving
 pub mod AddingPlaces
 pub mod Naming
 pub mod Heads
+pub mod AtOnce
 pub mod HeadPlaces

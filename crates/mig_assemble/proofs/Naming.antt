@@ -12,8 +12,6 @@ use Rattle.mig_mem.proofs.Sets.{where_agree, where_none, has_place-where}
 use Rattle.mig_stream.specs.PageRecord.{PageRecord, page_of}
 use Rattle.mig_stream.specs.Round.{record_at}
 use Rattle.mig_packet.specs.Packet.{Fields}
-use Rattle.mig_packet.specs.declared.packet.Packet.{Packet}
-use Rattle.mig_packet.specs.Lent.{fields}
 use Rattle.mig_assemble.specs.Judging.{packet_pages, all_round_pages, places_of}
 use Rattle.mig_assemble.specs.NamedPlaces.{HasPlaces, places_in, named_by, left_out, with_places}
 use Rattle.mig_assemble.specs.Target.{none_named}
@@ -67,19 +65,20 @@ offset_named old now new f offsets i place so_far lt there put =
     ∙ sym (with_places-append old before (f last ∷ []))
     ∙ ap (λ (l : List Place). with_places old l) (sym (ap (λ (l : List ℕ). map f l) (take_more offsets i 0 lt) ∙ map-append f (take i offsets) (last ∷ [])))
 
--- the places of one packet more
-pub packet_named : (old now new : PlaceSet) (packets : List Packet) (i : ℕ) (q : Packet) → i < length packets → q ≡ get_or packets i q → now.table ≡ old.table
-    → new ≡ with_places now (places_of (packet_pages now.table (fields q)))
-    → now ≡ with_places old (places_of (all_round_pages old.table [] (map fields (take i packets))))
-    → new ≡ with_places old (places_of (all_round_pages old.table [] (map fields (take (i + 1) packets))))
-packet_named old now new packets i q lt is same step so_far =
-    let before : List Place = places_of (all_round_pages old.table [] (map fields (take i packets))) in
-    let more : List Place = places_of (packet_pages old.table (fields q)) in
+-- the places of one packet more, of a list of values that each have one
+pub packet_named : {X : Type 0} (packet : X → Fields) (old now new : PlaceSet) (xs : List X) (i : ℕ) (x : X)
+    → i < length xs → x ≡ get_or xs i x → now.table ≡ old.table
+    → new ≡ with_places now (places_of (packet_pages now.table (packet x)))
+    → now ≡ with_places old (places_of (all_round_pages old.table [] (map packet (take i xs))))
+    → new ≡ with_places old (places_of (all_round_pages old.table [] (map packet (take (i + 1) xs))))
+packet_named packet old now new xs i x lt is same step so_far =
+    let before : List Place = places_of (all_round_pages old.table [] (map packet (take i xs))) in
+    let more : List Place = places_of (packet_pages old.table (packet x)) in
     step
-    ∙ ap (λ (t : RamTable). with_places now (places_of (packet_pages t (fields q)))) same
+    ∙ ap (λ (t : RamTable). with_places now (places_of (packet_pages t (packet x)))) same
     ∙ ap (λ (s : PlaceSet). with_places s more) so_far
     ∙ sym (with_places-append old before more)
-    ∙ ap (λ (l : List Place). with_places old l) (places_step old.table [] packets i q lt is)
+    ∙ ap (λ (l : List Place). with_places old l) (places_step packet old.table [] xs i x lt is)
 
 -- ---- a round
 

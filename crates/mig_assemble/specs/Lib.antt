@@ -13,3 +13,4 @@ pub mod Seen
 pub mod PacketPages
 pub mod RoundList
 pub mod Arrivals
+pub mod AtOnce

@@ -10,6 +10,7 @@ use Rattle.mig_stream.specs.Round.{RoundOfRecords}
 use Rattle.mig_packet.specs.Packet.{Fields}
 use Rattle.mig_assemble.specs.Judging.{all_round_pages, places_of}
 use Rattle.mig_assemble.specs.NamedPlaces.{with_places}
+use Rattle.mig_assemble.specs.Arrivals.{RoundSoFar, HasCome}
 
 -- the memory so far, the places that its rounds named, how many rounds it has, and the number that
 -- the next round's first packet has
@@ -49,11 +50,8 @@ after_round target round packets = record {
   base = target.base + length packets;
 }
 
--- the set in which a target marks the places of a round: it has no place of its table
-abbrev pub IsUnmarked : Image → PlaceSet → Type 0
-IsUnmarked memory seen = seen ≡ none_named memory.table
-
--- Both sets of a target are of the memory's table, and the one by which it judges has no place.
-pub record HasSets (memory : Image) (named seen : PlaceSet) : Type 0 where
-  pub is_unmarked : IsUnmarked memory seen
+-- Both sets of a target are of the memory's table, and nothing has come of the next round.
+pub record HasSets (memory : Image) (named : PlaceSet) (came : RoundSoFar) : Type 0 where
+  pub none_came : HasCome came.seen.table [] came
+  pub judges_table : came.seen.table ≡ memory.table
   pub same_table : named.table ≡ memory.table

@@ -171,14 +171,15 @@ impl<A: Allocator> Arrivals<A> {
         }
     }
 
-    /// Clears all that arrived, for the next round. It walks the marks of the complete table.
+    /// Clears all that arrived, for the next round. If a page arrived it walks the marks of the
+    /// complete table.
     pub fn clear(&mut self)
         ensures { HasCome self.old.seen.table [] self.new }
     {
         self.numbers.clear();
         self.misplaced = None;
         self.double = None;
-        self.seen.clear();
+        clear_places(&mut self.seen);
     }
 
     /// Adds the places of all that arrived to `named`, a set of the same table, and clears all that
@@ -195,6 +196,15 @@ impl<A: Allocator> Arrivals<A> {
             add_places(named, &self.seen);
         }
         self.clear();
+    }
+}
+
+// Removes all places of a set. It takes no step if there are none.
+fn clear_places<A: Allocator>(set: &mut Dirty<A>)
+    ensures { set.new ≡ record set.old { marked = [] } }
+{
+    if set.count() > 0 {
+        set.clear();
     }
 }
 

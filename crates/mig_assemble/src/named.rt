@@ -8,10 +8,13 @@ ghost use Rattle.mig_packet.specs.PacketHead.{offsets_in, as_zeros};
 ghost use Rattle.mig_assemble.specs.Judging.{is_outside, place_fault, pages_in, packet_pages, all_round_pages, places_of};
 ghost use Rattle.mig_assemble.specs.NamedPlaces.{AddsPlaces, with_places};
 ghost use Rattle.mig_assemble.specs.Target.{FitsTable, pages_of_round};
+ghost use Rattle.mig_assemble.specs.HeadPlaces.{Lie};
+ghost use Rattle.mig_assemble.specs.AtOnce.{head_of, packets_of, LieEach};
 
-use crate::places::{offset, page_count};
+use crate::judge::Placed;
+use crate::places::{Pages, offset, page_count};
 use mig_mem::{Dirty, Place};
-use mig_packet::{Packet, PacketHead};
+use mig_packet::PacketHead;
 use mig_stream::StreamRound;
 use std::alloc::Allocator;
 
@@ -51,27 +54,29 @@ pub fn name_records<A: Allocator, B: Allocator>(named: &mut Dirty<A>, round: &St
 }
 
 /// Adds the places of packets' pages to `named`.
-pub(crate) fn name_packets<A: Allocator>(named: &mut Dirty<A>, packets: &[Packet<'_>])
-    requires page_sizes { All (λ p. p.page_size ≡ named.old.table.page_size) packets.now }
-    requires lawful { All (λ p. place_fault named.old.table p ≡ None) (map fields packets.now) }
+pub(crate) fn name_packets<A: Allocator>(named: &mut Dirty<A>, placed: &[Placed<'_>])
+    requires page_sizes { All (λ x. x.packet.page_size ≡ named.old.table.page_size) placed.now }
+    requires lie { LieEach named.old.table placed.now }
+    requires lawful { All (λ x. place_fault named.old.table (fields x.packet) ≡ None) placed.now }
     ensures table { named.new.table ≡ named.old.table }
-    ensures named { named.new ≡ with_places named.old (places_of (all_round_pages named.old.table [] (map fields packets.now))) }
+    ensures named { named.new ≡ with_places named.old (places_of (all_round_pages named.old.table [] (map fields (packets_of placed.now)))) }
 {
-    for packet in packets {
-        name_packet(named, packet);
+    for one in placed {
+        name_packet(named, one);
     }
 }
 
-// Adds the places of a packet's pages.
-fn name_packet<A: Allocator>(named: &mut Dirty<A>, packet: &Packet<'_>)
-    requires page_size { packet.now.page_size ≡ named.old.table.page_size }
-    requires lawful { place_fault named.old.table (fields packet.now) ≡ None }
+// Adds the places of a packet's pages, in the block where they are.
+fn name_packet<A: Allocator>(named: &mut Dirty<A>, placed: &Placed<'_>)
+    requires page_size { placed.now.packet.page_size ≡ named.old.table.page_size }
+    requires lie { Lie named.old.table (head_of placed.now.packet) placed.now.pages }
+    requires lawful { place_fault named.old.table (fields placed.now.packet) ≡ None }
     ensures table { named.new.table ≡ named.old.table }
-    ensures named { named.new ≡ with_places named.old (places_of (packet_pages named.old.table (fields packet.now))) }
+    ensures named { named.new ≡ with_places named.old (places_of (packet_pages named.old.table (fields placed.now.packet))) }
 {
-    // a lawful packet names a block, or has no pages
-    if let Some(block) = named.table().find(packet.id()) {
-        name_pages(named, &packet.head(), block);
+    // a packet of a lawful round is in a block, or has no pages
+    if let Pages::In(block) = placed.pages {
+        name_pages(named, &placed.packet.head(), block);
     }
 }
 

@@ -1,40 +1,12 @@
-//! Judging the numbers of a round's packets, for `judge`.
+//! Judging the numbers of a round's packets, for `Arrivals`.
 
-ghost use Rattle.std.specs.Prelude.{◌≡◌, ◌+◌, ◌≤◌, ◌^◌, map, length, IfOk, IsPermutation};
-ghost use Rattle.mig_packet.specs.Lent.{fields};
+ghost use Rattle.std.specs.Prelude.{◌≡◌, ◌+◌, ◌≤◌, ◌^◌, length, IsPermutation};
 ghost use Rattle.mig_assemble.specs.Judging.{numbers};
 ghost use Rattle.mig_assemble.specs.Sorted.{first_pair, first_gap, number_refusal, sorted_refusal};
 
 use crate::RoundFault;
-use mig_mem::NoMemory;
-use mig_packet::Packet;
-use std::alloc::Allocator;
 
-/// Returns why the numbers of packets, in any order, aren't consecutive from `base` on.
-pub(crate) fn number_fault<A: Allocator>(
-    alloc: A,
-    base: u64,
-    packets: &[Packet<'_>],
-) -> Result<Option<RoundFault>, NoMemory>
-    requires { base + length packets.now ≤ 2 ^ 63 }
-    ensures { IfOk result (λ fault. fault ≡ number_refusal base (numbers (map fields packets.now))) }
-{
-    let mut numbers = numbers_of(alloc, packets)?;
-    Ok(unsorted_fault(&mut numbers, base))
-}
-
-// Returns the numbers of packets, in their order.
-fn numbers_of<A: Allocator>(alloc: A, packets: &[Packet<'_>]) -> Result<Vec<u64, A>, NoMemory>
-    ensures { IfOk result (λ v. v.items ≡ numbers (map fields packets.now)) }
-{
-    let mut numbers = Vec::with_capacity(alloc, packets.len())?;
-    for packet in packets {
-        numbers.push(packet.number())?;
-    }
-    Ok(numbers)
-}
-
-// Returns why numbers in any order aren't consecutive from `base` on. It sorts them.
+/// Returns why numbers in any order aren't consecutive from `base` on. It sorts them.
 #[tactic(auto, using(crate::proofs::Rising::judged_sorted))]
 pub(crate) fn unsorted_fault(numbers: &mut [u64], base: u64) -> Option<RoundFault>
     requires { base + length numbers.old ≤ 2 ^ 63 }

@@ -1,70 +1,15 @@
-//! Tests the places of the pages of a round's packets, by their heads, for `judge` and `Arrivals`.
-//! `doubles` takes a page's place from it.
+//! Tests the places of the pages of a round's packets, by their heads, for `Arrivals`. `doubles`
+//! takes a page's place from it.
 
-ghost use Rattle.std.specs.Prelude.{◌≡◌, ◌<◌, ◌++◌, ◌∷◌, [], List, map, length, slice_index, position, All, IfSome};
-ghost use Rattle.std.specs.Option.{option_map};
-ghost use Rattle.mig_packet.specs.Packet.{Fields};
-ghost use Rattle.mig_packet.specs.Lent.{fields};
+ghost use Rattle.std.specs.Prelude.{◌≡◌, ◌<◌, length, slice_index, position};
 ghost use Rattle.mig_packet.specs.PacketHead.{offsets_in};
-ghost use Rattle.mig_assemble.specs.Judging.{is_outside, place_fault, least_misplaced, least_place_fault};
+ghost use Rattle.mig_assemble.specs.Judging.{is_outside};
 ghost use Rattle.mig_assemble.specs.HeadPlaces.{Lie};
 
 use crate::RoundFault;
 use mig_mem::Table;
-use mig_packet::{Packet, PacketHead};
+use mig_packet::PacketHead;
 use std::alloc::Allocator;
-
-/// Returns the fault of the packet of least number with a misplaced page.
-pub(crate) fn least_place_fault<A: Allocator>(
-    table: &Table<A>,
-    packets: &[Packet<'_>],
-) -> Option<RoundFault>
-    requires { All (λ p. p.page_size ≡ table.now.page_size) packets.now }
-    ensures { result ≡ least_place_fault table.now (map fields packets.now) }
-{
-    let mut found = None;
-    for packet in packets {
-        found = lesser_misplaced(table, found, *packet);
-    }
-    place_fault(table, &found?)
-}
-
-// Returns the packet of least number with a misplaced page: the one that was found so far, or this
-// one.
-fn lesser_misplaced<'a, A: Allocator>(
-    table: &Table<A>,
-    found: Option<Packet<'a>>,
-    packet: Packet<'a>,
-) -> Option<Packet<'a>>
-    requires { packet.page_size ≡ table.now.page_size }
-    ensures found { (packets : List Fields) → option_map fields found.entry ≡ least_misplaced table.now packets
-        → option_map fields result ≡ least_misplaced table.now (packets ++ fields packet.entry ∷ []) }
-    ensures page_size { IfSome found.entry (λ p. p.page_size ≡ table.now.page_size) → IfSome result (λ p. p.page_size ≡ table.now.page_size) }
-{
-    if place_fault(table, &packet).is_none() {
-        return found;
-    }
-    let Some(other) = found else {
-        return Some(packet);
-    };
-    if packet.number() < other.number() {
-        Some(packet)
-    } else {
-        Some(other)
-    }
-}
-
-// Returns the fault of the places of a packet's pages. The id of a packet without pages isn't
-// tested.
-fn place_fault<A: Allocator>(table: &Table<A>, packet: &Packet<'_>) -> Option<RoundFault>
-    requires { packet.now.page_size ≡ table.now.page_size }
-    ensures { result ≡ place_fault table.now (fields packet.now) }
-{
-    match pages_of(table, &packet.head()) {
-        Pages::Misplaced(fault) => Some(fault),
-        Pages::Nowhere | Pages::In(_) => None,
-    }
-}
 
 /// Where the pages of a packet are, by its head.
 #[derive(Clone, Copy)]

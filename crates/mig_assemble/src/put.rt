@@ -11,7 +11,11 @@ ghost use Rattle.mig_packet.specs.Lent.{fields};
 ghost use Rattle.mig_assemble.specs.Judging.{place_fault, packet_pages};
 ghost use Rattle.mig_assemble.specs.Target.{pages_of_round, FitsTable};
 ghost use Rattle.mig_assemble.specs.PacketPages.{normal_pages, zero_pages, LiesIn};
+ghost use Rattle.mig_assemble.specs.HeadPlaces.{Lie};
+ghost use Rattle.mig_assemble.specs.AtOnce.{head_of, packets_of, LieEach};
 
+use crate::judge::Placed;
+use crate::places::Pages;
 use mig_mem::{GuestTarget, Place};
 use mig_packet::Packet;
 use mig_stream::StreamRound;
@@ -48,30 +52,34 @@ fn put_record<M: GuestTarget>(memory: &mut M, place: Place, content: Option<&[u8
 }
 
 /// Writes the pages of packets, packet after packet.
-pub(crate) fn put_packets<M: GuestTarget>(memory: &mut M, packets: &[Packet<'_>])
-    requires page_sizes { All (λ p. p.page_size ≡ (M.image memory.old).table.page_size) packets.now }
-    requires lawful { All (λ p. place_fault (M.image memory.old).table (fields p) ≡ None) packets.now }
-    ensures { M.image memory.new ≡ with_round (M.image memory.old) (flat_map (packet_pages (M.image memory.old).table) (map fields packets.now)) }
+pub(crate) fn put_packets<M: GuestTarget>(memory: &mut M, placed: &[Placed<'_>])
+    requires page_sizes { All (λ x. x.packet.page_size ≡ (M.image memory.old).table.page_size) placed.now }
+    requires lie { LieEach (M.image memory.old).table placed.now }
+    requires lawful { All (λ x. place_fault (M.image memory.old).table (fields x.packet) ≡ None) placed.now }
+    ensures { M.image memory.new ≡ with_round (M.image memory.old) (flat_map (packet_pages (M.image memory.old).table) (map fields (packets_of placed.now))) }
 {
     // shows that each content of the memory has the page size (`IsImage`)
     let _table = memory.table();
-    for packet in packets {
-        put_packet(memory, packet);
+    for one in placed {
+        put_packet(memory, one);
     }
 }
 
-// Writes the pages of a packet into the block that it names. A packet that names no block has no
-// pages.
-fn put_packet<M: GuestTarget>(memory: &mut M, packet: &Packet<'_>)
-    requires page_size { packet.now.page_size ≡ (M.image memory.old).table.page_size }
-    requires lawful { place_fault (M.image memory.old).table (fields packet.now) ≡ None }
-    ensures { M.image memory.new ≡ with_round (M.image memory.old) (packet_pages (M.image memory.old).table (fields packet.now)) }
+// Writes the pages of a packet into the block where they are.
+fn put_packet<M: GuestTarget>(memory: &mut M, placed: &Placed<'_>)
+    requires page_size { placed.now.packet.page_size ≡ (M.image memory.old).table.page_size }
+    requires lie { Lie (M.image memory.old).table (head_of placed.now.packet) placed.now.pages }
+    requires lawful { place_fault (M.image memory.old).table (fields placed.now.packet) ≡ None }
+    ensures { M.image memory.new ≡ with_round (M.image memory.old) (packet_pages (M.image memory.old).table (fields placed.now.packet)) }
 {
-    let Some(block) = memory.table().find(packet.id()) else {
+    // a packet of a lawful round is in a block, or has no pages
+    let Pages::In(block) = placed.pages else {
+        // shows that each content of the memory has the page size (`IsImage`)
+        let _table = memory.table();
         return;
     };
-    put_normal(memory, block, packet);
-    put_zeros(memory, block, packet);
+    put_normal(memory, block, &placed.packet);
+    put_zeros(memory, block, &placed.packet);
 }
 
 // Writes the normal pages of a packet.

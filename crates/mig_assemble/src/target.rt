@@ -13,7 +13,7 @@ use crate::judge::judge;
 use crate::named::{name_packets, name_records};
 use crate::put::{put_packets, put_records};
 use crate::round_list::{page_total, round_list};
-use crate::{Gathered, RoundFault};
+use crate::{Arrivals, Gathered, RoundFault};
 use mig_mem::{Dirty, GuestTarget, Memory, NoMemory, Table};
 use mig_stream::StreamRound;
 use std::alloc::{Allocator, Global};
@@ -31,8 +31,8 @@ pub struct Target<A: Allocator = Global, M: GuestTarget = Memory<A>> {
     memory: M,
     // the places that the rounds named
     named: Dirty<A>,
-    // marks the places of a round while it is judged
-    seen: Dirty<A>,
+    // what came of a round, while it is judged: none between two calls
+    arrivals: Arrivals<A>,
     alloc: A,
     rounds: u64,
     base: u64,
@@ -44,7 +44,7 @@ impl<A: Allocator, M: GuestTarget + Drop> Drop for Target<A, M> {
         let Target {
             memory: _,
             named: _,
-            seen: _,
+            arrivals: _,
             alloc: _,
             rounds: _,
             base: _,
@@ -61,7 +61,7 @@ impl<A: Allocator, M: GuestTarget> Model for Target<A, M> {
 
     ghost use Rattle.mig_assemble.specs.Target.{HasSets};
 
-    ghost invariant = { λ t. HasSets (M.image t.memory) t.named t.seen };
+    ghost invariant = { λ t. HasSets (M.image t.memory) t.named t.arrivals };
 }
 
 impl<A: Allocator, M: GuestTarget> fmt::Debug for Target<A, M> {
@@ -98,7 +98,7 @@ impl<A: Allocator + Copy, M: GuestTarget> Target<A, M> {
         ensures ok { IfOk result (λ t. t ≡ target_over (M.image memory)) }
         ensures err { IfErr result (λ m. M.image m ≡ M.image memory) }
     {
-        let Ok(seen) = Dirty::none(alloc, memory.table()) else {
+        let Ok(arrivals) = Arrivals::new(alloc, memory.table()) else {
             return Err(memory);
         };
         let Ok(named) = Dirty::none(alloc, memory.table()) else {
@@ -107,7 +107,7 @@ impl<A: Allocator + Copy, M: GuestTarget> Target<A, M> {
         Ok(Target {
             memory,
             named,
-            seen,
+            arrivals,
             alloc,
             rounds: 0,
             base: 0,
@@ -137,10 +137,10 @@ impl<A: Allocator + Copy, M: GuestTarget> Target<A, M> {
         ensures err { OnErr result (self.new ≡ self.old) }
     {
         let packets = gathered.packets();
-        judge(self.alloc, &mut self.seen, self.base, round, packets)?;
+        let placed = judge(self.alloc, &mut self.arrivals, self.base, round, packets)?;
         self.section(round);
-        put_packets(&mut self.memory, packets);
-        name_packets(&mut self.named, packets);
+        put_packets(&mut self.memory, &placed);
+        name_packets(&mut self.named, &placed);
         self.base += packets.len() as u64;
         Ok(())
     }
@@ -178,11 +178,11 @@ impl<A: Allocator + Copy + Send> Target<A> {
             return self.round(round, gathered);
         }
         let (rounds, base) = (self.rounds, self.base);
-        judge(self.alloc, &mut self.seen, base, round, packets)?;
+        let placed = judge(self.alloc, &mut self.arrivals, base, round, packets)?;
         let pages = round_list(self.alloc, self.memory.table(), round, packets)?;
         self.memory.put_pages(rt, threads, pages.as_slice());
         name_records(&mut self.named, round);
-        name_packets(&mut self.named, packets);
+        name_packets(&mut self.named, &placed);
         self.rounds = rounds + 1;
         self.base = base + packets.len() as u64;
         Ok(())
@@ -227,7 +227,7 @@ impl<A: Allocator, M: GuestTarget> Target<A, M> {
         let Target {
             memory,
             named: _,
-            seen: _,
+            arrivals: _,
             alloc: _,
             rounds: _,
             base: _,

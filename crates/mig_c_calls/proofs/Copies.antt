@@ -1,5 +1,6 @@
 -- The packet of a batch, of a buffer that has its pages.
-use Rattle.std.proofs.Common.{ℕ, ◌≡◌, ◌≢◌, ◌+◌, ◌-◌, ◌*◌, ◌<◌, ◌≤◌, ◌∙◌, ◌==◌, List, [], ◌++◌, length, drop, get_or, Bool, true, false, refl, sym, ap, subst, arith, inl, inr, Option, Some, None}
+use Rattle.std.proofs.Common.{ℕ, ◌≡◌, ◌≢◌, ◌+◌, ◌-◌, ◌*◌, ◌<◌, ◌≤◌, ◌∙◌, ◌==◌, List, [], ◌++◌, length, drop, get_or, Bool, true, false, refl, sym, ap, subst}
+use Rattle.std.proofs.Common.{arith, inl, inr, Option, Some, None}
 use Rattle.std.specs.Prelude.{Result, Ok, Err, IsOk, IsTrue, ◌||◌, ◌∷◌, nat_lt}
 use Rattle.std.specs.List.{All, position, position_or_len}
 use Rattle.std.specs.Option.{unwrap_or}

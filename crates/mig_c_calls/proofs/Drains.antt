@@ -12,7 +12,8 @@ use Rattle.mig_c_calls.specs.declared.sending.MultiState.{MultiState}
 use Rattle.mig_c_calls.specs.declared.sending.MultiState.TheVariants.{Idle, Round, Over}
 use Rattle.mig_c_calls.specs.declared.sending.Multi.{Multi}
 use Rattle.mig_c_calls.specs.Named.{IsNamed}
-use Rattle.mig_c_calls.specs.Multi.{MultiSetting, SendsTo, InRoundTo, InRound, IsIdle, IsOpen, IsOver, HasNothingLeft, HasGivenUp, HandsOutOf, DrainsMain, RefillsMain, waiting_in, with_plain, left_of, is_left_open, ended_main}
+use Rattle.mig_c_calls.specs.Multi.{MultiSetting, SendsTo, InRoundTo, InRound, IsIdle, IsOpen, IsOver, HasNothingLeft, HasGivenUp, HandsOutOf, DrainsMain}
+use Rattle.mig_c_calls.specs.Multi.{RefillsMain, waiting_in, with_plain, left_of, is_left_open, ended_main}
 use Rattle.mig_c_calls.proofs.Named.{named_more, named_ended, ended_is}
 use Rattle.mig_c_calls.proofs.Sends.{still_of}
 use Rattle.mig_c_calls.proofs.Ends.{same_streams}

@@ -14,7 +14,8 @@ use Rattle.mig_c_calls.proofs.Named.{named_more}
 use Rattle.mig_c_calls.specs.declared.sender.Sender.{Sender}
 use Rattle.mig_c_calls.specs.declared.sender.Sending.{Sending}
 use Rattle.mig_c_calls.specs.declared.sender.Sending.TheVariants.{Idle, Round, Over, LeftOpen}
-use Rattle.mig_c_calls.specs.Sending.{waiting, text_so_far, whole_stream, open_stream, HasSentRounds, HasPutPages, IsIdle, IsEnded, IsLeftOpen, EndsRound, Drains, Refills, Hands, Skips}
+use Rattle.mig_c_calls.specs.Sending.{waiting, text_so_far, whole_stream, open_stream, HasSentRounds, HasPutPages, IsIdle, IsEnded, IsLeftOpen, EndsRound}
+use Rattle.mig_c_calls.specs.Sending.{Drains, Refills, Hands, Skips}
 
 -- ---- a stream with a machine's name, or with none
 

@@ -1,5 +1,6 @@
 -- What was copied out of a sender of C is loaded into blocks of C.
-use Rattle.std.proofs.Common.{ℕ, zero, suc, ◌≡◌, ◌+◌, ◌<◌, ◌≤◌, ◌^◌, Bool, true, false, List, [], ◌∷◌, ◌++◌, length, map, replicate, Option, None, Some, IfSome, refl, sym, ap, subst, ◌∙◌, append_assoc, inl, inr, arith}
+use Rattle.std.proofs.Common.{ℕ, zero, suc, ◌≡◌, ◌+◌, ◌<◌, ◌≤◌, ◌^◌, Bool, true, false, List, [], ◌∷◌, ◌++◌, length, map, replicate, Option, None, Some, IfSome}
+use Rattle.std.proofs.Common.{refl, sym, ap, subst, ◌∙◌, append_assoc, inl, inr, arith}
 use Rattle.std.specs.List.{range_with_len}
 use Rattle.std.proofs.lemmas.Bool.{cases_lt}
 use Rattle.std.proofs.lemmas.List.FromFn.{length-map-range_with_len}
@@ -41,7 +42,8 @@ use Rattle.mig_c_calls.specs.Multi.{MultiSetting, AreEnded, all_channels, SendsT
 use Rattle.mig_c_loads.specs.Found.{seen_so_far, seen_of_verdict}
 use Rattle.mig_c_loads.specs.InPlace.{settings_into}
 use Rattle.mig_c_loads.specs.ByRounds.{opened}
-use Rattle.mig_c_loads.specs.Headline.{DrainedIsLoaded, DrainedMachineStreamIsLoaded, DrainedIsLoadedBySections, DrainedMachineStreamIsLoadedBySections, ended_stream, DrainedChannelsAreLoaded, DrainedChannelsAreLoadedByRounds, DrainedMachineIsLoaded, IsAllOf, channels_out}
+use Rattle.mig_c_loads.specs.Headline.{DrainedIsLoaded, DrainedMachineStreamIsLoaded, DrainedIsLoadedBySections, DrainedMachineStreamIsLoadedBySections}
+use Rattle.mig_c_loads.specs.Headline.{ended_stream, DrainedChannelsAreLoaded, DrainedChannelsAreLoadedByRounds, DrainedMachineIsLoaded, IsAllOf, channels_out}
 
 -- ---- one stream
 

@@ -55,7 +55,8 @@ neither n is other another = another (not_done n is other)
 
 -- A load took bytes of a piece, or was refused an allocation, with the blocks before and after, and
 -- the open round before and after.
-pub rounds_fed : (from : Source) (piece : List ℕ) (before after : List (List ℕ)) (taken status : ℕ) (s0 s1 : Staging) (round0 round1 : Opened) (old new : InPlaceLoad)
+pub rounds_fed : (from : Source) (piece : List ℕ) (before after : List (List ℕ)) (taken status : ℕ) (s0 s1 : Staging) (round0 round1 : Opened)
+    (old new : InPlaceLoad)
     → RefusesPiece from (length piece) before done old
     → s0.kept ≡ lent_image old.table before → (s0.apart ≡ round0.apart) × (s0.named ≡ round0.named)
     → s1.kept ≡ lent_image new.table after → (round1.apart ≡ s1.apart) × (round1.named ≡ s1.named) → FitTable new.table after

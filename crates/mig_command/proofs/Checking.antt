@@ -1,5 +1,6 @@
 -- A scenario's rounds, loaded again and compared.
-use Rattle.std.proofs.Common.{ℕ, ◌≡◌, ◌+◌, ◌-◌, ◌≤◌, ◌^◌, List, ◌++◌, length, refl, arith, sym, ap, ap₂, ◌∙◌, inl, inr, Option, Some, None, true, false, subst, bytes_eq, min}
+use Rattle.std.proofs.Common.{ℕ, ◌≡◌, ◌+◌, ◌-◌, ◌≤◌, ◌^◌, List, ◌++◌, length, refl, arith, sym, ap, ap₂, ◌∙◌, inl, inr, Option, Some, None, true, false, subst}
+use Rattle.std.proofs.Common.{bytes_eq, min}
 use Rattle.std.specs.Prelude.{◌⊎◌, IsTrue, IfSome, IsSomeAnd, MatchOption, Vec, Result, Ok, Err, ⊤, [], ◌∷◌, ◌==◌, not, nat_lt, find, sum_by}
 use Rattle.std.specs.List.{All}
 use Rattle.std.proofs.lemmas.Bool.{cases_Bool, le-ltb}
@@ -44,7 +45,8 @@ use Rattle.mig_scenario.specs.Scenario.{lines_of, refusal, is_within, unsent}
 use Rattle.mig_scenario.specs.Guest.{ScenarioGuest, played}
 use Rattle.mig_scenario.specs.Playing.{IsSentOf, IsNewSender}
 use Rattle.mig_command.specs.Report.{Report, refused, checked, single_line, same_line, IsWantOfMemory}
-use Rattle.mig_command.specs.Answer.{comparison_of, Compares, Answers, IsReport, IsTold, IsToldAs, IsLoadOf, IsLoadOfSent, BringsBack, IsRoundTrip, HasGone, HasChannels, printed, channels_lines, snapshots_in, table_in}
+use Rattle.mig_command.specs.Answer.{comparison_of, Compares, Answers, IsReport, IsTold, IsToldAs, IsLoadOf, IsLoadOfSent, BringsBack, IsRoundTrip, HasGone}
+use Rattle.mig_command.specs.Answer.{HasChannels, printed, channels_lines, snapshots_in, table_in}
 use Rattle.uuid.specs.Parts.{zero_bytes}
 use Rattle.mig_scenario.proofs.Faithful.{played_is_sent, played_are_rounds}
 use Rattle.mig_command.proofs.CommandLine.{some_same}

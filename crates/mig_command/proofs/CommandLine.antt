@@ -1,11 +1,13 @@
 -- What the command line is read as, if its words ask for a check.
-use Rattle.std.proofs.Common.{ℕ, ◌≡◌, ◌<◌, ◌≤◌, ◌^◌, ◌∙◌, ◌||◌, ◌==◌, List, [], ◌∷◌, length, refl, sym, ap, ap₂, inl, inr, arith, Option, Some, None, Bool, true, false, codes, subst}
+use Rattle.std.proofs.Common.{ℕ, ◌≡◌, ◌<◌, ◌≤◌, ◌^◌, ◌∙◌, ◌||◌, ◌==◌, List, [], ◌∷◌, length, refl, sym, ap, ap₂, inl, inr, arith, Option, Some, None, Bool}
+use Rattle.std.proofs.Common.{true, false, codes, subst}
 use Rattle.std.specs.Prelude.{String, Result, Ok, Err}
 use Rattle.std.specs.Borrow.{Bor}
 use Rattle.std.specs.Option.{option_map, unwrap_or}
 use Rattle.std.specs.Str.Parse.{IsNumeral, ParsesUnsigned, digits_value, without_leading_plus}
 use Rattle.std.proofs.lemmas.Bool.{eqb-true}
-use Rattle.clap.specs.Words.{App, Row, Rule, Text, AddsArg, AddsSubcommand, HasMatchesOf, ReadsOne, one_of, one_text, rows_of, found_of, is_simple, subcommand_of, subcommand_rows_of, subcommand_name_of, takes, with_rule, with_subcommand}
+use Rattle.clap.specs.Words.{App, Row, Rule, Text, AddsArg, AddsSubcommand, HasMatchesOf, ReadsOne, one_of, one_text, rows_of, found_of, is_simple}
+use Rattle.clap.specs.Words.{subcommand_of, subcommand_rows_of, subcommand_name_of, takes, with_rule, with_subcommand}
 use Rattle.clap.specs.declared.builder.arg.Arg.{Arg}
 use Rattle.clap.specs.declared.builder.command.Command.{Command}
 use Rattle.clap.specs.declared.parser.matches.Found.{Found}

@@ -1,5 +1,6 @@
 -- Each step of a deal keeps its rule, and what a seat that represents all seats knows at the end.
-use Rattle.std.proofs.Common.{◌≡◌, ℕ, ◌+◌, ◌-◌, ◌%◌, ◌^◌, ◌<◌, ◌≤◌, Bool, true, cond, leb, ⊎_elim, List, [], ◌∷◌, ◌++◌, get_or, set, sym, refl, ap, ◌∙◌, subst, arith, append_assoc, append-nil, length, length-append, length-set, get_or-set_same}
+use Rattle.std.proofs.Common.{◌≡◌, ℕ, ◌+◌, ◌-◌, ◌%◌, ◌^◌, ◌<◌, ◌≤◌, Bool, true, cond, leb, ⊎_elim, List, [], ◌∷◌, ◌++◌, get_or, set, sym, refl, ap, ◌∙◌, subst}
+use Rattle.std.proofs.Common.{arith, append_assoc, append-nil, length, length-append, length-set, get_or-set_same}
 use Rattle.std.specs.Prelude.{count_by, sum_by, flat_map}
 use Rattle.std.proofs.lemmas.List.Sums.{sum_by_push}
 use Rattle.std.proofs.lemmas.List.{set-get_or, get_or_append_left}
@@ -11,8 +12,10 @@ use Rattle.atomic_table.proofs.Lists.{at_set, at_snoc, set_again}
 use Rattle.mig_deal.specs.declared.rule.Holding.{Holding}
 use Rattle.mig_deal.specs.declared.rule.Terms.{Terms}
 use Rattle.mig_deal.specs.Deal.{DealView, SeatView, all_drawn, HasEachOnce, IsNext, IsWithinLimits}
-use Rattle.mig_deal.specs.Rule.{Word, holding, numbers_of, last_count, numbers_between, HasSameNumbers, IsWorkButNewest, IsLawfulSeat, IsDealt, TellsNumber, TellsEnd, HasAllUpTo, without_one_seat, one_new_seat, together, nothing_held, terms_of, IsSeatWithLasts}
-use Rattle.mig_deal.proofs.Counts.{sum_by_set, le_sum_by, sum_by_le, sum_by_alone, count_by-flat_map, count_by-append, count_by_push, numbers_push, range_from, range_length, count_each, none_pass, each_once, found_at}
+use Rattle.mig_deal.specs.Rule.{Word, holding, numbers_of, last_count, numbers_between, HasSameNumbers, IsWorkButNewest, IsLawfulSeat, IsDealt, TellsNumber}
+use Rattle.mig_deal.specs.Rule.{TellsEnd, HasAllUpTo, without_one_seat, one_new_seat, together, nothing_held, terms_of, IsSeatWithLasts}
+use Rattle.mig_deal.proofs.Counts.{sum_by_set, le_sum_by, sum_by_le, sum_by_alone, count_by-flat_map, count_by-append, count_by_push, numbers_push, range_from}
+use Rattle.mig_deal.proofs.Counts.{range_length, count_each, none_pass, each_once, found_at}
 
 -- how many of a seat's numbers pass a test
 abbrev pub held : (ℕ → Bool) → Holding → ℕ

@@ -1,5 +1,6 @@
 -- A load goes on to the next round: the memory has the one before it.
-use Rattle.std.proofs.Common.{ℕ, ◌≡◌, ◌≢◌, ◌+◌, ◌<◌, ◌≤◌, ◌&&◌, Bool, true, false, List, [], ◌∷◌, ◌++◌, length, map, get_or, Option, Some, None, refl, sym, ap, subst, ◌∙◌, append_assoc, inl, inr, arith}
+use Rattle.std.proofs.Common.{ℕ, ◌≡◌, ◌≢◌, ◌+◌, ◌<◌, ◌≤◌, ◌&&◌, Bool, true, false, List, [], ◌∷◌, ◌++◌, length, map, get_or, Option, Some, None, refl, sym, ap}
+use Rattle.std.proofs.Common.{subst, ◌∙◌, append_assoc, inl, inr, arith}
 use Rattle.std.specs.Prelude.{if◌then◌else◌, IsTrue, IsFalse, IfSome, zip, IsPermutation, is_none}
 use Rattle.std.specs.List.{AllZip, All, flat_map, range_with_len, list_all}
 use Rattle.std.specs.Option.{option_and_then, option_map_or, is_some}
@@ -47,7 +48,9 @@ use Rattle.mig_sources.specs.declared.counts.Count.{Count}
 use Rattle.mig_in_place.specs.Answer.{rounds_onto}
 use Rattle.mig_packet.specs.PacketHead.{as_zeros, offsets_in}
 use Rattle.mig_in_place.specs.Round.{KeptRound, Keeps, AlsoKeeps}
-use Rattle.mig_in_place.specs.Sources.{at_next_round, channel_count, IsChannelOf, KeptMain, KeptChannel, HoldsMain, HoldsChannel, HoldsRound, WritesPages, HasTakenRecords, StandsAt, so_far_of, heads_given, heads_begun, packets_given, pages_given, pages_begun, named_places, head_places, rounds_come}
+use Rattle.mig_in_place.specs.Sources.{at_next_round, channel_count, IsChannelOf, KeptMain, KeptChannel, HoldsMain, HoldsChannel, HoldsRound, WritesPages}
+use Rattle.mig_in_place.specs.Sources.{HasTakenRecords, StandsAt, so_far_of, heads_given, heads_begun, packets_given, pages_given, pages_begun, named_places}
+use Rattle.mig_in_place.specs.Sources.{head_places, rounds_come}
 use Rattle.mig_in_place.specs.Session.{InPlaceLoad, IsRunning, Loading, Loads, IsDue, PassesAt, IsMainOf, records_come}
 use Rattle.mig_in_place.proofs.Channels.{rounds_are}
 use Rattle.mig_in_place.proofs.Keeping.{same_table}

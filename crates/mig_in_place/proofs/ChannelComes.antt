@@ -1,5 +1,6 @@
 -- A load one of whose channels goes on.
-use Rattle.std.proofs.Common.{ℕ, zero, suc, ◌≡◌, ◌≢◌, ◌<◌, true, false, List, [], ◌∷◌, ◌++◌, length, map, take, drop, set, get_or, Option, Some, None, refl, sym, ap, subst, ◌∙◌, inl, inr, arith}
+use Rattle.std.proofs.Common.{ℕ, zero, suc, ◌≡◌, ◌≢◌, ◌<◌, true, false, List, [], ◌∷◌, ◌++◌, length, map, take, drop, set, get_or, Option, Some, None, refl}
+use Rattle.std.proofs.Common.{sym, ap, subst, ◌∙◌, inl, inr, arith}
 use Rattle.std.specs.Prelude.{if◌then◌else◌, ◌⊎◌, IsTrue, IsFalse, zip, slice_get}
 use Rattle.std.specs.List.{AllZip, All}
 use Rattle.std.proofs.lemmas.Bool.{cases_Bool}
@@ -26,7 +27,8 @@ use Rattle.mig_in_place.specs.declared.main_stream.SizeList.{SizeList}
 use Rattle.mig_in_place.specs.declared.main_stream.SizeList.TheVariants as list
 use Rattle.mig_in_place.specs.Answer.{rounds_onto}
 use Rattle.mig_in_place.specs.Round.{KeptRound, Keeps}
-use Rattle.mig_in_place.specs.Sources.{KeptChannel, HoldsChannel, HoldsRound, HoldsAt, AtChannel, CameSoFar, came_with, HasHelloAlone, WritesPages, TellsList, IsListAt, HasRead, HasReadSome}
+use Rattle.mig_in_place.specs.Sources.{KeptChannel, HoldsChannel, HoldsRound, HoldsAt, AtChannel, CameSoFar, came_with, HasHelloAlone, WritesPages, TellsList}
+use Rattle.mig_in_place.specs.Sources.{IsListAt, HasRead, HasReadSome}
 use Rattle.mig_in_place.specs.Session.{InPlaceLoad, IsRunning, Loading, Loads, LacksWithin, with_bytes, records_come}
 use Rattle.mig_in_place.proofs.Told.{lacks_memory, lacks_same}
 use Rattle.mig_in_place.proofs.Keeping.{same_table}

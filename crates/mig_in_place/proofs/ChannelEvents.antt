@@ -22,7 +22,8 @@ use Rattle.mig_assemble.specs.Arrivals.{OnePacket, packets_in, arrival_pages}
 use Rattle.mig_in_place.specs.Named.{round_so_far}
 use Rattle.mig_packet.specs.PacketHead.{as_zeros}
 use Rattle.mig_in_place.specs.Round.{KeptRound}
-use Rattle.mig_in_place.specs.Sources.{HoldsRound, AtChannel, came_with, heads_given, packets_given, pages_given, zeros_begun, normal_begun, block_in, head_places, named_places}
+use Rattle.mig_in_place.specs.Sources.{HoldsRound, AtChannel, came_with, heads_given, packets_given, pages_given, zeros_begun, normal_begun, block_in}
+use Rattle.mig_in_place.specs.Sources.{head_places, named_places}
 use Rattle.mig_in_place.proofs.Steps.{in_middle, named_more, channel_places}
 use Rattle.mig_packet.proofs.Heads.{zeros_front, zero_offsets_front}
 

@@ -1,5 +1,6 @@
 -- The places that a packet's head names, where its pages lie in a block.
-use Rattle.std.proofs.Common.{ℕ, ◌≡◌, ◌≢◌, ◌<◌, ◌+◌, ◌/◌, Bool, true, false, List, [], ◌∷◌, length, map, get_or, Option, Some, None, refl, sym, ap, subst, ◌∙◌, arith, zero, suc, ◌||◌, inl, inr}
+use Rattle.std.proofs.Common.{ℕ, ◌≡◌, ◌≢◌, ◌<◌, ◌+◌, ◌/◌, Bool, true, false, List, [], ◌∷◌, length, map, get_or, Option, Some, None, refl, sym, ap, subst, ◌∙◌}
+use Rattle.std.proofs.Common.{arith, zero, suc, ◌||◌, inl, inr}
 use Rattle.std.specs.Prelude.{IsTrue, IsFalse, IfSome}
 use Rattle.std.specs.List.{All, range_with_len}
 use Rattle.std.specs.Option.{unwrap_or}

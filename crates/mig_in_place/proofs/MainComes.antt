@@ -1,5 +1,6 @@
 -- A load whose main stream goes on.
-use Rattle.std.proofs.Common.{ℕ, ◌≡◌, ◌≢◌, Bool, true, false, List, [], ◌∷◌, ◌++◌, length, map, get_or, Option, Some, None, refl, sym, ap, subst, ◌∙◌, inl, inr, arith}
+use Rattle.std.proofs.Common.{ℕ, ◌≡◌, ◌≢◌, Bool, true, false, List, [], ◌∷◌, ◌++◌, length, map, get_or, Option, Some, None, refl, sym, ap, subst, ◌∙◌, inl, inr}
+use Rattle.std.proofs.Common.{arith}
 use Rattle.std.specs.Prelude.{if◌then◌else◌, ◌⊎◌, IsTrue, IsFalse, IfSome, zip, IsPermutation}
 use Rattle.std.specs.List.{AllZip, All, flat_map}
 use Rattle.std.proofs.lemmas.List.Elements.{All-head, All-tail, All-nil}
@@ -34,7 +35,8 @@ use Rattle.mig_answer.proofs.GrowingMain.{main_table_first}
 use Rattle.mig_in_place.specs.Answer.{rounds_onto}
 use Rattle.mig_packet.specs.PacketHead.{as_zeros, offsets_in}
 use Rattle.mig_in_place.specs.Round.{KeptRound, Keeps}
-use Rattle.mig_in_place.specs.Sources.{KeptMain, KeptChannel, HoldsMain, HoldsChannel, HoldsRound, HasHelloAlone, WritesPages, HasTakenRecords, HasNoRound, StandsAt, heads_given, heads_begun, packets_given, pages_given, pages_begun, named_places}
+use Rattle.mig_in_place.specs.Sources.{KeptMain, KeptChannel, HoldsMain, HoldsChannel, HoldsRound, HasHelloAlone, WritesPages, HasTakenRecords, HasNoRound}
+use Rattle.mig_in_place.specs.Sources.{StandsAt, heads_given, heads_begun, packets_given, pages_given, pages_begun, named_places}
 use Rattle.mig_in_place.specs.Session.{InPlaceLoad, IsRunning, Loading, Loads, Stands, records_come}
 use Rattle.mig_in_place.proofs.Advancing.{pages_of, main_taken}
 use Rattle.mig_in_place.proofs.Mains.{same_found, table_is}

@@ -1,5 +1,6 @@
 -- What is kept of a main stream, and what it reports.
-use Rattle.std.proofs.Common.{ℕ, ◌≡◌, ◌≢◌, ◌+◌, ◌<◌, ◌≤◌, true, false, Bool, List, [], length, get_or, refl, sym, ap, subst, ◌∙◌, inl, inr, Option, Some, None, arith, Bor}
+use Rattle.std.proofs.Common.{ℕ, ◌≡◌, ◌≢◌, ◌+◌, ◌<◌, ◌≤◌, true, false, Bool, List, [], length, get_or, refl, sym, ap, subst, ◌∙◌, inl, inr, Option, Some, None}
+use Rattle.std.proofs.Common.{arith, Bor}
 use Rattle.std.specs.Prelude.{IsFalse, IfSome, IfNone, is_some}
 use Rattle.std.specs.Option.{option_copied}
 use Rattle.mig_stream.specs.Round.{RoundOfRecords}
@@ -14,7 +15,8 @@ use Rattle.mig_stream.specs.declared.item.StreamState.TheVariants as stream_stat
 use Rattle.mig_stream.specs.PageRecord.{PageRecord}
 use Rattle.mig_stream.specs.Progress.{StreamProgress, whole_table}
 use Rattle.mig_stream.specs.Reading.{Settings, StreamReading, IsReading, state_at}
-use Rattle.mig_stream.specs.Reader.{Reader, Stands, StepsOn, Tells, nothing_yet, with_taken, with_piece as read_piece, over as read_over, one_taken, HasRound, HasState, HasTable}
+use Rattle.mig_stream.specs.Reader.{Reader, Stands, StepsOn, Tells, nothing_yet, with_taken, with_piece as read_piece, over as read_over, one_taken, HasRound}
+use Rattle.mig_stream.specs.Reader.{HasState, HasTable}
 use Rattle.mig_stream.proofs.Exists.{one_reading_law}
 use Rattle.mig_stream.proofs.Limits.{limits_law}
 use Rattle.mig_stream.proofs.FoundList.{no_some}

@@ -1,5 +1,6 @@
 -- A channel during a call that reads on: what each answer of its reader makes of it.
-use Rattle.std.proofs.Common.{ℕ, ◌≡◌, ◌≢◌, ◌+◌, ◌<◌, ◌≤◌, ◌/◌, Bool, true, false, List, [], ◌∷◌, ◌++◌, length, map, take, drop, get_or, Option, Some, None, refl, sym, ap, subst, ◌∙◌, append_assoc, inl, inr, arith}
+use Rattle.std.proofs.Common.{ℕ, ◌≡◌, ◌≢◌, ◌+◌, ◌<◌, ◌≤◌, ◌/◌, Bool, true, false, List, [], ◌∷◌, ◌++◌, length, map, take, drop, get_or, Option, Some, None}
+use Rattle.std.proofs.Common.{refl, sym, ap, subst, ◌∙◌, append_assoc, inl, inr, arith}
 use Rattle.std.specs.Prelude.{◌⊎◌, IsTrue, IsFalse, IfSome, Result, Ok, Err, OnErr}
 use Rattle.std.specs.List.{range_with_len}
 use Rattle.std.specs.Option.{IsSomeAnd, option_map}
@@ -21,7 +22,8 @@ use Rattle.mig_packet.specs.Packet.{NormalPage, Fields, normal_count, is_sync, o
 use Rattle.mig_packet.specs.Progress.{ChannelProgress}
 use Rattle.mig_packet.specs.Reading.{Settings}
 use Rattle.mig_packet.specs.Reader.{HasHello}
-use Rattle.mig_packet.specs.Paging.{OpenPacket, GivenSoFar, PageHolder, IsOpenPacket, Gives, GivesOn, HolderTells, Comes, Completes, IsShort, Stops, NeedsMore, with_came, with_page, content_of, head_kept, kept_of, bytes_of, is_complete}
+use Rattle.mig_packet.specs.Paging.{OpenPacket, GivenSoFar, PageHolder, IsOpenPacket, Gives, GivesOn, HolderTells, Comes, Completes, IsShort, Stops, NeedsMore}
+use Rattle.mig_packet.specs.Paging.{with_came, with_page, content_of, head_kept, kept_of, bytes_of, is_complete}
 use Rattle.mig_packet.proofs.Exists.{one_reading_law}
 use Rattle.mig_packet.proofs.PagingState.{tells_found, hello_told}
 use Rattle.mig_packet.proofs.PagingSteps.{none_kept}
@@ -34,7 +36,8 @@ use Rattle.mig_in_place.specs.declared.main_stream.SizeList.{SizeList}
 use Rattle.mig_in_place.specs.declared.main_stream.SizeList.TheVariants as list
 use Rattle.mig_assemble.specs.HeadPlaces.{LieIn}
 use Rattle.mig_in_place.specs.Round.{KeptRound, KeepsSome}
-use Rattle.mig_in_place.specs.Sources.{KeptChannel, HasHelloAlone, WritesPages, IsChannelOf, HoldsRound, HoldsAt, AtChannel, came_with, rounds_come, TellsChannelStatus, TellsTakes, HasRead, HasReadSome, AddsHead, WritesInto, AddsPage, pages_given}
+use Rattle.mig_in_place.specs.Sources.{KeptChannel, HasHelloAlone, WritesPages, IsChannelOf, HoldsRound, HoldsAt, AtChannel, came_with, rounds_come}
+use Rattle.mig_in_place.specs.Sources.{TellsChannelStatus, TellsTakes, HasRead, HasReadSome, AddsHead, WritesInto, AddsPage, pages_given}
 use Rattle.mig_in_place.proofs.Keeping.{same_table}
 use Rattle.mig_in_place.proofs.Heads.{lies}
 use Rattle.mig_in_place.proofs.Channels.{kept, tells_whole, tells_end}

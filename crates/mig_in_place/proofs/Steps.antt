@@ -1,5 +1,6 @@
 -- The current round advances by a packet's head, or by a page.
-use Rattle.std.proofs.Common.{ℕ, ◌≡◌, ◌/◌, ◌||◌, Bool, true, false, List, [], ◌∷◌, ◌++◌, map, Option, Some, None, refl, sym, ap, subst, ◌∙◌, append_assoc, inl, inr}
+use Rattle.std.proofs.Common.{ℕ, ◌≡◌, ◌/◌, ◌||◌, Bool, true, false, List, [], ◌∷◌, ◌++◌, map, Option, Some, None, refl, sym, ap, subst, ◌∙◌, append_assoc, inl}
+use Rattle.std.proofs.Common.{inr}
 use Rattle.std.specs.Prelude.{IsPermutation, IsTrue, IsFalse, ◌⊎◌}
 use Rattle.std.specs.List.{All, flat_map}
 use Rattle.std.specs.Option.{is_some}
@@ -23,7 +24,8 @@ use Rattle.mig_packet.specs.PacketHead.{as_zeros}
 use Rattle.mig_assemble.proofs.AddingPlaces.{has_place-append}
 use Rattle.mig_assemble.proofs.Arriving.{packets_push}
 use Rattle.mig_in_place.specs.Round.{KeptRound, Keeps, AlsoKeeps, any_misplaced}
-use Rattle.mig_in_place.specs.Sources.{heads_given, packets_given, heads_begun, pages_given, pages_begun, zeros_begun, normal_begun, block_in, head_places, named_places, HoldsRound, AtChannel, came_with, AddsHead}
+use Rattle.mig_in_place.specs.Sources.{heads_given, packets_given, heads_begun, pages_given, pages_begun, zeros_begun, normal_begun, block_in, head_places}
+use Rattle.mig_in_place.specs.Sources.{named_places, HoldsRound, AtChannel, came_with, AddsHead}
 
 -- ---- in the middle of a list
 

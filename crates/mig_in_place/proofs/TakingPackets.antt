@@ -1,5 +1,6 @@
 -- A channel that takes a packet at once, and the load that it is of.
-use Rattle.std.proofs.Common.{ℕ, zero, suc, ◌≡◌, ◌<◌, Bool, true, false, List, [], ◌∷◌, length, get_or, set, Option, Some, None, refl, sym, ap, subst, ◌∙◌, ◌++◌, arith}
+use Rattle.std.proofs.Common.{ℕ, zero, suc, ◌≡◌, ◌<◌, Bool, true, false, List, [], ◌∷◌, length, get_or, set, Option, Some, None, refl, sym, ap, subst, ◌∙◌}
+use Rattle.std.proofs.Common.{◌++◌, arith}
 use Rattle.std.specs.Prelude.{IsTrue, IsFalse, IfSome, zip, slice_get, Result, Ok, Err, IfOk}
 use Rattle.std.specs.List.{All, AllZip}
 use Rattle.std.specs.Option.{IsSomeAnd}

@@ -1,12 +1,14 @@
 -- Turns of sources: what waits in a buffer, and what several turns leave.
-use Rattle.std.proofs.Common.{ℕ, ◌≡◌, ◌≢◌, ◌+◌, ◌-◌, ◌<◌, ◌≤◌, ◌⊎◌, Bool, true, false, List, [], ◌∷◌, ◌++◌, length, take, drop, set, get_or, refl, sym, ap, subst, ◌∙◌, arith, inl, inr, Option, Some, None, Result, Ok, Err, add-zero, append_assoc}
+use Rattle.std.proofs.Common.{ℕ, ◌≡◌, ◌≢◌, ◌+◌, ◌-◌, ◌<◌, ◌≤◌, ◌⊎◌, Bool, true, false, List, [], ◌∷◌, ◌++◌, length, take, drop, set, get_or, refl, sym, ap}
+use Rattle.std.proofs.Common.{subst, ◌∙◌, arith, inl, inr, Option, Some, None, Result, Ok, Err, add-zero, append_assoc}
 use Rattle.std.specs.Prelude.{◌==◌, IsFalse, IfSome, IfNone}
 use Rattle.std.specs.Io.KnownBytes.{Consumes}
 use Rattle.std.proofs.KnownBytes.{Consumes-nil, Consumes-trans, Consumes-kept}
 use Rattle.std.proofs.Math.Seq.{drop-drop, take-add}
 use Rattle.std.proofs.lemmas.Bool.{false≢true, cases_eq, cases_lt, eqb-true}
 use Rattle.std.proofs.Math.ListN.{get_or-eq_default}
-use Rattle.std.proofs.lemmas.List.{append-nil, drop-take, take-append-drop, take-take, length-take, length-drop, length-append, length-map, length-set, get_or-set_same, get_or-set_other, get_or_default}
+use Rattle.std.proofs.lemmas.List.{append-nil, drop-take, take-append-drop, take-take, length-take, length-drop, length-append, length-map, length-set}
+use Rattle.std.proofs.lemmas.List.{get_or-set_same, get_or-set_other, get_or_default}
 use Rattle.std.proofs.lemmas.Slice.Zip.{AllZip-long, length-zip}
 use Rattle.mig_mem.specs.Image.{Image}
 use Rattle.mig_stream.specs.Reading.{Settings}
@@ -26,7 +28,9 @@ use Rattle.mig_in_place.specs.declared.source_reader.TurnFault.{TurnFault}
 use Rattle.mig_in_place.specs.declared.source_reader.TurnFault.TheVariants as fault
 use Rattle.mig_in_place.specs.Sources.{channel_count, counts_of}
 use Rattle.mig_in_place.specs.Session.{InPlaceLoad, StandsFor, text_of}
-use Rattle.mig_in_place.specs.Turns.{KeptSource, FindsEnd, FailsToRead, HasBytes, without_first, HasTaken, HasEnded, HasFailedRead, IsOfOther, EndsWithTaken, HasLastPiece, AtTurns, TakesTurn, TakeTurns, Pumps, Came, came_in, IsOver, ComesTo, HaveCome, KeepsBytes, HasRoom, TakesNone, NoneIsNext, no_source, number_of, source_in, one_source}
+use Rattle.mig_in_place.specs.Turns.{KeptSource, FindsEnd, FailsToRead, HasBytes, without_first, HasTaken, HasEnded, HasFailedRead, IsOfOther, EndsWithTaken}
+use Rattle.mig_in_place.specs.Turns.{HasLastPiece, AtTurns, TakesTurn, TakeTurns, Pumps, Came, came_in, IsOver, ComesTo, HaveCome, KeepsBytes, HasRoom}
+use Rattle.mig_in_place.specs.Turns.{TakesNone, NoneIsNext, no_source, number_of, source_in, one_source}
 use Rattle.mig_in_place.proofs.Behind.{takes_open, none_of_it, with_bytes_read, with_failed_read, with_bytes_taken}
 
 -- ---- a buffer

@@ -18,7 +18,8 @@ use Rattle.mig_sources.specs.Sources.{HasSource, with_fed, feed_step, Counts}
 use Rattle.mig_sources.specs.declared.source.Source.TheVariants as source
 use Rattle.mig_in_place.specs.declared.main_stream.SizeList.{SizeList}
 use Rattle.mig_in_place.specs.Sources.{KeptChannel, TellsList, TellsTakes, channel_count, counts_of}
-use Rattle.mig_in_place.specs.Session.{InPlaceLoad, StepsOn, JudgesOn, RunsOut, Loading, Loads, Stands, IsJudged, LacksBehind, LacksMemory, TakesBytes, TakesNoMore, with_bytes}
+use Rattle.mig_in_place.specs.Session.{InPlaceLoad, StepsOn, JudgesOn, RunsOut, Loading, Loads, Stands, IsJudged, LacksBehind, LacksMemory, TakesBytes}
+use Rattle.mig_in_place.specs.Session.{TakesNoMore, with_bytes}
 use Rattle.mig_in_place.proofs.Feeding.{fed_more, fed_none, counted_both, counted_none, source_still}
 use Rattle.mig_in_place.proofs.Takes.{loads_of, channel_takes}
 
@@ -76,7 +77,8 @@ pub taken_more : (from : Source) (piece : List ℕ) (n k : ℕ) (before middle l
     → TakenSoFar from piece n before old middle s → TakenSoFar from (left piece n) k middle s last new → TakenSoFar from piece (n + k) before old last new
 taken_more from piece n k before middle last old s new at turn = record {
   is_part = (let p = at.is_part in let q = turn.is_part in omega (arith, p, q, length-left piece n));
-  steps = λ f stands. subst (λ (h : Loading). Stands h last new) (more_fed from piece n k f) (turn.steps (with_bytes from (take n piece) f) (at.steps f stands));
+  steps = λ f stands. subst (λ (h : Loading). Stands h last new) (more_fed from piece n k f)
+      (turn.steps (with_bytes from (take n piece) f) (at.steps f stands));
   has_counts = turn.has_counts ∙ ap (λ (x : Counts). with_fed x from k) at.has_counts ∙ counted_both from n k (counts_of old.sources);
   same_table = turn.same_table ∙ at.same_table;
   memory_table = turn.memory_table ∙ at.memory_table;

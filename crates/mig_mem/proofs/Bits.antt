@@ -1,10 +1,12 @@
 -- Marks as bits of words.
-use Rattle.std.proofs.Common.{ℕ, ◌≡◌, ◌≢◌, ◌<◌, ◌≤◌, ◌+◌, ◌-◌, ◌*◌, ◌/◌, ◌%◌, ◌^◌, ◌==◌, List, length, get_or, set, refl, sym, ap, ◌∙◌, inl, inr, arith, true, false, ◌||◌, ◌&&◌, get_or-set_same, get_or-set_other, w64}
+use Rattle.std.proofs.Common.{ℕ, ◌≡◌, ◌≢◌, ◌<◌, ◌≤◌, ◌+◌, ◌-◌, ◌*◌, ◌/◌, ◌%◌, ◌^◌, ◌==◌, List, length, get_or, set, refl, sym, ap, ◌∙◌, inl, inr, arith, true}
+use Rattle.std.proofs.Common.{false, ◌||◌, ◌&&◌, get_or-set_same, get_or-set_other, w64}
 use Rattle.std.specs.Prelude.{bit_and, bit_or, not}
 use Rattle.std.specs.Int.{bit_at, bit_not, trailing_zeros}
 use Rattle.std.proofs.lemmas.Bool.{cases_Bool, cases_eq, cases_lt, eq-eqb, ne_eqb}
 use Rattle.std.proofs.lemmas.List.{get_or_past}
-use Rattle.std.proofs.lemmas.Nat.Bits.{bit_at_and, bit_at-lt, bit_at_set_same, bit_at_set_other, bit_at_clear_same, bit_at_clear_other, bit_at_mask_inside, bit_at_mask_below, bit_at-zero, bit_at-trailing_zeros, ones_shl}
+use Rattle.std.proofs.lemmas.Nat.Bits.{bit_at_and, bit_at-lt, bit_at_set_same, bit_at_set_other, bit_at_clear_same, bit_at_clear_other, bit_at_mask_inside}
+use Rattle.std.proofs.lemmas.Nat.Bits.{bit_at_mask_below, bit_at-zero, bit_at-trailing_zeros, ones_shl}
 use Rattle.mig_mem.specs.Marks.{is_set, IsLowestBit, IsFirstSet}
 
 -- the bits of a word from a bit on

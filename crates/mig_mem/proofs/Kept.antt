@@ -1,5 +1,6 @@
 -- What the blocks of a memory hold.
-use Rattle.std.proofs.Common.{ℕ, ◌≡◌, ◌<◌, List, [], inl, inr, get_or-set_same, get_or-set_other, length, map, get_or, set, replicate, refl, sym, ap, subst, ◌∙◌, arith}
+use Rattle.std.proofs.Common.{ℕ, ◌≡◌, ◌<◌, List, [], inl, inr, get_or-set_same, get_or-set_other, length, map, get_or, set, replicate, refl, sym, ap, subst}
+use Rattle.std.proofs.Common.{◌∙◌, arith}
 use Rattle.std.proofs.lemmas.List.{ext_get_or, get_or-map, get_or_default, get_or-replicate, length-map, length-replicate}
 use Rattle.std.proofs.lemmas.List.Elements.{All-from_get_or}
 use Rattle.std.specs.List.{range_with_len}

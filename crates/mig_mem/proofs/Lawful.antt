@@ -1,5 +1,6 @@
 -- A list has no refusal exactly if it is a lawful table.
-use Rattle.std.proofs.Common.{ℕ, ◌≡◌, ◌≢◌, ◌<◌, ◌*◌, ◌^◌, List, [], ◌∷◌, length, map, take, get_or, true, false, not, refl, sym, ap, ◌∙◌, arith, None, nat_lt, ◌==◌}
+use Rattle.std.proofs.Common.{ℕ, ◌≡◌, ◌≢◌, ◌<◌, ◌*◌, ◌^◌, List, [], ◌∷◌, length, map, take, get_or, true, false, not, refl, sym, ap, ◌∙◌, arith, None, nat_lt}
+use Rattle.std.proofs.Common.{◌==◌}
 use Rattle.std.proofs.lemmas.Bool.{not-false, ltb-false, eqb-false, ne_eqb, le-ltb, false_from_ne_true}
 use Rattle.std.proofs.lemmas.List.Folds.{list_any_none}
 use Rattle.std.proofs.lemmas.Slice.Eq.{bytes_eq-Decides}

@@ -1,6 +1,7 @@
 -- What bytes that another owns hold, whether they are lent for reading or for writing: `bytes`
 -- gives those of a loan.
-use Rattle.std.proofs.Common.{ℕ, ◌≡◌, ◌<◌, ◌≤◌, ◌+◌, ◌*◌, List, [], inl, inr, Some, length, map, get_or, set, get_or-set_same, get_or-set_other, drop, sym, ap, ◌∙◌, arith}
+use Rattle.std.proofs.Common.{ℕ, ◌≡◌, ◌<◌, ◌≤◌, ◌+◌, ◌*◌, List, [], inl, inr, Some, length, map, get_or, set, get_or-set_same, get_or-set_other, drop, sym, ap}
+use Rattle.std.proofs.Common.{◌∙◌, arith}
 use Rattle.std.proofs.lemmas.List.{get_or-map, length-map, length-set, map-set, length-take-le, length-drop}
 use Rattle.std.proofs.lemmas.Bool.{cases_eq}
 use Rattle.mig_mem.specs.declared.place.Place.{Place}

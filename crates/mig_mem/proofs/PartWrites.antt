@@ -2,7 +2,8 @@
 use Rattle.std.proofs.Common.{ℕ, ◌≡◌, ◌<◌, ◌≤◌, ◌+◌, ◌-◌, ◌*◌, ◌/◌, ◌%◌, ◌++◌, List, set, length, take, drop, refl, sym, ap, subst, ◌∙◌, arith, inl, inr}
 use Rattle.std.proofs.Math.Nat.{mul_comm}
 use Rattle.std.proofs.lemmas.Nat.{div-mul-add, mod-mul-add}
-use Rattle.std.proofs.lemmas.List.{length-set, drop-set-add, drop-set-lt, take-set-le, length-append, length-take-le, length-drop, take-append-le, drop-append-le, take-append-drop, append_assoc, drop_at, take_at, drop-drop}
+use Rattle.std.proofs.lemmas.List.{length-set, drop-set-add, drop-set-lt, take-set-le, length-append, length-take-le, length-drop, take-append-le}
+use Rattle.std.proofs.lemmas.List.{drop-append-le, take-append-drop, append_assoc, drop_at, take_at, drop-drop}
 use Rattle.std.proofs.lemmas.Slice.{put_mid-paste}
 use Rattle.std.proofs.lemmas.Bool.{cases_order}
 use borrow.Rule.Slice.PartMut.{put_mid}

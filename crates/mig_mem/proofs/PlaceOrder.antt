@@ -2,7 +2,8 @@
 use Rattle.std.proofs.Common.{ℕ, ◌≡◌, ◌<◌, ◌≤◌, sym, ap, ◌∙◌, inl, inr, arith, true, false}
 use Rattle.std.specs.Prelude.{◌⊎◌, nat_lt, ◌==◌, ◌&&◌}
 use Rattle.std.specs.Cmp.{IsStrictWeakOrder}
-use Rattle.std.proofs.lemmas.Bool.{cases_Bool, or_cases, and_parts, or_parts, and_cases, ltb-true, ltb-false, lt-ltb, eqb-true, eqb-false, cases_order, cases_eq, eq-eqb, and_from, or_left, or_right}
+use Rattle.std.proofs.lemmas.Bool.{cases_Bool, or_cases, and_parts, or_parts, and_cases, ltb-true, ltb-false, lt-ltb, eqb-true, eqb-false, cases_order}
+use Rattle.std.proofs.lemmas.Bool.{cases_eq, eq-eqb, and_from, or_left, or_right}
 use Rattle.mig_mem.specs.declared.place.Place.{Place}
 use Rattle.mig_mem.specs.Place.{place_eq, place_lt}
 

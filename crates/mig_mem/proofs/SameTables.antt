@@ -23,7 +23,8 @@ blocks_decide : (a b : Block) → Decides (same_block a b) (a ≡ b)
 blocks_decide a b = (block_same a b, λ e. subst (λ (x : Block). same_block a x ≡ true) e (block_itself a))
 
 same_table : (a b : RamTable) → a.page_size ≡ b.page_size → a.blocks ≡ b.blocks → a ≡ b
-same_table a b size blocks = ap (λ (n : ℕ). record { page_size = n; blocks = a.blocks }) size ∙ ap (λ (l : List Block). record { page_size = b.page_size; blocks = l }) blocks
+same_table a b size blocks = ap (λ (n : ℕ). record { page_size = n; blocks = a.blocks }) size
+    ∙ ap (λ (l : List Block). record { page_size = b.page_size; blocks = l }) blocks
 
 tables_same : (a b : RamTable) → same_tables a b ≡ true → a ≡ b
 tables_same a b e =

@@ -23,7 +23,8 @@ use Rattle.mig_packet.specs.PagingStep.{faults_of, fault_of, IsJudged, IsPageOf,
 use Rattle.mig_packet.specs.Waiting.{weight, room_after, less_room, next_room, packet_faults_within}
 use Rattle.mig_packet.proofs.Waiting.{faultless_within, weight-front, room_at_first, room_push}
 use Rattle.mig_packet.proofs.Later.{IsLater-front}
-use Rattle.mig_packet.proofs.Paging.{reads_grown, reads_item, reads_fault, head_free, packet_reads, still_open, complete_read, open_push, bytes_push, sync_said, completes}
+use Rattle.mig_packet.proofs.Paging.{reads_grown, reads_item, reads_fault, head_free, packet_reads, still_open, complete_read, open_push, bytes_push, sync_said}
+use Rattle.mig_packet.proofs.Paging.{completes}
 
 abbrev from : Settings → ChannelProgress
 from given = start given.page_size given.uuid given.channels given.waiting

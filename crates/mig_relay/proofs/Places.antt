@@ -1,6 +1,7 @@
 -- A channel that has ended has messages, which say where its items lie: all of them lie in its
 -- bytes, and the one stop is last.
-use Rattle.std.proofs.Common.{◌≡◌, ◌≢◌, ℕ, ◌+◌, ◌≤◌, true, false, cond, true≢false, List, [], ◌∷◌, ◌++◌, length, take, drop, map, Option, Some, None, refl, sym, ap, subst, ◌∙◌, append_assoc, arith}
+use Rattle.std.proofs.Common.{◌≡◌, ◌≢◌, ℕ, ◌+◌, ◌≤◌, true, false, cond, true≢false, List, [], ◌∷◌, ◌++◌, length, take, drop, map, Option, Some, None, refl, sym}
+use Rattle.std.proofs.Common.{ap, subst, ◌∙◌, append_assoc, arith}
 use Rattle.std.specs.Prelude.{flat_map}
 use Rattle.std.specs.List.{concat, All}
 use Rattle.std.proofs.lemmas.List.{append-nil, length-append, take_at, drop_at, map-append}
@@ -26,7 +27,8 @@ use Rattle.mig_relay.specs.declared.log.ChannelText.{ChannelText}
 use Rattle.mig_relay.specs.declared.message.Message.{Message}
 use Rattle.mig_relay.specs.declared.message.Message.TheVariants as message
 use Rattle.mig_relay.specs.RelayItems.{given, HasItems, BeginsItems}
-use Rattle.mig_relay.specs.Messages.{item_in, item_of_message, hello_message, places, stop_message, front_messages, AreMessages, BeginsMessages, IsMessageIn, is_last}
+use Rattle.mig_relay.specs.Messages.{item_in, item_of_message, hello_message, places, stop_message, front_messages, AreMessages, BeginsMessages, IsMessageIn}
+use Rattle.mig_relay.specs.Messages.{is_last}
 
 -- some channel's messages begin with none
 pub some_messages : (source : ChannelText) → IsPageSize source.page_size → BeginsMessages source []

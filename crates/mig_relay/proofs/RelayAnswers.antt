@@ -1,5 +1,6 @@
 -- The answer of a load of what a relay brings.
-use Rattle.std.proofs.Common.{ℕ, ◌≡◌, ◌<◌, ◌≤◌, Bool, true, false, List, [], ◌∷◌, length, map, replicate, refl, sym, ap, ◌∙◌, inl, inr, Option, Some, None, arith, subst}
+use Rattle.std.proofs.Common.{ℕ, ◌≡◌, ◌<◌, ◌≤◌, Bool, true, false, List, [], ◌∷◌, length, map, replicate, refl, sym, ap, ◌∙◌, inl, inr, Option, Some, None}
+use Rattle.std.proofs.Common.{arith, subst}
 use Rattle.std.specs.Prelude.{◌^◌, IsTrue}
 use Rattle.std.specs.List.{All, AllZip, range_with_len}
 use Rattle.std.specs.Option.{option_map, IsSomeAnd}
@@ -28,7 +29,8 @@ use Rattle.mig_answer.specs.Rounds.{pages_at, memory_at, missing_after, missing_
 use Rattle.mig_answer.specs.MultiLoad.{passes, IsFirstStop, verdict_at, as_verdict, answer_of, IsAnswerOrWithoutMemory, SaysOfStreamsOrNothing}
 use Rattle.mig_answer.specs.Received.{round_count}
 use Rattle.mig_relay.specs.RelayItems.{with_settings, QueueEnd, IsThrough}
-use Rattle.mig_relay.specs.Relayed.{IsRelayOf, IsRelay, Continues, HasReceived, AreAtRound, Load, IsLoadOf, HaveRounds, HasEnded, EndsAt, Goes, Begins, AreMainPlaces, IsAnswerOf}
+use Rattle.mig_relay.specs.Relayed.{IsRelayOf, IsRelay, Continues, HasReceived, AreAtRound, Load, IsLoadOf, HaveRounds, HasEnded, EndsAt, Goes, Begins}
+use Rattle.mig_relay.specs.Relayed.{AreMainPlaces, IsAnswerOf}
 use Rattle.mig_relay.specs.declared.relayed.MainPlaces.{MainPlaces}
 use Rattle.mig_answer.proofs.NamedRounds.{named_at_first}
 use Rattle.mig_answer.proofs.OneAnswer.{some_readings}

@@ -1,5 +1,6 @@
 -- A load of what a relay brings: what is found at a round, and the rounds that are applied.
-use Rattle.std.proofs.Common.{ℕ, zero, suc, ◌≡◌, ◌≢◌, ◌+◌, Bool, true, false, cond, ◌&&◌, List, [], ◌∷◌, ◌++◌, length, map, refl, sym, ap, ◌∙◌, inl, inr, Option, Some, None, is_none, arith, subst, find}
+use Rattle.std.proofs.Common.{ℕ, zero, suc, ◌≡◌, ◌≢◌, ◌+◌, Bool, true, false, cond, ◌&&◌, List, [], ◌∷◌, ◌++◌, length, map, refl, sym, ap, ◌∙◌, inl, inr}
+use Rattle.std.proofs.Common.{Option, Some, None, is_none, arith, subst, find}
 use Rattle.std.specs.Prelude.{◌==◌}
 use Rattle.std.specs.Bool.{then_some}
 use Rattle.std.specs.Option.{option_map}
@@ -23,7 +24,8 @@ use Rattle.mig_answer.specs.declared.status.Status.{Status}
 use Rattle.mig_answer.specs.declared.status.Status.TheVariants.{Whole}
 use Rattle.mig_answer.specs.Status.{main_status, is_whole, is_clean, is_pending, fault_of}
 use Rattle.mig_answer.specs.Rounds.{refusal_at}
-use Rattle.mig_answer.specs.MultiLoad.{Standing, main_standing, sources_at, hello_ids, repeated_hello, passes, sources_verdicts, failed, failed_at_first, failed_with_own}
+use Rattle.mig_answer.specs.MultiLoad.{Standing, main_standing, sources_at, hello_ids, repeated_hello, passes, sources_verdicts, failed, failed_at_first}
+use Rattle.mig_answer.specs.MultiLoad.{failed_with_own}
 use Rattle.mig_answer.specs.Received.{round_count, hello_in, end_in, status_in, IsEnough, TellsAllChannels}
 use Rattle.mig_relay.specs.RelayItems.{given, with_settings, QueueEnd, IsThrough}
 use Rattle.mig_relay.specs.Relayed.{received_of, Continues, HasEnough, HaveGone, repeated_at, Load, Loading, ToldAt}

@@ -1,5 +1,6 @@
 -- The rounds of what a relay brings: how each is applied, and how a load ends.
-use Rattle.std.proofs.Common.{ℕ, ◌≡◌, ◌+◌, ◌<◌, ◌≤◌, true, List, [], ◌∷◌, ◌++◌, length, take, drop, refl, sym, ap, ◌∙◌, inl, inr, Option, Some, None, arith, subst, cond}
+use Rattle.std.proofs.Common.{ℕ, ◌≡◌, ◌+◌, ◌<◌, ◌≤◌, true, List, [], ◌∷◌, ◌++◌, length, take, drop, refl, sym, ap, ◌∙◌, inl, inr, Option, Some, None, arith}
+use Rattle.std.proofs.Common.{subst, cond}
 use Rattle.std.specs.Prelude.{⊤, ◌^◌, IsTrue, Result, Ok, Err, is_ok}
 use Rattle.std.specs.List.{All, AllZip}
 use Rattle.std.proofs.lemmas.Bool.{cases_order}

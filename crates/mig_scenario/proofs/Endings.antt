@@ -1,5 +1,6 @@
 -- What stands after the last element that passes a test: one element more at a list's end.
-use Rattle.std.proofs.Common.{ℕ, ◌≡◌, ◌≤◌, ◌+◌, ◌-◌, List, [], ◌∷◌, ◌++◌, length, drop, reverse, refl, ap, ◌∙◌, inl, inr, arith, Some, None, Bool, true, false, cond, eqb}
+use Rattle.std.proofs.Common.{ℕ, ◌≡◌, ◌≤◌, ◌+◌, ◌-◌, List, [], ◌∷◌, ◌++◌, length, drop, reverse, refl, ap, ◌∙◌, inl, inr, arith, Some, None, Bool, true, false}
+use Rattle.std.proofs.Common.{cond, eqb}
 use Rattle.std.specs.Prelude.{position, nat_lt, not}
 use Rattle.std.specs.List.{prefix_len, suffix_len, position_or_len, after_last}
 use Rattle.std.proofs.lemmas.Bool.{cond-true, cond-false, le-ltb, cases_eq, cases_Bool, eq-eqb, ne_eqb, not_from_false}

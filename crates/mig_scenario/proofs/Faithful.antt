@@ -1,6 +1,7 @@
 -- The marks of a scenario's guest are faithful: what its rounds leave is its memory, if no step
 -- follows the last of them.
-use Rattle.std.proofs.Common.{ℕ, ◌≡◌, ◌*◌, ◌/◌, ◌%◌, List, [], ◌∷◌, ◌++◌, length, set, replicate, refl, sym, ap, subst, ◌∙◌, inl, inr, append_assoc, append-nil, None, false, ◌||◌, ◌&&◌, cond}
+use Rattle.std.proofs.Common.{ℕ, ◌≡◌, ◌*◌, ◌/◌, ◌%◌, List, [], ◌∷◌, ◌++◌, length, set, replicate, refl, sym, ap, subst, ◌∙◌, inl, inr, append_assoc, append-nil}
+use Rattle.std.proofs.Common.{None, false, ◌||◌, ◌&&◌, cond}
 use Rattle.std.specs.Prelude.{All, IsTrue, position, nat_lt}
 use Rattle.std.specs.List.{fold, after_last}
 use Rattle.std.proofs.lemmas.Bool.{cases_Bool, cond-true, cond-false, and_parts, or_parts, ltb-true}

@@ -1,5 +1,6 @@
 -- Words that are numbers.
-use Rattle.std.proofs.Common.{ℕ, ◌≡◌, ◌<◌, ◌≤◌, ◌+◌, ◌-◌, ◌*◌, ◌^◌, ◌&&◌, nat_le, Bool, true, List, [], ◌∷◌, length, get_or, take, Some, refl, ap, arith, length-take}
+use Rattle.std.proofs.Common.{ℕ, ◌≡◌, ◌<◌, ◌≤◌, ◌+◌, ◌-◌, ◌*◌, ◌^◌, ◌&&◌, nat_le, Bool, true, List, [], ◌∷◌, length, get_or, take, Some, refl, ap, arith}
+use Rattle.std.proofs.Common.{length-take}
 use Rattle.std.specs.Bool.{then_some}
 use Rattle.std.specs.List.{list_all}
 use Rattle.std.specs.Char.{digit_value, is_digit, is_ascii_digit}

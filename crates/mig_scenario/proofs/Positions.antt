@@ -1,6 +1,7 @@
 -- The first element that passes a test, and what stands after the last one: at a list's first
 -- element.
-use Rattle.std.proofs.Common.{ℕ, ◌≡◌, ◌<◌, ◌≤◌, ◌+◌, ◌-◌, List, [], ◌∷◌, length, drop, reverse, suc, refl, ap, ◌∙◌, inl, inr, arith, Option, Some, None, Bool, true, false, cond, eqb}
+use Rattle.std.proofs.Common.{ℕ, ◌≡◌, ◌<◌, ◌≤◌, ◌+◌, ◌-◌, List, [], ◌∷◌, length, drop, reverse, suc, refl, ap, ◌∙◌, inl, inr, arith, Option, Some, None, Bool}
+use Rattle.std.proofs.Common.{true, false, cond, eqb}
 use Rattle.std.specs.Prelude.{position, nat_lt, not}
 use Rattle.std.proofs.lemmas.Grind.{reverse_onto}
 use Rattle.std.specs.List.{position_or_len, after_last}

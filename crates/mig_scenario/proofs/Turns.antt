@@ -1,6 +1,7 @@
 -- The judgements of some lines as a loop makes them: line by line, with what is known of the lines
 -- before.
-use Rattle.std.proofs.Common.{ℕ, ◌≡◌, ◌≤◌, ◌+◌, ◌-◌, List, [], ◌∷◌, length, drop, suc, refl, sym, ap, ◌∙◌, ◌⊎◌, inl, inr, arith, Option, Some, None, Bool, true, false, cond}
+use Rattle.std.proofs.Common.{ℕ, ◌≡◌, ◌≤◌, ◌+◌, ◌-◌, List, [], ◌∷◌, length, drop, suc, refl, sym, ap, ◌∙◌, ◌⊎◌, inl, inr, arith, Option, Some, None, Bool, true}
+use Rattle.std.proofs.Common.{false, cond}
 use Rattle.std.specs.Prelude.{position}
 use Rattle.std.specs.List.{after_last}
 use Rattle.std.specs.Option.{option_map, option_and_then, option_or}
@@ -8,7 +9,8 @@ use Rattle.std.proofs.lemmas.Bool.{cases_Bool}
 use Rattle.std.proofs.lemmas.Iterator.Adapters.{option_map_id}
 use Rattle.mig_scenario.specs.Line.{ScenarioLine, EmptyLine, BlockLine, StepLine}
 use Rattle.mig_scenario.specs.Scenario.{is_block, is_step, is_round, late_block, unsent}
-use Rattle.mig_scenario.proofs.Positions.{shifted, mapped_same, mapped_twice, position-cons, NonePasses, OnePasses, none_of_none, none_more, one_here, one_more, after_none, after_here, after_more, after_short}
+use Rattle.mig_scenario.proofs.Positions.{shifted, mapped_same, mapped_twice, position-cons, NonePasses, OnePasses, none_of_none, none_more, one_here, one_more}
+use Rattle.mig_scenario.proofs.Positions.{after_none, after_here, after_more, after_short}
 
 all_of : (o : Option ℕ) → option_map (λ j. 0 + j) o ≡ o
 all_of o = mapped_same (λ j. 0 + j) (λ j. j) o (λ j. omega arith) ∙ option_map_id o

@@ -1,5 +1,6 @@
 -- A stream that is read by whole sections: what its reader gives, and what that makes of the memory.
-use Rattle.std.proofs.Common.{not, ℕ, ◌≡◌, ◌<◌, ◌≤◌, ◌+◌, ◌^◌, List, [], ◌∷◌, ◌++◌, length, map, take, refl, sym, ap, ◌∙◌, inl, inr, Option, Some, None, subst, arith, Bool, true, false}
+use Rattle.std.proofs.Common.{not, ℕ, ◌≡◌, ◌<◌, ◌≤◌, ◌+◌, ◌^◌, List, [], ◌∷◌, ◌++◌, length, map, take, refl, sym, ap, ◌∙◌, inl, inr, Option, Some, None, subst}
+use Rattle.std.proofs.Common.{arith, Bool, true, false}
 use Rattle.std.specs.Prelude.{◌≢◌, All, IfSome, IsTrue, IsFalse, Result, Ok, Err, IsOk, ⊤}
 use Rattle.std.proofs.lemmas.List.{take-append-le, take_all, length-append}
 use Rattle.mig_mem.specs.PageSize.{IsPageSize}
@@ -32,10 +33,12 @@ use Rattle.mig_single_load.specs.LoadInPlace.{settings_for, IsOfTable, HasClosed
 use Rattle.mig_single_load.proofs.Sections.{same_reading}
 use Rattle.mig_single_load.proofs.Onto.{apart}
 use Rattle.mig_single_load.proofs.LoadsInPlace.{own_of, own_first}
-use Rattle.mig_sections.specs.Sections.{SectionsLoad, sections_load, reader_if, IsReadBy, HasSections, HasMissingSections, LoadsSections, GoesOn, Takes, ReadsSome}
+use Rattle.mig_sections.specs.Sections.{SectionsLoad, sections_load, reader_if, IsReadBy, HasSections, HasMissingSections, LoadsSections, GoesOn, Takes}
+use Rattle.mig_sections.specs.Sections.{ReadsSome}
 
 -- a section of a stream of this table is of a memory of it
-pub fits_table : (table : RamTable) (round : RoundOfRecords) → round.page_size ≡ table.page_size → All (λ r. IsPlace table r.place) round.records → FitsTable table round
+pub fits_table : (table : RamTable) (round : RoundOfRecords) → round.page_size ≡ table.page_size → All (λ r. IsPlace table r.place) round.records
+    → FitsTable table round
 fits_table table round size places = record { has_page_size = size; has_places = places }
 
 -- ---- what a memory has
@@ -46,7 +49,8 @@ Holds first sections memory named n =
     (memory ≡ with_rounds first (map (pages_on first) sections)) × (named ≡ named_by first.table (map (pages_on first) sections)) × (n ≡ length sections)
 
 -- the same sections, said otherwise
-holds_same : (first : Image) (a b : List (List PageRecord)) (memory : Image) (named : PlaceSet) (n : ℕ) → a ≡ b → Holds first a memory named n → Holds first b memory named n
+holds_same : (first : Image) (a b : List (List PageRecord)) (memory : Image) (named : PlaceSet) (n : ℕ) → a ≡ b → Holds first a memory named n
+    → Holds first b memory named n
 holds_same first a b memory named n same holds = subst (λ (l : List (List PageRecord)). Holds first l memory named n) same holds
 
 -- a stream that is read by a reader has the memory's table, or none yet
@@ -138,7 +142,8 @@ no_table_yet given first text piece memory named n r s has step none =
     (holds_same first before.rounds now.rounds memory named n same (holds_of given first text memory named n r before has has.in_memory.is_reading))
 
 -- the stream has another table
-pub other_found : (given : LoadSettings) (first : Image) (text piece : List ℕ) (memory : Image) (named : PlaceSet) (n : ℕ) (r : Reader) (table : RamTable) → IsImage first
+pub other_found : (given : LoadSettings) (first : Image) (text piece : List ℕ) (memory : Image) (named : PlaceSet) (n : ℕ) (r : Reader) (table : RamTable)
+    → IsImage first
     → HasSections given first text memory named n (Some r) → HasTable (settings_for first.table given) (text ++ piece) (Some table) → table ≢ first.table
     → HasSections given first (text ++ piece) memory named n None
 other_found given first text piece memory named n r table image has found foreign =
@@ -175,7 +180,8 @@ other_stays given first text piece memory named n has =
 
 -- the stream has the memory's table: the memory has the first sections, and others may wait
 pub own_found : (given : LoadSettings) (first : Image) (text piece : List ℕ) (memory : Image) (named : PlaceSet) (n : ℕ) (r s : Reader)
-    → HasSections given first text memory named n (Some r) → StepsOn (with_piece piece) r s → HasTable (settings_for first.table given) (text ++ piece) (Some first.table)
+    → HasSections given first text memory named n (Some r) → StepsOn (with_piece piece) r s
+    → HasTable (settings_for first.table given) (text ++ piece) (Some first.table)
     → HasPutSections (for_table first.table given) first (text ++ piece) false s (memory_with memory named n)
 own_found given first text piece memory named n r s has step found =
     let load : LoadSettings = for_table first.table given in
@@ -261,8 +267,10 @@ valid_own given first text memory named n r at has valid =
     record { reading = reading; is_reading = has.in_memory.is_reading; own = λ _. (at, refl, valid); other = λ o. absurd (apart first reading own o) }
 
 -- the verdict
-pub verdict_own : (given : LoadSettings) (first : Image) (text : List ℕ) (memory : Image) (named : PlaceSet) (n : ℕ) (r : Reader) (found : StreamState) (v : Result ⊤ LoadFault)
-    → HasSections given first text memory named n (Some r) → HasState (settings_of first given) text false found → v ≡ verdict_of n found → HasVerdictOnto given first text v
+pub verdict_own : (given : LoadSettings) (first : Image) (text : List ℕ) (memory : Image) (named : PlaceSet) (n : ℕ) (r : Reader) (found : StreamState)
+    (v : Result ⊤ LoadFault)
+    → HasSections given first text memory named n (Some r) → HasState (settings_of first given) text false found → v ≡ verdict_of n found
+    → HasVerdictOnto given first text v
 verdict_own given first text memory named n r found v has told is =
     let reading : StreamReading = told.0 in
     let own : IsOfOwnTable first reading = own_read given first text n r reading has.is_page_size has.is_read told.1 in
@@ -287,7 +295,8 @@ still_reads given first text found size told on =
 
 pub not_without : (given : LoadSettings) (first : Image) (text : List ℕ) (memory : Image) (named : PlaceSet) (n : ℕ)
     → HasSections given first text memory named n None → GoesOn given first text → ⊥
-not_without given first text memory named n has on = apart first on.reading on.own (other_read given first text n on.reading has.is_page_size has.is_read on.is_reading)
+not_without given first text memory named n has on = apart first on.reading on.own
+    (other_read given first text n on.reading has.is_page_size has.is_read on.is_reading)
 
 -- a stream that is read by a reader isn't of another table
 pub not_another : (given : LoadSettings) (first : Image) (text : List ℕ) (memory : Image) (named : PlaceSet) (n : ℕ) (r : Reader)
@@ -300,7 +309,8 @@ not_another given first text memory named n r has another =
 -- by its reader
 pub by_reader : (memory : Image) (given : LoadSettings) (first : Image) (s : SectionsLoad) (text : List ℕ) (ended : Bool) (o : Option Reader) → s.reader ≡ o
     → LoadsSections memory given first s text ended → HasSections given first text memory s.named s.sections o
-by_reader memory given first s text ended o is loads = subst (λ (x : Option Reader). HasSections given first text memory s.named s.sections x) is loads.has_sections
+by_reader memory given first s text ended o is loads = subst
+    (λ (x : Option Reader). HasSections given first text memory s.named s.sections x) is loads.has_sections
 
 -- ---- that it goes on
 
@@ -333,7 +343,8 @@ reads_if true table n fed r reads count open_yet = (reads refl, count, open_yet)
 reads_if false table n fed r reads count open_yet = tt
 
 -- a load that was fed a piece more
-pub loads_more : (before after : Image) (given : LoadSettings) (first : Image) (s : SectionsLoad) (text piece : List ℕ) (o : Option Reader) (named : PlaceSet) (n : ℕ)
+pub loads_more : (before after : Image) (given : LoadSettings) (first : Image) (s : SectionsLoad) (text piece : List ℕ) (o : Option Reader) (named : PlaceSet)
+    (n : ℕ)
     → LoadsSections before given first s text false → HasSections given first (text ++ piece) after named n o
     → LoadsSections after given first (sections_load o s.table named n (s.fed + length piece) s.ended) (text ++ piece) false
 loads_more before after given first s text piece o named n loads has = record {

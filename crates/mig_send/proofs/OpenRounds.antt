@@ -1,5 +1,6 @@
 -- An open round: begun, its workers given out and given back, and ended.
-use Rattle.std.proofs.Common.{ℕ, ◌≡◌, ◌+◌, ◌-◌, ◌<◌, List, [], ◌∷◌, ◌++◌, length, get_or, ap, sym, subst, refl, ◌∙◌, ◌==◌, cond, false, arith, inl, inr, append-nil, append_assoc}
+use Rattle.std.proofs.Common.{ℕ, ◌≡◌, ◌+◌, ◌-◌, ◌<◌, List, [], ◌∷◌, ◌++◌, length, get_or, ap, sym, subst, refl, ◌∙◌, ◌==◌, cond, false, arith, inl, inr}
+use Rattle.std.proofs.Common.{append-nil, append_assoc}
 use Rattle.std.specs.List.{All, slice_set}
 use Rattle.std.proofs.lemmas.List.{length-append, length-set, length-replicate, get_or-set_other, get_or_append_left, get_or_push}
 use Rattle.std.proofs.lemmas.List.Elements.{All-nil, All-push, All-replicate}
@@ -22,7 +23,8 @@ use Rattle.mig_send.specs.DealtRounds.{DealtRound, IsDealtRound, packet_count, n
 use Rattle.mig_send.specs.MultiSending.{MultiSending, HasSentOne, KeepsSetting}
 use Rattle.mig_send.specs.ChannelWork.{RoundTerms, ChannelWork, HasPackedTo, HasPackedSoFar, HasPackedShare, seats_of}
 use Rattle.mig_send.specs.Copies.{HasPagesOf, HasPagesBelow, HasPagesPacked}
-use Rattle.mig_send.specs.MultiRound.{OpenMulti, IsOpenMulti, AreWaiting, IsRoundSoFar, IsRoundOfEach, HasPagesSent, HasSentRound, HasSentEach, HandsOut, TakesBack, EndsRound, HasBegun, IsDealtOut, dirty_of, handed_out, none_drained, with_channels, with_memories}
+use Rattle.mig_send.specs.MultiRound.{OpenMulti, IsOpenMulti, AreWaiting, IsRoundSoFar, IsRoundOfEach, HasPagesSent, HasSentRound, HasSentEach, HandsOut}
+use Rattle.mig_send.specs.MultiRound.{TakesBack, EndsRound, HasBegun, IsDealtOut, dirty_of, handed_out, none_drained, with_channels, with_memories}
 use Rattle.mig_send.proofs.Dealings.{shares_are_dealt}
 use Rattle.mig_send.proofs.Gathering.{zip_push, all_end}
 use Rattle.mig_send.proofs.Sendings.{HasFlushed, sent_on}

@@ -1,5 +1,6 @@
 -- What the streams of a sending are read as.
-use Rattle.std.proofs.Common.{ℕ, ◌≡◌, ◌+◌, ◌-◌, ◌<◌, ◌≤◌, ◌^◌, ◌≢◌, List, [], ◌∷◌, ◌++◌, length, map, get_or, ap, sym, subst, refl, ◌∙◌, arith, zero, suc, inl, inr, Bool, true, false, cond, Some, None, append-nil, append_assoc}
+use Rattle.std.proofs.Common.{ℕ, ◌≡◌, ◌+◌, ◌-◌, ◌<◌, ◌≤◌, ◌^◌, ◌≢◌, List, [], ◌∷◌, ◌++◌, length, map, get_or, ap, sym, subst, refl, ◌∙◌, arith, zero, suc, inl}
+use Rattle.std.proofs.Common.{inr, Bool, true, false, cond, Some, None, append-nil, append_assoc}
 use Rattle.std.specs.Prelude.{flat_map, sum_by, ◌==◌, replicate}
 use Rattle.std.specs.List.{All, concat}
 use Rattle.std.proofs.lemmas.Bool.{cases_lt, lt-leb}

@@ -1,5 +1,6 @@
 -- A sender on several channels that has sent one round more, or was drained, or is finished.
-use Rattle.std.proofs.Common.{ℕ, ◌≡◌, ◌+◌, ◌<◌, List, [], ◌∷◌, ◌++◌, length, replicate, get_or, ap, sym, subst, refl, ◌∙◌, arith, zero, suc, inl, inr, append-nil, append_assoc}
+use Rattle.std.proofs.Common.{ℕ, ◌≡◌, ◌+◌, ◌<◌, List, [], ◌∷◌, ◌++◌, length, replicate, get_or, ap, sym, subst, refl, ◌∙◌, arith, zero, suc, inl, inr}
+use Rattle.std.proofs.Common.{append-nil, append_assoc}
 use Rattle.std.specs.Prelude.{sum_by, Vec}
 use Rattle.std.specs.List.{range_with_len}
 use Rattle.std.specs.List.{slice_set}
@@ -13,7 +14,8 @@ use Rattle.std.proofs.lemmas.List.Sums.{sum_by-append}
 use Rattle.mig_stream.specs.Written.{Part, FlushPart, main}
 use Rattle.mig_stream.specs.Writer.{Writer, HasDrained}
 use Rattle.mig_send.specs.DealtRounds.{DealtRound, IsDealtRound, IsSending, AreNumbered, packet_count, round_text, channel_text, channel_texts}
-use Rattle.mig_send.specs.MultiSending.{MultiSending, IsMultiSending, Drained, HasSentRounds, KeepsSetting, KeepsCounts, with_main, with_channel, whole_texts, texts_of}
+use Rattle.mig_send.specs.MultiSending.{MultiSending, IsMultiSending, Drained, HasSentRounds, KeepsSetting, KeepsCounts, with_main, with_channel, whole_texts}
+use Rattle.mig_send.specs.MultiSending.{texts_of}
 use Rattle.mig_send.proofs.Channels.{text_push}
 
 -- ---- one round more

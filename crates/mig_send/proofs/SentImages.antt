@@ -1,5 +1,6 @@
 -- The image of a round whose batches were packed from different memories.
-use Rattle.std.proofs.Common.{ℕ, ◌≡◌, ◌+◌, ◌-◌, ◌<◌, ◌≤◌, ◌∙◌, List, [], ◌∷◌, length, get_or, zero, suc, cond, true, false, refl, sym, ap, subst, arith, inl, inr, ◌==◌}
+use Rattle.std.proofs.Common.{ℕ, ◌≡◌, ◌+◌, ◌-◌, ◌<◌, ◌≤◌, ◌∙◌, List, [], ◌∷◌, length, get_or, zero, suc, cond, true, false, refl, sym, ap, subst, arith, inl}
+use Rattle.std.proofs.Common.{inr, ◌==◌}
 use Rattle.std.specs.Prelude.{nat_lt, flat_map}
 use Rattle.std.specs.List.{All, sum_by, count_by}
 use Rattle.std.proofs.lemmas.Bool.{cases_Bool, cases_lt, cond-true, cond-false, lt-ltb, le-ltb}

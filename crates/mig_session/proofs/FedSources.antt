@@ -1,5 +1,6 @@
 -- What a session's sources say together, and what is noted of each.
-use Rattle.std.proofs.Common.{ℕ, suc, ◌≡◌, ◌+◌, ◌≤◌, Bool, true, false, List, [], ◌∷◌, ◌++◌, length, map, set, get_or, refl, sym, ap, subst, ◌∙◌, Option, Some, None, arith}
+use Rattle.std.proofs.Common.{ℕ, suc, ◌≡◌, ◌+◌, ◌≤◌, Bool, true, false, List, [], ◌∷◌, ◌++◌, length, map, set, get_or, refl, sym, ap, subst, ◌∙◌, Option, Some}
+use Rattle.std.proofs.Common.{None, arith}
 use Rattle.std.specs.Prelude.{◌&&◌, ◌↔◌, IsTrue, slice_get, Result, Ok, Err, IfOk, OnOk, OnErr}
 use Rattle.std.specs.List.{All, AllZip, enumerate_from, list_all}
 use Rattle.std.proofs.lemmas.Bool.{and_parts}

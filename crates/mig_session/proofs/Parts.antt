@@ -1,10 +1,12 @@
 -- Of each source some bytes were taken, and the others wait: what a step of one source leaves of
 -- this.
-use Rattle.std.proofs.Common.{ℕ, zero, suc, ◌≡◌, ◌≢◌, ◌⊎◌, ◌+◌, ◌<◌, Bool, true, false, List, [], ◌∷◌, ◌++◌, append_assoc, length, take, drop, get_or, replicate, refl, sym, ap, subst, ◌∙◌, inl, inr, arith}
+use Rattle.std.proofs.Common.{ℕ, zero, suc, ◌≡◌, ◌≢◌, ◌⊎◌, ◌+◌, ◌<◌, Bool, true, false, List, [], ◌∷◌, ◌++◌, append_assoc, length, take, drop, get_or}
+use Rattle.std.proofs.Common.{replicate, refl, sym, ap, subst, ◌∙◌, inl, inr, arith}
 use Rattle.std.specs.Prelude.{IsFalse}
 use Rattle.std.specs.List.{AllZip}
 use Rattle.std.proofs.lemmas.Bool.{cases_eq}
-use Rattle.std.proofs.lemmas.List.{append-nil, length-append, length-map, length-set, length-replicate, get_or-map, get_or-set_same, get_or-set_other, set-get_or, take-append-drop}
+use Rattle.std.proofs.lemmas.List.{append-nil, length-append, length-map, length-set, length-replicate, get_or-map, get_or-set_same, get_or-set_other}
+use Rattle.std.proofs.lemmas.List.{set-get_or, take-append-drop}
 use Rattle.mig_sources.specs.declared.counts.Count.{Count}
 use Rattle.mig_sources.specs.declared.source.Source.{Source}
 use Rattle.mig_sources.specs.declared.source.Source.TheVariants as source

@@ -1,5 +1,6 @@
 -- What a pump has read and fed so far.
-use Rattle.std.proofs.Common.{ℕ, zero, suc, ◌≡◌, ◌≢◌, ◌+◌, ◌*◌, ◌^◌, ◌<◌, ◌≤◌, List, [], ◌∷◌, ◌++◌, length, take, drop, refl, sym, ap, ◌∙◌, Option, arith, subst, inl, inr, get_or, add-zero, add_assoc, Result, Ok, Err}
+use Rattle.std.proofs.Common.{ℕ, zero, suc, ◌≡◌, ◌≢◌, ◌+◌, ◌*◌, ◌^◌, ◌<◌, ◌≤◌, List, [], ◌∷◌, ◌++◌, length, take, drop, refl, sym, ap, ◌∙◌, Option, arith}
+use Rattle.std.proofs.Common.{subst, inl, inr, get_or, add-zero, add_assoc, Result, Ok, Err}
 use Rattle.std.specs.Prelude.{slice_set, IsErr, IsErrAnd, All, Bool, ◌&&◌, nat_lt, if◌then◌else◌}
 use Rattle.std.specs.List.{concat}
 use Rattle.std.specs.Io.KnownBytes.{Consumes, IsAtEnd}

@@ -1,5 +1,6 @@
 -- A channel that is scanned: a piece is read result by result, to its end or to a fault.
-use Rattle.std.proofs.Common.{ℕ, ◌≡◌, ◌≢◌, ◌+◌, ◌-◌, ◌<◌, ◌≤◌, Bool, true, false, List, [], ◌∷◌, ◌++◌, append_assoc, length, take, drop, refl, sym, ap, subst, ◌∙◌, inl, inr, Option, Some, None, arith}
+use Rattle.std.proofs.Common.{ℕ, ◌≡◌, ◌≢◌, ◌+◌, ◌-◌, ◌<◌, ◌≤◌, Bool, true, false, List, [], ◌∷◌, ◌++◌, append_assoc, length, take, drop, refl, sym, ap, subst}
+use Rattle.std.proofs.Common.{◌∙◌, inl, inr, Option, Some, None, arith}
 use Rattle.std.specs.Prelude.{◌↔◌, IsFalse, IfSome}
 use Rattle.std.specs.Option.{IsSomeAnd}
 use Rattle.std.proofs.lemmas.Bool.{ne_eqb}
@@ -15,7 +16,8 @@ use Rattle.mig_packet.specs.Progress.{ChannelProgress, start, after_packet}
 use Rattle.mig_packet.specs.PageSize.{IsPageSize}
 use Rattle.mig_packet.specs.Reading.{Settings, ChannelReading, IsReading, state_at}
 use Rattle.mig_packet.specs.Reader.{HasState, IsValidUpTo}
-use Rattle.mig_packet.specs.Paging.{GivenSoFar, OpenPacket, PageHolder, Gives, GivesOn, HolderTells, HasReading, Comes, Completes, Stops, NeedsMore, IsShort, is_complete, bytes_of, open_bytes, read_to, kept_of, with_came, with_packet}
+use Rattle.mig_packet.specs.Paging.{GivenSoFar, OpenPacket, PageHolder, Gives, GivesOn, HolderTells, HasReading, Comes, Completes, Stops, NeedsMore, IsShort}
+use Rattle.mig_packet.specs.Paging.{is_complete, bytes_of, open_bytes, read_to, kept_of, with_came, with_packet}
 use Rattle.mig_packet.proofs.PagingSteps.{none_kept}
 use Rattle.mig_packet.proofs.Later.{Reads-more}
 use Rattle.mig_packet.proofs.Exists.{one_reading_law}

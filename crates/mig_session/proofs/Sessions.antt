@@ -1,5 +1,6 @@
 -- What a session represents: before the first piece, after each, and once a source has ended.
-use Rattle.std.proofs.Common.{ℕ, zero, suc, ◌≡◌, ◌≢◌, ◌⊎◌, ◌+◌, ◌<◌, ◌≤◌, ◌^◌, Bool, true, false, List, [], ◌∷◌, ◌++◌, length, map, get_or, replicate, refl, sym, ap, subst, ◌∙◌, inl, inr, Option, Some, None, arith}
+use Rattle.std.proofs.Common.{ℕ, zero, suc, ◌≡◌, ◌≢◌, ◌⊎◌, ◌+◌, ◌<◌, ◌≤◌, ◌^◌, Bool, true, false, List, [], ◌∷◌, ◌++◌, length, map, get_or, replicate, refl}
+use Rattle.std.proofs.Common.{sym, ap, subst, ◌∙◌, inl, inr, Option, Some, None, arith}
 use Rattle.std.specs.Prelude.{◌↔◌, IsTrue, IsFalse, slice_get, Result, Ok, Err, OnOk, IfSome}
 use Rattle.std.specs.List.{AllZip, All, enumerate_from, list_all}
 use Rattle.std.specs.Option.{option_map, option_and_then}
@@ -40,7 +41,9 @@ use Rattle.mig_session.specs.Scan.{HasOnly}
 use Rattle.mig_session.specs.Sources.{Places, Waits, Holds}
 use Rattle.mig_session.specs.Loading.{RoundLoad, Feeding, fed, over as feeding_over, HasRoom, TakesOrWaits, HasAloneIfAny}
 use Rattle.mig_sources.specs.Sources.{Counts, HasSource, count_of, no_count, with_fed, with_end, count_in, counts_in, feed_step, end_step}
-use Rattle.mig_session.specs.Session.{Fed, Held, held_of, target_in, LoadSession, rounds_loaded, missing_in, answer_in, feeding, LoadsWith, IsRunning, IsOfSession, place_of, noted_fault, nothing_noted, IsNotedOfChannel, HasPlaces, HavePlaces, HaveOnly, TellAllIn, HasAllRounds, HasMissing, AsRead, StandsFor, LacksMemory, session, StandsForSome, IsSession}
+use Rattle.mig_session.specs.Session.{Fed, Held, held_of, target_in, LoadSession, rounds_loaded, missing_in, answer_in, feeding, LoadsWith, IsRunning}
+use Rattle.mig_session.specs.Session.{IsOfSession, place_of, noted_fault, nothing_noted, IsNotedOfChannel, HasPlaces, HavePlaces, HaveOnly, TellAllIn}
+use Rattle.mig_session.specs.Session.{HasAllRounds, HasMissing, AsRead, StandsFor, LacksMemory, session, StandsForSome, IsSession}
 use Rattle.mig_sources.specs.Faults.{HasFault, HasMainFault, HasChannelFault, IsSourceValidUpTo}
 use Rattle.mig_session.specs.Advancing.{IsTold, IsFedNext, failed_without_memory}
 use Rattle.mig_answer.proofs.Statuses.{clean_at, stream_closed, passes_all}
@@ -48,7 +51,8 @@ use Rattle.mig_answer.proofs.Never.{done_is_clean}
 use Rattle.mig_answer.proofs.OneAnswer.{some_readings}
 use Rattle.mig_answer.proofs.Growing.{answers_law, wants_law}
 use Rattle.mig_sources.proofs.First.{nothing_read, main_nothing}
-use Rattle.mig_sources.proofs.Steps.{counts_fed, stays_same, counts_ended, goes_then, all_same, as_many_texts, fed_goes_on, all_then, none_counted, ended_goes_on}
+use Rattle.mig_sources.proofs.Steps.{counts_fed, stays_same, counts_ended, goes_then, all_same, as_many_texts, fed_goes_on, all_then, none_counted}
+use Rattle.mig_sources.proofs.Steps.{ended_goes_on}
 use Rattle.mig_session.proofs.MainScanning.{fault_is as main_fault}
 use Rattle.mig_session.proofs.Scanning.{fault_read as channel_fault}
 use Rattle.mig_session.proofs.Parts.{count_text, room_goes}

@@ -1,6 +1,7 @@
 -- A load that takes the bytes so far: what each call leaves, and its answer once nothing is left to
 -- take.
-use Rattle.std.proofs.Common.{ℕ, zero, suc, ◌≡◌, ◌≢◌, ◌⊎◌, ◌+◌, ◌<◌, Bool, true, false, not, ◌||◌, List, [], ◌∷◌, ◌++◌, length, map, take, drop, get_or, refl, sym, ap, subst, ◌∙◌, inl, inr, Option, Some, None, arith}
+use Rattle.std.proofs.Common.{ℕ, zero, suc, ◌≡◌, ◌≢◌, ◌⊎◌, ◌+◌, ◌<◌, Bool, true, false, not, ◌||◌, List, [], ◌∷◌, ◌++◌, length, map, take, drop, get_or, refl}
+use Rattle.std.proofs.Common.{sym, ap, subst, ◌∙◌, inl, inr, Option, Some, None, arith}
 use Rattle.std.specs.Prelude.{IsFalse}
 use Rattle.std.specs.List.{AllZip, list_any, range_with_len}
 use Rattle.std.specs.Option.{option_map}
@@ -51,13 +52,15 @@ use Rattle.mig_in_place.proofs.Waiting.{waits_here}
 use Rattle.mig_in_place.proofs.WholeRounds.{alone_goes, taken_counts}
 use Rattle.mig_session.specs.Ahead.{Wait}
 use Rattle.mig_session.specs.Sources.{Waits, waiting_of, with_waiting}
-use Rattle.mig_session.specs.Loading.{RoundLoad, first_of, Took, TakesOn, KeepsAlone, Feeding, fed, over, HasRoom, Counted, IsPart, Takes, HasAlone, IsDone, IsSettled, Settles}
+use Rattle.mig_session.specs.Loading.{RoundLoad, first_of, Took, TakesOn, KeepsAlone, Feeding, fed, over, HasRoom, Counted, IsPart, Takes, HasAlone, IsDone}
+use Rattle.mig_session.specs.Loading.{IsSettled, Settles}
 use Rattle.mig_session.specs.Advancing.{IsTold}
 use Rattle.mig_session.proofs.Ahead.{answers_ahead}
 use Rattle.mig_session.proofs.MainScanning.{same_found, no_rounds}
 use Rattle.mig_in_place.specs.Turns.{number_of}
 use Rattle.mig_in_place.proofs.Turning.{text_same, text_other, texts_long}
-use Rattle.mig_session.proofs.Parts.{part_open, same_or_not, number_few, there_too, there_before, there_after, count_text, part_few, part_all, parts_pushed, parts_taken, parts_fed, parts_ended, parts_over, parts_go}
+use Rattle.mig_session.proofs.Parts.{part_open, same_or_not, number_few, there_too, there_before, there_after, count_text, part_few, part_all, parts_pushed}
+use Rattle.mig_session.proofs.Parts.{parts_taken, parts_fed, parts_ended, parts_over, parts_go}
 
 -- ---- the load's settings
 

@@ -1,6 +1,7 @@
 -- What comes next in a stream that is loaded in place, and a page that the caller has read to where
 -- it belongs.
-use Rattle.std.proofs.Common.{ℕ, ◌≡◌, ◌+◌, ◌-◌, ◌<◌, ◌^◌, false, arith, List, [], ◌∷◌, ◌++◌, length, map, Option, Some, None, refl, sym, ap, ◌∙◌, subst, inl, inr, append_assoc}
+use Rattle.std.proofs.Common.{ℕ, ◌≡◌, ◌+◌, ◌-◌, ◌<◌, ◌^◌, false, arith, List, [], ◌∷◌, ◌++◌, length, map, Option, Some, None, refl, sym, ap, ◌∙◌, subst, inl}
+use Rattle.std.proofs.Common.{inr, append_assoc}
 use Rattle.std.specs.Prelude.{IfSome, IsSome, MatchOption, min}
 use Rattle.std.specs.Option.{option_and_then}
 use Rattle.std.proofs.lemmas.List.{append-nil, length-append, length-replicate, map-append}
@@ -36,7 +37,8 @@ use Rattle.mig_load_types.specs.declared.settings.LoadSettings.{LoadSettings}
 use Rattle.mig_single_load.specs.declared.in_place_state.LoadState.{LoadState}
 use Rattle.mig_single_load.specs.declared.in_place_state.LoadState.TheVariants as load_state
 use Rattle.mig_single_load.specs.InPlace.{settings_of, IsOfOwnTable, pages_on, pages_of_all, HasRecordsOnto, HasNamedOnto}
-use Rattle.mig_single_load.specs.LoadInPlace.{given_pages, given_places, NamesAt, Names, settings_for, IsOfTable, PausesOnto, PausesSome, StandsOnto, LoadInPlace, load_in_place, LoadsInPlace, IsLoadInPlace}
+use Rattle.mig_single_load.specs.LoadInPlace.{given_pages, given_places, NamesAt, Names, settings_for, IsOfTable, PausesOnto, PausesSome, StandsOnto}
+use Rattle.mig_single_load.specs.LoadInPlace.{LoadInPlace, load_in_place, LoadsInPlace, IsLoadInPlace}
 use Rattle.mig_single_load.specs.ComesNext.{page_wanted, page_asked, IsReadOn, BringsPage, NeedsBytes, ComesNext}
 use Rattle.mig_single_load.proofs.Sections.{same_reading}
 use Rattle.mig_single_load.proofs.Onto.{apart}

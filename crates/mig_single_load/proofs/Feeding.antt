@@ -1,5 +1,6 @@
 -- A loader that is fed in pieces.
-use Rattle.std.proofs.Common.{ℕ, ◌≡◌, ◌≤◌, ◌<◌, ◌+◌, ◌^◌, List, [], ◌++◌, length, take, refl, sym, ap, ◌∙◌, inl, inr, Bool, false, Option, Some, None, subst, arith}
+use Rattle.std.proofs.Common.{ℕ, ◌≡◌, ◌≤◌, ◌<◌, ◌+◌, ◌^◌, List, [], ◌++◌, length, take, refl, sym, ap, ◌∙◌, inl, inr, Bool, false, Option, Some, None, subst}
+use Rattle.std.proofs.Common.{arith}
 use Rattle.std.specs.Prelude.{⊤, IsOk, OnOk, OnErr, Result, Ok, Err}
 use Rattle.std.proofs.lemmas.List.{take-append-le, length-append}
 use Rattle.mig_mem.specs.PageSize.{IsPageSize}

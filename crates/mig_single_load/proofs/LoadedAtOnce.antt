@@ -1,6 +1,7 @@
 -- Records that are written into memory as they come, and what that leaves where the stream is
 -- closed.
-use Rattle.std.proofs.Common.{ℕ, ◌≡◌, ◌≢◌, ◌+◌, ◌*◌, ◌^◌, ◌<◌, ◌≤◌, not, List, [], ◌∷◌, ◌++◌, length, map, refl, sym, ap, ◌∙◌, subst, append_assoc, Option, Some, None, arith, All}
+use Rattle.std.proofs.Common.{ℕ, ◌≡◌, ◌≢◌, ◌+◌, ◌*◌, ◌^◌, ◌<◌, ◌≤◌, not, List, [], ◌∷◌, ◌++◌, length, map, refl, sym, ap, ◌∙◌, subst, append_assoc, Option}
+use Rattle.std.proofs.Common.{Some, None, arith, All}
 use Rattle.std.specs.Prelude.{IfSome}
 use Rattle.std.proofs.lemmas.List.{map-append, append-nil, length-append}
 use Rattle.mig_mem.specs.PageSize.{IsPageSize}
@@ -19,7 +20,8 @@ use Rattle.mig_stream.specs.PageRecord.{PageRecord, page_of}
 use Rattle.mig_stream.specs.Reading.{StreamReading}
 use Rattle.mig_stream.specs.Reader.{HasTable, IsValidUpTo}
 use Rattle.mig_stream.specs.Round.{RoundOfRecords}
-use Rattle.mig_stream.specs.Giving.{Giver, GivenSoFar, none_given, with_more, with_last, with_given, Gives, GivesOn, GiverTells, EndsSo, HasReading, TellsFound, left, LeavesLess}
+use Rattle.mig_stream.specs.Giving.{Giver, GivenSoFar, none_given, with_more, with_last, with_given, Gives, GivesOn, GiverTells, EndsSo, HasReading, TellsFound}
+use Rattle.mig_stream.specs.Giving.{left, LeavesLess}
 use Rattle.mig_stream.proofs.Valid.{closed_is_valid}
 use Rattle.mig_assemble.specs.Judging.{places_of}
 use Rattle.mig_assemble.specs.NamedPlaces.{places_in, left_out, missing_of, with_places}

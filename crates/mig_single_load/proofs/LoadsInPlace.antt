@@ -1,6 +1,7 @@
 -- A load in place that writes each page as it is read: its loops, and what it represents between
 -- calls.
-use Rattle.std.proofs.Common.{ℕ, suc, cond, ◌≡◌, ◌≢◌, ◌⊎◌, ◌+◌, ◌<◌, ◌^◌, false, arith, List, [], ◌∷◌, ◌++◌, length, map, Option, Some, None, All, refl, sym, ap, ◌∙◌, subst, inl, inr, append_assoc, not}
+use Rattle.std.proofs.Common.{ℕ, suc, cond, ◌≡◌, ◌≢◌, ◌⊎◌, ◌+◌, ◌<◌, ◌^◌, false, arith, List, [], ◌∷◌, ◌++◌, length, map, Option, Some, None, All, refl, sym}
+use Rattle.std.proofs.Common.{ap, ◌∙◌, subst, inl, inr, append_assoc, not}
 use Rattle.std.specs.Prelude.{IfSome, Result, Ok, ⊤}
 use Rattle.std.specs.Option.{option_map_or, option_or}
 use Rattle.std.proofs.lemmas.Bool.{cases_Bool, cond-false}
@@ -26,7 +27,8 @@ use Rattle.mig_stream.specs.Progress.{StreamProgress, start, whole_table}
 use Rattle.mig_stream.specs.Reading.{Settings, StreamReading, IsReading, Ends, Reads}
 use Rattle.mig_stream.specs.Reader.{HasTable, IsFinal, IsValidUpTo}
 use Rattle.mig_stream.specs.Round.{RoundOfRecords}
-use Rattle.mig_stream.specs.Giving.{Giver, GivenSoFar, none_given, with_last, with_given, Gives, GivesOn, GiverTells, EndsSo, LeavesNone, HasNoneLeft, HasReading, LeavesLess, all_read, Paused, giver_at, PausesAt}
+use Rattle.mig_stream.specs.Giving.{Giver, GivenSoFar, none_given, with_last, with_given, Gives, GivesOn, GiverTells, EndsSo, LeavesNone, HasNoneLeft}
+use Rattle.mig_stream.specs.Giving.{HasReading, LeavesLess, all_read, Paused, giver_at, PausesAt}
 use Rattle.mig_stream.specs.Law.{StaysRead}
 use Rattle.mig_stream.specs.Written.{single}
 use Rattle.mig_stream.proofs.Between.{closed_is_empty}
@@ -47,8 +49,12 @@ use Rattle.mig_single_load.specs.declared.in_place_state.LoadState.{LoadState}
 use Rattle.mig_single_load.specs.declared.in_place_state.LoadState.TheVariants as load_state
 use Rattle.mig_load_types.specs.declared.fault.LoadFault.{LoadFault}
 use Rattle.mig_single_load.specs.SingleLoad.{verdict_of}
-use Rattle.mig_single_load.specs.InPlace.{settings_of, IsOfOwnTable, IsOfOtherTable, HasOtherTable, pages_on, pages_of_all, HasRecordsOnto, HasNamedOnto, HasMissingOnto, HasVerdictOnto}
-use Rattle.mig_single_load.specs.LoadInPlace.{InPlaceKeepsOtherPlaces, InPlaceOkIsWhole, SentIsLoadedInPlace, given_pages, given_places, settings_for, IsOfTable, IsEnd, GaveNext, PutsNext, PutsNextSome, GaveAll, GivesAll, PutsAll, NamesAll, NamesAt, Names, PausesOnto, PausesSome, IsInState, StandsOnto, LoadInPlace, load_in_place, LoadsInPlace, HasSomeOnto, PutsSome, LacksMemory, closed_place, valid_place, HasClosedAtOnto, IsValidUpToOnto}
+use Rattle.mig_single_load.specs.InPlace.{settings_of, IsOfOwnTable, IsOfOtherTable, HasOtherTable, pages_on, pages_of_all, HasRecordsOnto, HasNamedOnto}
+use Rattle.mig_single_load.specs.InPlace.{HasMissingOnto, HasVerdictOnto}
+use Rattle.mig_single_load.specs.LoadInPlace.{InPlaceKeepsOtherPlaces, InPlaceOkIsWhole, SentIsLoadedInPlace, given_pages, given_places, settings_for}
+use Rattle.mig_single_load.specs.LoadInPlace.{IsOfTable, IsEnd, GaveNext, PutsNext, PutsNextSome, GaveAll, GivesAll, PutsAll, NamesAll, NamesAt, Names}
+use Rattle.mig_single_load.specs.LoadInPlace.{PausesOnto, PausesSome, IsInState, StandsOnto, LoadInPlace, load_in_place, LoadsInPlace, HasSomeOnto, PutsSome}
+use Rattle.mig_single_load.specs.LoadInPlace.{LacksMemory, closed_place, valid_place, HasClosedAtOnto, IsValidUpToOnto}
 use Rattle.mig_single_load.proofs.Sections.{same_reading}
 use Rattle.mig_single_load.proofs.Onto.{apart, sent_verdict, sent_sections}
 use Rattle.mig_single_load.proofs.LoadedAtOnce.{given_more, given_last}

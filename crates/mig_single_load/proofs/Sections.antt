@@ -1,6 +1,7 @@
 -- The sections of a stream that are applied to a memory, one after another, and the answer that
 -- they make.
-use Rattle.std.proofs.Common.{ℕ, ◌≡◌, ◌+◌, ◌<◌, ◌≤◌, Bool, true, false, List, [], ◌∷◌, ◌++◌, length, map, take, refl, sym, ap, ◌∙◌, inl, inr, Option, Some, None, arith, subst, not}
+use Rattle.std.proofs.Common.{ℕ, ◌≡◌, ◌+◌, ◌<◌, ◌≤◌, Bool, true, false, List, [], ◌∷◌, ◌++◌, length, map, take, refl, sym, ap, ◌∙◌, inl, inr, Option, Some}
+use Rattle.std.proofs.Common.{None, arith, subst, not}
 use Rattle.std.specs.Prelude.{◌⊎◌, ⊤, IfSome, IfNone, IfOk, IsOk, Result, Ok, Err, slice_index_or}
 use Rattle.std.specs.List.{All}
 use Rattle.std.proofs.lemmas.List.{map-append, take_more, take_all, append-nil, length-append, length-map}
@@ -41,8 +42,10 @@ use Rattle.mig_load_types.specs.Settings.{single_of, ram_settings}
 use Rattle.mig_load_types.specs.declared.settings.LoadSettings.{LoadSettings}
 use Rattle.mig_load_types.specs.declared.loaded.Loaded.{Loaded}
 use Rattle.mig_load_types.specs.declared.fault.LoadFault.{LoadFault}
-use Rattle.mig_single_load.specs.SingleLoad.{memory_after, named_after, missing_after, verdict_of, IsSingleAnswer, IsSingleWithoutMemory, HasLoadedRounds, unloaded}
-use Rattle.mig_single_load.specs.Loader.{Loader, loader, memory_of, sections_loaded, HasAllSections, Waits, put_so_far, Loads, HasVerdict, Judges, TellsMissing, Answers, HasFirst, HasPutSections, HasPutAllSections, WasFed}
+use Rattle.mig_single_load.specs.SingleLoad.{memory_after, named_after, missing_after, verdict_of, IsSingleAnswer, IsSingleWithoutMemory, HasLoadedRounds}
+use Rattle.mig_single_load.specs.SingleLoad.{unloaded}
+use Rattle.mig_single_load.specs.Loader.{Loader, loader, memory_of, sections_loaded, HasAllSections, Waits, put_so_far, Loads, HasVerdict, Judges, TellsMissing}
+use Rattle.mig_single_load.specs.Loader.{Answers, HasFirst, HasPutSections, HasPutAllSections, WasFed}
 
 -- the pages of some sections
 abbrev pub pages_in : ℕ → List (List PageRecord) → List (List Page)

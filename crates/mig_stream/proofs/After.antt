@@ -5,7 +5,8 @@ use Rattle.mig_stream.specs.declared.item.Mode.{Mode}
 use Rattle.mig_stream.specs.declared.item.Due.TheVariants as due
 use Rattle.mig_stream.specs.PageRecord.{PageRecord}
 use Rattle.mig_stream.specs.Progress.{StreamProgress}
-use Rattle.mig_stream.specs.Items.{is_single, is_start, has_none, flush_mode, flush_ends, flush_rounds, less_room, open_records, whole_rounds, end_section, end_records, eos_mode, eos_records, eos_rounds}
+use Rattle.mig_stream.specs.Items.{is_single, is_start, has_none, flush_mode, flush_ends, flush_rounds, less_room, open_records, whole_rounds, end_section}
+use Rattle.mig_stream.specs.Items.{end_records, eos_mode, eos_records, eos_rounds}
 use Rattle.mig_stream.specs.Text.{Record, PageOf, FlushMark, HasNoFlush, named_after}
 
 -- with any number of page records in the open round

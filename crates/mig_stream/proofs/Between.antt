@@ -14,13 +14,15 @@ use Rattle.mig_stream.specs.declared.item.EntryForm.TheVariants.{Plain, Addresse
 use Rattle.mig_stream.specs.declared.item.PassedItem.{PassedItem}
 use Rattle.mig_stream.specs.declared.item.PassedItem.TheVariants.{Command, SubsectionHead, SubsectionBody, Capability, Address}
 use Rattle.mig_stream.specs.declared.item.Due.{Due}
-use Rattle.mig_stream.specs.declared.item.Due.TheVariants.{FileHeader, TypeByte, ConfigLength, ConfigName, StartHead, SectionHead, RecordHead, ListEntry, PageSize, BlockName, Content, Footer, Passed, Nothing}
+use Rattle.mig_stream.specs.declared.item.Due.TheVariants.{FileHeader, TypeByte, ConfigLength, ConfigName, StartHead, SectionHead, RecordHead, ListEntry}
+use Rattle.mig_stream.specs.declared.item.Due.TheVariants.{PageSize, BlockName, Content, Footer, Passed, Nothing}
 use Rattle.mig_stream.specs.declared.item.RecordKind.{RecordKind}
 use Rattle.mig_stream.specs.declared.item.RecordKind.TheVariants.{SizeList, Named, Continued, EndOfSection, Flush}
 use Rattle.mig_stream.specs.Fields.{be32_at}
 use Rattle.mig_stream.specs.PageRecord.{PageRecord}
 use Rattle.mig_stream.specs.Progress.{StreamProgress, start}
-use Rattle.mig_stream.specs.Items.{length_in, is_page_size, is_passed, passed_by, entry_due, behind_passed, end_section, after_type, after_type_byte, after_head, open_records, after_item, after}
+use Rattle.mig_stream.specs.Items.{length_in, is_page_size, is_passed, passed_by, entry_due, behind_passed, end_section, after_type, after_type_byte}
+use Rattle.mig_stream.specs.Items.{after_head, open_records, after_item, after}
 use Rattle.mig_stream.specs.Later.{is_open}
 use Rattle.mig_stream.specs.Reading.{AreFaultless, after_all, Front}
 use Rattle.mig_stream.proofs.Feeding.{front_item}

@@ -1,5 +1,6 @@
 -- A main stream that is closed has no page record that no FLUSH follows.
-use Rattle.std.proofs.Common.{◌≡◌, ◌≢◌, ℕ, ◌+◌, ◌-◌, ◌==◌, ◌&&◌, ◌||◌, not, Bool, true, false, cond, List, [], ◌∷◌, length, Option, Some, None, refl, sym, ap, subst, ◌∙◌, inl, inr, is_none}
+use Rattle.std.proofs.Common.{◌≡◌, ◌≢◌, ℕ, ◌+◌, ◌-◌, ◌==◌, ◌&&◌, ◌||◌, not, Bool, true, false, cond, List, [], ◌∷◌, length, Option, Some, None, refl, sym, ap}
+use Rattle.std.proofs.Common.{subst, ◌∙◌, inl, inr, is_none}
 use Rattle.std.specs.Prelude.{slice_index}
 use Rattle.std.proofs.lemmas.Bool.{cases_Bool, cond-false, eqb-true, or_cases, or_parts, not-false}
 use Rattle.std.proofs.lemmas.List.{nil_from_length}
@@ -21,11 +22,14 @@ use Rattle.mig_stream.specs.declared.item.RecordKind.TheVariants.{SizeList, Name
 use Rattle.mig_stream.specs.declared.item.EntryForm.{EntryForm}
 use Rattle.mig_stream.specs.declared.item.EntryForm.TheVariants.{Plain, Addressed, Sized}
 use Rattle.mig_stream.specs.declared.item.Due.{Due}
-use Rattle.mig_stream.specs.declared.item.Due.TheVariants.{FileHeader, TypeByte, ConfigLength, ConfigName, StartHead, SectionHead, RecordHead, ListEntry, PageSize, BlockName, Content, Footer, Passed, Nothing}
+use Rattle.mig_stream.specs.declared.item.Due.TheVariants.{FileHeader, TypeByte, ConfigLength, ConfigName, StartHead, SectionHead, RecordHead, ListEntry}
+use Rattle.mig_stream.specs.declared.item.Due.TheVariants.{PageSize, BlockName, Content, Footer, Passed, Nothing}
 use Rattle.mig_stream.specs.Format.{configuration_type, section_type, end_byte, subsection_version}
 use Rattle.mig_stream.specs.PageRecord.{PageRecord}
 use Rattle.mig_stream.specs.Progress.{StreamProgress, start}
-use Rattle.mig_stream.specs.Items.{is_page_size, entry_due, id_in, is_single, is_allowed, is_passed, has_tail, closes, footer_of, subsection_of, body_of, capabilities_due, behind_passed, passed_by, after_type, after_type_byte, after_head, after_item, after, end_section, faults, open_records}
+use Rattle.mig_stream.specs.Items.{is_page_size, entry_due, id_in, is_single, is_allowed, is_passed, has_tail, closes, footer_of, subsection_of, body_of}
+use Rattle.mig_stream.specs.Items.{capabilities_due, behind_passed, passed_by, after_type, after_type_byte, after_head, after_item, after, end_section, faults}
+use Rattle.mig_stream.specs.Items.{open_records}
 use Rattle.mig_stream.specs.Fields.{be32_at}
 use Rattle.mig_stream.specs.Reading.{AreFaultless, after_all, Front}
 use Rattle.mig_stream.proofs.Feeding.{front_item}

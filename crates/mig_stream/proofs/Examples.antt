@@ -19,7 +19,8 @@ use Rattle.mig_stream.specs.Progress.{StreamProgress, start}
 use Rattle.mig_stream.specs.Items.{first_fault}
 use Rattle.mig_stream.specs.Reading.{settings, in_frame, after_all, Front}
 use Rattle.mig_stream.specs.Text.{file_header, size_list, start_head, body, footer, section as spelled_section}
-use Rattle.mig_stream.specs.Machine.{Command, command_bytes, command, Uuid, Capabilities, form_of, tailed_list, configured, subsection_head, subsection, CommandOf, part_or_command}
+use Rattle.mig_stream.specs.Machine.{Command, command_bytes, command, Uuid, Capabilities, form_of, tailed_list, configured, subsection_head, subsection}
+use Rattle.mig_stream.specs.Machine.{CommandOf, part_or_command}
 use Rattle.mig_stream.specs.Reader.{IsClosedAt}
 use Rattle.mig_stream.proofs.Closing.{closed_by}
 use Rattle.mig_stream.specs.Written.{RoundPart, FlushPart, written, written_parts, opening, closing}

@@ -1,5 +1,6 @@
 -- A main stream whose EOS ends a round too is read as the same stream with a FLUSH before each EOS.
-use Rattle.std.proofs.Common.{◌≡◌, ◌⊎◌, inl, inr, ℕ, cond, ◌+◌, ◌*◌, ◌/◌, ◌%◌, Bool, true, false, not, ◌&&◌, ◌||◌, ◌==◌, List, [], ◌∷◌, ◌++◌, length, Option, Some, None, refl, sym, ap, subst, ◌∙◌, arith}
+use Rattle.std.proofs.Common.{◌≡◌, ◌⊎◌, inl, inr, ℕ, cond, ◌+◌, ◌*◌, ◌/◌, ◌%◌, Bool, true, false, not, ◌&&◌, ◌||◌, ◌==◌, List, [], ◌∷◌, ◌++◌, length, Option}
+use Rattle.std.proofs.Common.{Some, None, refl, sym, ap, subst, ◌∙◌, arith}
 use Rattle.std.specs.Prelude.{slice_index, is_none}
 use Rattle.std.specs.List.{concat}
 use Rattle.std.proofs.lemmas.List.{length-append}
@@ -9,7 +10,8 @@ use Rattle.mig_stream.specs.declared.item.Mode.{Mode}
 use Rattle.mig_stream.specs.declared.item.Mode.TheVariants.{Main, MainBySection}
 use Rattle.mig_stream.specs.declared.item.Filling.TheVariants.{Zero, Normal}
 use Rattle.mig_stream.specs.declared.item.Due.{Due}
-use Rattle.mig_stream.specs.declared.item.Due.TheVariants.{FileHeader, TypeByte, ConfigLength, ConfigName, StartHead, SectionHead, RecordHead, ListEntry, PageSize, BlockName, Content, Footer, Passed, Nothing}
+use Rattle.mig_stream.specs.declared.item.Due.TheVariants.{FileHeader, TypeByte, ConfigLength, ConfigName, StartHead, SectionHead, RecordHead, ListEntry}
+use Rattle.mig_stream.specs.declared.item.Due.TheVariants.{PageSize, BlockName, Content, Footer, Passed, Nothing}
 use Rattle.mig_stream.specs.declared.item.RecordKind.{RecordKind}
 use Rattle.mig_stream.specs.declared.item.RecordKind.TheVariants.{SizeList, Named, Continued, EndOfSection, Flush}
 use Rattle.mig_stream.specs.declared.item.StreamState.{StreamState}
@@ -20,7 +22,10 @@ use Rattle.mig_stream.specs.declared.fault.StreamFault.TheVariants as fault
 use Rattle.mig_stream.specs.Fields.{be64, be64_at, be32_at}
 use Rattle.mig_stream.specs.Format.{end_byte, footer_type, flags_of}
 use Rattle.mig_stream.specs.Progress.{StreamProgress}
-use Rattle.mig_stream.specs.Items.{size, is_page_size, record_kind, is_single, has_tail, is_allowed, is_passed, closes, passed_by, after_type_byte, kind_faults, head_faults, record_faults, faults, first_fault, after_type, after_head, after_record, after_entry, end_round, open_room, open_records, whole_rounds, end_section, after_footer, after_item, after, eos_room, eos_records, eos_rounds, end_records, is_start, has_none, flush_ends, flush_rounds, flush_records}
+use Rattle.mig_stream.specs.Items.{size, is_page_size, record_kind, is_single, has_tail, is_allowed, is_passed, closes, passed_by, after_type_byte, kind_faults}
+use Rattle.mig_stream.specs.Items.{head_faults, record_faults, faults, first_fault, after_type, after_head, after_record, after_entry, end_round, open_room}
+use Rattle.mig_stream.specs.Items.{open_records, whole_rounds, end_section, after_footer, after_item, after, eos_room, eos_records, eos_rounds, end_records}
+use Rattle.mig_stream.specs.Items.{is_start, has_none, flush_ends, flush_rounds, flush_records}
 use Rattle.mig_stream.specs.Later.{is_open}
 use Rattle.mig_stream.specs.Reading.{IsItem, AreFaultless, after_all, Front, Ends, Reads}
 use Rattle.mig_stream.specs.Flushed.{is_eos_kind, is_eos, flush_before, flushed, one_if, eos_count, from, SectionsAreFlushed}

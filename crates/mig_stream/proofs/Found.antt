@@ -1,5 +1,6 @@
 -- What is read to its end byte is spelled so.
-use Rattle.std.proofs.Common.{◌≡◌, ℕ, ◌+◌, ◌^◌, ◌<◌, ◌≤◌, Bool, true, false, cond, List, [], ◌∷◌, ◌++◌, length, Option, Some, None, refl, sym, ap, subst, ◌∙◌, append_assoc, arith}
+use Rattle.std.proofs.Common.{◌≡◌, ℕ, ◌+◌, ◌^◌, ◌<◌, ◌≤◌, Bool, true, false, cond, List, [], ◌∷◌, ◌++◌, length, Option, Some, None, refl, sym, ap, subst, ◌∙◌}
+use Rattle.std.proofs.Common.{append_assoc, arith}
 use Rattle.std.specs.List.{flat_map, list_any, AllByRecursion}
 use Rattle.std.specs.Prelude.{All, IfSome}
 use Rattle.std.proofs.lemmas.List.{append-nil}
@@ -22,7 +23,9 @@ use Rattle.mig_stream.specs.Progress.{StreamProgress, start, whole_table}
 use Rattle.mig_stream.specs.Items.{is_single, is_machine, is_addressed}
 use Rattle.mig_stream.specs.Reading.{Settings, Ends, StreamReading, IsReading}
 use Rattle.mig_stream.specs.Text.{Record, file_header, configuration, start_head, size_list, total_bytes, Follow, all_records, body, section, IsText, AreRounds}
-use Rattle.mig_stream.specs.Machine.{Command, command, IsCommand, is_advise, names_shared, ignores_shared, form_of, IsTail, entries, tailed_list, SubsectionBody, subsection, Configuration, configured, IsConfiguration, PartOrCommand, PartOf, CommandOf, part_or_command, IsPartOrCommand, parts_of, IsMachineText}
+use Rattle.mig_stream.specs.Machine.{Command, command, IsCommand, is_advise, names_shared, ignores_shared, form_of, IsTail, entries, tailed_list}
+use Rattle.mig_stream.specs.Machine.{SubsectionBody, subsection, Configuration, configured, IsConfiguration, PartOrCommand, PartOf, CommandOf, part_or_command}
+use Rattle.mig_stream.specs.Machine.{IsPartOrCommand, parts_of, IsMachineText}
 use Rattle.mig_stream.specs.Law.{ReadIsSpelled, MachineReadIsSpelled}
 use Rattle.mig_stream.proofs.Tables.{sum_of, table_from_blocks, total_is_sum}
 use Rattle.mig_stream.proofs.After.{FlushesFit}

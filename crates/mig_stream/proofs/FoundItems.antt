@@ -1,5 +1,6 @@
 -- An item without a fault, of any kind, goes in front of what is left after it.
-use Rattle.std.proofs.Common.{◌≡◌, ◌≢◌, inl, inr, ℕ, zero, suc, ◌+◌, ◌-◌, ◌^◌, ◌<◌, ◌/◌, ◌%◌, Bool, true, false, not, cond, eqb, List, [], ◌∷◌, ◌++◌, length, get_or, Option, Some, None, refl, sym, ap, subst, ◌∙◌, append_assoc, arith}
+use Rattle.std.proofs.Common.{◌≡◌, ◌≢◌, inl, inr, ℕ, zero, suc, ◌+◌, ◌-◌, ◌^◌, ◌<◌, ◌/◌, ◌%◌, Bool, true, false, not, cond, eqb, List, [], ◌∷◌, ◌++◌, length}
+use Rattle.std.proofs.Common.{get_or, Option, Some, None, refl, sym, ap, subst, ◌∙◌, append_assoc, arith}
 use Rattle.std.specs.Prelude.{is_none, ◌==◌, ◌&&◌}
 use Rattle.std.specs.Option.{unwrap_or}
 use Rattle.std.specs.List.{concat, flat_map}
@@ -21,17 +22,21 @@ use Rattle.mig_stream.specs.Machine.{ignore_shared_in, names_shared, IsBlockPage
 use Rattle.mig_stream.specs.declared.item.Section.{Section}
 use Rattle.mig_stream.specs.declared.item.Section.TheVariants as section
 use Rattle.mig_stream.specs.declared.item.Due.{Due}
-use Rattle.mig_stream.specs.declared.item.Due.TheVariants.{FileHeader, TypeByte, ConfigLength, ConfigName, StartHead, SectionHead, RecordHead, ListEntry, PageSize, BlockName, Content, Footer, Passed, Nothing}
+use Rattle.mig_stream.specs.declared.item.Due.TheVariants.{FileHeader, TypeByte, ConfigLength, ConfigName, StartHead, SectionHead, RecordHead, ListEntry}
+use Rattle.mig_stream.specs.declared.item.Due.TheVariants.{PageSize, BlockName, Content, Footer, Passed, Nothing}
 use Rattle.mig_stream.specs.declared.fault.StreamFault.TheVariants as fault
 use Rattle.mig_stream.specs.Fields.{be32, counted, be32_at, be64_at}
 use Rattle.mig_stream.specs.Progress.{StreamProgress, whole_table}
 use Rattle.mig_mem.specs.First.{first_of}
-use Rattle.mig_stream.specs.Items.{is_page_size, is_machine, closes, has_tail, body_of, list_due, entry_due, behind_passed, passed_form, passed_size, passed_faults, open_records, after_footer, id_in, record_kind, has_page, record_faults, entry_faults, faults, end_section, after_record, after_entry, after_item, after}
+use Rattle.mig_stream.specs.Items.{is_page_size, is_machine, closes, has_tail, body_of, list_due, entry_due, behind_passed, passed_form, passed_size}
+use Rattle.mig_stream.specs.Items.{passed_faults, open_records, after_footer, id_in, record_kind, has_page, record_faults, entry_faults, faults, end_section}
+use Rattle.mig_stream.specs.Items.{after_record, after_entry, after_item, after}
 use Rattle.mig_stream.specs.Reading.{IsItem, AreFaultless, after_all}
 use Rattle.mig_stream.proofs.FoundFields.{IsBytes, bytes_of_front, bytes_of_rest, be32_found, be64_found, head_found}
 use Rattle.mig_stream.proofs.FoundPages.{RestOfPage, RestOfName, zero_back, normal_back, name_back}
 use Rattle.mig_stream.proofs.FoundSections.{at_head, footer_back, section_back}
-use Rattle.mig_stream.proofs.FoundList.{RestOfEntries, RestOfList, RestOfListed, RestOfTail, IsEntry, entry_is, left_after, entries_at, behind_entry, entry_back}
+use Rattle.mig_stream.proofs.FoundList.{RestOfEntries, RestOfList, RestOfListed, RestOfTail, IsEntry, entry_is, left_after, entries_at, behind_entry}
+use Rattle.mig_stream.proofs.FoundList.{entry_back}
 use Rattle.mig_stream.proofs.FoundTail.{ending, RestOfEnd, RestBehind, Behind, no_tail_closed}
 use Rattle.mig_stream.proofs.FoundOpening as opening
 use Rattle.mig_stream.proofs.After.{HasNoTail}

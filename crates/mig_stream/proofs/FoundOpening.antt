@@ -1,6 +1,7 @@
 -- What is left of a stream from the file header, the configuration or START on, if its items were
 -- read without a fault.
-use Rattle.std.proofs.Common.{◌≡◌, ℕ, ◌+◌, ◌^◌, ◌<◌, ◌≤◌, Bool, true, false, not, cond, eqb, ltb, List, [], ◌∷◌, ◌++◌, length, get_or, Option, Some, None, refl, sym, ap, subst, ◌∙◌, append_assoc, arith}
+use Rattle.std.proofs.Common.{◌≡◌, ℕ, ◌+◌, ◌^◌, ◌<◌, ◌≤◌, Bool, true, false, not, cond, eqb, ltb, List, [], ◌∷◌, ◌++◌, length, get_or, Option, Some, None, refl}
+use Rattle.std.proofs.Common.{sym, ap, subst, ◌∙◌, append_assoc, arith}
 use Rattle.std.specs.Prelude.{IfSome, slice_range, ◌&&◌, ◌||◌}
 use Rattle.std.specs.Int.{w32, to_be_bytes}
 use Rattle.std.specs.List.{flat_map, list_any, AllByRecursion}
@@ -16,11 +17,14 @@ use Rattle.mig_stream.specs.declared.item.Due.{Due}
 use Rattle.mig_stream.specs.declared.item.Due.TheVariants.{FileHeader, TypeByte, ConfigLength, ConfigName, StartHead, RecordHead}
 use Rattle.mig_stream.specs.declared.fault.StreamFault.TheVariants as fault
 use Rattle.mig_stream.specs.Fields.{be32, counted, be32_at}
-use Rattle.mig_stream.specs.Format.{magic, version, section_type, command_type, subsection_type, configuration_type, ram_name, ram_instance, ram_version, most_name_bytes}
+use Rattle.mig_stream.specs.Format.{magic, version, section_type, command_type, subsection_type, configuration_type, ram_name, ram_instance, ram_version}
+use Rattle.mig_stream.specs.Format.{most_name_bytes}
 use Rattle.mig_stream.specs.Progress.{StreamProgress}
 use Rattle.mig_mem.specs.First.{first_of}
 use Rattle.mig_stream.specs.Items.{faults, is_machine, is_addressed}
-use Rattle.mig_stream.specs.Machine.{Command, command_bytes, command, IsCommand, is_advise, ignore_shared_in, names_shared, ignores_shared, SubsectionBody, kind_of, body_bytes, IsCapability, IsSubsectionBody, subsection_head, subsection, Configuration, configured, IsConfiguration}
+use Rattle.mig_stream.specs.Machine.{Command, command_bytes, command, IsCommand, is_advise, ignore_shared_in, names_shared, ignores_shared, SubsectionBody}
+use Rattle.mig_stream.specs.Machine.{kind_of, body_bytes, IsCapability, IsSubsectionBody, subsection_head, subsection, Configuration, configured}
+use Rattle.mig_stream.specs.Machine.{IsConfiguration}
 use Rattle.mig_stream.specs.Text.{file_header, start_head}
 use Rattle.mig_stream.proofs.FoundFields.{IsBytes, be32_found}
 use Rattle.mig_stream.proofs.FoundParts.{be32_small, header_found, start_found}

@@ -1,5 +1,6 @@
 -- What an item that is passed over is, if its tests have found no fault.
-use Rattle.std.proofs.Common.{◌≡◌, ℕ, ◌+◌, ◌*◌, ◌/◌, ◌%◌, ◌^◌, ◌<◌, Bool, true, false, not, cond, eqb, List, [], ◌∷◌, ◌++◌, length, get_or, Option, Some, None, refl, sym, ap, subst, ◌∙◌, arith}
+use Rattle.std.proofs.Common.{◌≡◌, ℕ, ◌+◌, ◌*◌, ◌/◌, ◌%◌, ◌^◌, ◌<◌, Bool, true, false, not, cond, eqb, List, [], ◌∷◌, ◌++◌, length, get_or, Option, Some, None}
+use Rattle.std.proofs.Common.{refl, sym, ap, subst, ◌∙◌, arith}
 use Rattle.std.specs.Prelude.{is_none, ◌||◌, ◌&&◌}
 use Rattle.std.specs.Str.{bytes_eq}
 use Rattle.std.proofs.lemmas.Slice.Eq.{bytes_eq-Decides}
@@ -13,7 +14,8 @@ use Rattle.mig_stream.specs.declared.fault.StreamFault.TheVariants as fault
 use Rattle.mig_stream.specs.Fields.{be16, be32, counted, be16_at, be32_at}
 use Rattle.mig_stream.specs.Format.{subsection_name, subsection_version, mapped_ram}
 use Rattle.mig_mem.specs.First.{first_of}
-use Rattle.mig_stream.specs.Items.{id_in, subsection_of, is_passed_command, allows_postcopy, is_before_start, advises, is_addressed, subsection_faults, passed_faults}
+use Rattle.mig_stream.specs.Items.{id_in, subsection_of, is_passed_command, allows_postcopy, is_before_start, advises, is_addressed, subsection_faults}
+use Rattle.mig_stream.specs.Items.{passed_faults}
 use Rattle.mig_stream.specs.Machine.{Command, command_bytes, IsCommand, is_advise, IsCapability, subsection_head}
 use Rattle.mig_stream.proofs.FoundFields.{IsBytes, counted_found}
 use Rattle.mig_stream.proofs.FoundParts.{head_named}

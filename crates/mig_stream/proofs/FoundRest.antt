@@ -8,7 +8,8 @@ use Rattle.mig_stream.specs.declared.item.EntryForm.TheVariants.{Addressed, Size
 use Rattle.mig_stream.specs.declared.item.PassedItem.{PassedItem}
 use Rattle.mig_stream.specs.declared.item.PassedItem.TheVariants as pass
 use Rattle.mig_stream.specs.declared.item.Due.{Due}
-use Rattle.mig_stream.specs.declared.item.Due.TheVariants.{FileHeader, TypeByte, ConfigLength, ConfigName, StartHead, SectionHead, RecordHead, ListEntry, PageSize, BlockName, Content, Footer, Passed, Nothing}
+use Rattle.mig_stream.specs.declared.item.Due.TheVariants.{FileHeader, TypeByte, ConfigLength, ConfigName, StartHead, SectionHead, RecordHead, ListEntry}
+use Rattle.mig_stream.specs.declared.item.Due.TheVariants.{PageSize, BlockName, Content, Footer, Passed, Nothing}
 use Rattle.mig_stream.specs.Format.{section_type}
 use Rattle.mig_stream.specs.Items.{is_machine, is_before_start, is_addressed}
 use Rattle.mig_stream.specs.Machine.{Command, command_bytes, IsCommand, is_advise}
@@ -17,7 +18,8 @@ use Rattle.mig_stream.proofs.FoundPages.{RestOfBody, RestOfPage, RestOfName}
 use Rattle.mig_stream.proofs.FoundSections.{RestOfFooter, RestOfSection}
 use Rattle.mig_stream.proofs.FoundList.{RestOfEntries, RestOfTail, RestOfList}
 use Rattle.mig_stream.proofs.FoundTail.{RestOfEnd, RestOfParts, Behind}
-use Rattle.mig_stream.proofs.FoundOpening.{RestOfStart, RestOfCommands, RestOfConfigured, RestOfBodyOf, RestOfSubsection, RestOfNames, RestOfConfigName, RestOfConfigLength, RestOfOpening, RestOfFile}
+use Rattle.mig_stream.proofs.FoundOpening.{RestOfStart, RestOfCommands, RestOfConfigured, RestOfBodyOf, RestOfSubsection, RestOfNames, RestOfConfigName}
+use Rattle.mig_stream.proofs.FoundOpening.{RestOfConfigLength, RestOfOpening, RestOfFile}
 
 -- the rest from a type byte on, up to the point of the reading `to`
 abbrev pub RestAtType : StreamProgress → StreamProgress → Before → List ℕ → Type 0

@@ -15,7 +15,8 @@ use Rattle.mig_mem.specs.First.{first_of}
 use Rattle.mig_stream.specs.Items.{is_single, is_allowed, is_machine, may_pass, is_passed, after_command, passed_by, faults, after_type, after_type_byte}
 use Rattle.mig_stream.specs.Machine.{is_advise}
 use Rattle.mig_stream.proofs.FoundTail.{ending, part_back, last_back, parts_at, command_back, no_tail_found}
-use Rattle.mig_stream.proofs.FoundOpening.{RestOfCommands, start_type_back, no_commands_back, commands_at, no_subsections_back, subsection_at, subsection_back, configuration_back, no_configuration_back}
+use Rattle.mig_stream.proofs.FoundOpening.{RestOfCommands, start_type_back, no_commands_back, commands_at, no_subsections_back, subsection_at, subsection_back}
+use Rattle.mig_stream.proofs.FoundOpening.{configuration_back, no_configuration_back}
 use Rattle.mig_stream.proofs.FoundOpening as opening
 use Rattle.mig_stream.proofs.FoundRest.{RestOfCommand, RestAt, RestAtType, RestFrom}
 use Rattle.mig_stream.proofs.Steps.{passed}

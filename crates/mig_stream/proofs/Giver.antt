@@ -1,5 +1,6 @@
 -- Records that were given, and those that are read after them.
-use Rattle.std.proofs.Common.{◌≡◌, ℕ, cond, ◌+◌, ◌-◌, ◌*◌, ◌^◌, ◌<◌, Bool, true, false, not, ◌&&◌, ◌||◌, ◌==◌, All, List, [], ◌∷◌, ◌++◌, length, get_or, Option, Some, None, refl, sym, ap, subst, ◌∙◌, append_assoc, arith, ◌≤◌, inl}
+use Rattle.std.proofs.Common.{◌≡◌, ℕ, cond, ◌+◌, ◌-◌, ◌*◌, ◌^◌, ◌<◌, Bool, true, false, not, ◌&&◌, ◌||◌, ◌==◌, All, List, [], ◌∷◌, ◌++◌, length, get_or, Option}
+use Rattle.std.proofs.Common.{Some, None, refl, sym, ap, subst, ◌∙◌, append_assoc, arith, ◌≤◌, inl}
 use Rattle.std.specs.Prelude.{IfSome, slice_index, IfNone, min}
 use Rattle.std.proofs.Math.Nat.{min-eq_left}
 use Rattle.std.specs.Bool.{then_some}
@@ -13,7 +14,8 @@ use Rattle.mig_stream.specs.declared.item.Mode.{Mode}
 use Rattle.mig_stream.specs.declared.item.Mode.TheVariants.{Single, Main, MainBySection, MainAsShown}
 use Rattle.mig_stream.specs.declared.item.Filling.TheVariants.{Zero, Normal}
 use Rattle.mig_stream.specs.declared.item.Due.{Due}
-use Rattle.mig_stream.specs.declared.item.Due.TheVariants.{FileHeader, TypeByte, ConfigLength, ConfigName, StartHead, SectionHead, RecordHead, ListEntry, PageSize, BlockName, Content, Footer, Passed, Nothing}
+use Rattle.mig_stream.specs.declared.item.Due.TheVariants.{FileHeader, TypeByte, ConfigLength, ConfigName, StartHead, SectionHead, RecordHead, ListEntry}
+use Rattle.mig_stream.specs.declared.item.Due.TheVariants.{PageSize, BlockName, Content, Footer, Passed, Nothing}
 use Rattle.mig_stream.specs.declared.item.RecordKind.{RecordKind}
 use Rattle.mig_stream.specs.declared.item.RecordKind.TheVariants.{SizeList, Named, Continued, EndOfSection, Flush}
 use Rattle.mig_stream.specs.declared.item.StreamState.{StreamState}
@@ -25,12 +27,16 @@ use Rattle.mig_stream.specs.Fields.{be32_at}
 use Rattle.mig_stream.specs.Format.{end_byte, footer_type}
 use Rattle.mig_stream.specs.PageRecord.{PageRecord}
 use Rattle.mig_stream.specs.Progress.{StreamProgress, start, is_used_up, table_of, whole_table}
-use Rattle.mig_stream.specs.Items.{is_single, is_page_size, less_room, is_allowed, is_passed, closes, passed_by, after_type_byte, kind_faults, head_faults, faults, after_type, after_kind, after_head, after_record, after_entry, end_round, open_records, whole_rounds, end_section, after_item, after, eos_records, eos_rounds, end_records, is_start, has_none, flush_mode, flush_ends, flush_rounds, flush_records}
+use Rattle.mig_stream.specs.Items.{is_single, is_page_size, less_room, is_allowed, is_passed, closes, passed_by, after_type_byte, kind_faults, head_faults}
+use Rattle.mig_stream.specs.Items.{faults, after_type, after_kind, after_head, after_record, after_entry, end_round, open_records, whole_rounds, end_section}
+use Rattle.mig_stream.specs.Items.{after_item, after, eos_records, eos_rounds, end_records, is_start, has_none, flush_mode, flush_ends, flush_rounds}
+use Rattle.mig_stream.specs.Items.{flush_records}
 use Rattle.mig_stream.specs.Later.{is_open}
 use Rattle.mig_stream.specs.Reading.{Settings, AreFaultless, after_all, Front, Ends, Reads, StreamReading, IsReading}
 use Rattle.mig_stream.specs.Taking.{HasTakenTo}
 use Rattle.mig_stream.specs.Reader.{with_taken, IsUnfinished, HasTable}
-use Rattle.mig_stream.specs.Giving.{Giver, GivenSoFar, none_given, with_more, with_last, rounds_behind, records_behind, with_open, all_read, Gives, GiverTells, HasReading, Paused, giver_at, PausesAt, IsUnread}
+use Rattle.mig_stream.specs.Giving.{Giver, GivenSoFar, none_given, with_more, with_last, rounds_behind, records_behind, with_open, all_read, Gives, GiverTells}
+use Rattle.mig_stream.specs.Giving.{HasReading, Paused, giver_at, PausesAt, IsUnread}
 use Rattle.mig_stream.proofs.Between.{closed_is_empty}
 use Rattle.mig_stream.proofs.Exists.{read_on}
 use Rattle.mig_stream.proofs.Fronts.{Front-none, Front-append, work}

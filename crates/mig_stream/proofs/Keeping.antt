@@ -1,9 +1,11 @@
 -- Records and their buffers, and rounds whose records are whole.
-use Rattle.std.proofs.Common.{◌≡◌, ℕ, zero, suc, ◌+◌, ◌-◌, ◌<◌, ◌≤◌, List, [], ◌∷◌, ◌++◌, length, get_or, set, take, drop, Some, refl, sym, ap, subst, ◌∙◌, inl, inr, append_assoc, arith}
+use Rattle.std.proofs.Common.{◌≡◌, ℕ, zero, suc, ◌+◌, ◌-◌, ◌<◌, ◌≤◌, List, [], ◌∷◌, ◌++◌, length, get_or, set, take, drop, Some, refl, sym, ap, subst, ◌∙◌, inl}
+use Rattle.std.proofs.Common.{inr, append_assoc, arith}
 use Rattle.std.specs.Prelude.{IfSome}
 use Rattle.std.specs.List.{All}
 use Rattle.std.proofs.lemmas.Bool.{cases_lt}
-use Rattle.std.proofs.lemmas.List.{append-nil, length-append, length-map, length-drop, length-set, length-take, get_or-take, get_or_append_left, get_or-set_same, take_all, take-append-le, drop-append-le, map-set}
+use Rattle.std.proofs.lemmas.List.{append-nil, length-append, length-map, length-drop, length-set, length-take, get_or-take, get_or_append_left}
+use Rattle.std.proofs.lemmas.List.{get_or-set_same, take_all, take-append-le, drop-append-le, map-set}
 use Rattle.std.proofs.Math.Seq.{drop-append_seam}
 use Rattle.mig_mem.specs.Place.{place_at}
 use Rattle.std.proofs.lemmas.List.Elements.{All-nil, All-push}
@@ -12,7 +14,8 @@ use Rattle.mig_stream.specs.declared.record.Record.{Record}
 use Rattle.mig_stream.specs.declared.record.Record.TheVariants.{Zeros, Kept, Behind, Lent}
 use Rattle.mig_stream.specs.PageRecord.{PageRecord}
 use Rattle.mig_stream.specs.Round.{AreWhole}
-use Rattle.mig_stream.specs.Kept.{buffer_of, buffers_of_records, bytes_at, IsWithin, place_of, content_in, record_in, IsHeld, IsGrown, records_after, AreHeldAfter}
+use Rattle.mig_stream.specs.Kept.{buffer_of, buffers_of_records, bytes_at, IsWithin, place_of, content_in, record_in, IsHeld, IsGrown, records_after}
+use Rattle.mig_stream.specs.Kept.{AreHeldAfter}
 
 -- ---- records that follow, and the first records alone
 

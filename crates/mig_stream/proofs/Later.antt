@@ -6,7 +6,8 @@ use Rattle.mig_stream.specs.declared.item.Mode.TheVariants.{Single, Main, MainBy
 use Rattle.mig_stream.specs.declared.item.Filling.TheVariants.{Zero, Normal}
 use Rattle.mig_stream.specs.declared.item.Before.{Before}
 use Rattle.mig_stream.specs.declared.item.Due.{Due}
-use Rattle.mig_stream.specs.declared.item.Due.TheVariants.{FileHeader, TypeByte, ConfigLength, ConfigName, StartHead, SectionHead, RecordHead, ListEntry, PageSize, BlockName, Content, Footer, Passed, Nothing}
+use Rattle.mig_stream.specs.declared.item.Due.TheVariants.{FileHeader, TypeByte, ConfigLength, ConfigName, StartHead, SectionHead, RecordHead, ListEntry}
+use Rattle.mig_stream.specs.declared.item.Due.TheVariants.{PageSize, BlockName, Content, Footer, Passed, Nothing}
 use Rattle.mig_stream.specs.declared.item.RecordKind.{RecordKind}
 use Rattle.mig_stream.specs.declared.item.RecordKind.TheVariants.{SizeList, Named, Continued, EndOfSection, Flush}
 use Rattle.mig_stream.specs.declared.item.StreamState.{StreamState}
@@ -15,7 +16,9 @@ use Rattle.mig_stream.specs.declared.fault.StreamFault.{StreamFault}
 use Rattle.mig_stream.specs.PageRecord.{PageRecord}
 use Rattle.mig_stream.specs.Progress.{StreamProgress}
 use Rattle.mig_mem.specs.First.{first_of}
-use Rattle.mig_stream.specs.Items.{is_page_size, is_passed, passed_by, after_type_byte, kind_faults, head_faults, faults, after_type, after_kind, after_head, after_record, after_entry, is_start, has_none, flush_ends, flush_rounds, flush_records, whole_rounds, end_section, after_item, after, eos_rounds, end_records}
+use Rattle.mig_stream.specs.Items.{is_page_size, is_passed, passed_by, after_type_byte, kind_faults, head_faults, faults, after_type, after_kind, after_head}
+use Rattle.mig_stream.specs.Items.{after_record, after_entry, is_start, has_none, flush_ends, flush_rounds, flush_records, whole_rounds, end_section}
+use Rattle.mig_stream.specs.Items.{after_item, after, eos_rounds, end_records}
 use Rattle.mig_stream.specs.Reading.{AreFaultless, after_all, Front, Ends, Reads}
 use Rattle.mig_stream.specs.Reader.{with_taken}
 use Rattle.mig_stream.proofs.Fronts.{Front-append}

@@ -1,5 +1,6 @@
 -- A closed stream is read so under each limit that none of its rounds passes.
-use Rattle.std.proofs.Common.{◌≡◌, ◌≢◌, ◌%◌, ◌/◌, ◌<◌, ◌≤◌, eqb, ℕ, Bool, true, false, cond, List, [], ◌∷◌, ◌++◌, length, Option, Some, None, refl, sym, ap, subst, ◌∙◌, inl, inr, arith}
+use Rattle.std.proofs.Common.{◌≡◌, ◌≢◌, ◌%◌, ◌/◌, ◌<◌, ◌≤◌, eqb, ℕ, Bool, true, false, cond, List, [], ◌∷◌, ◌++◌, length, Option, Some, None, refl, sym, ap}
+use Rattle.std.proofs.Common.{subst, ◌∙◌, inl, inr, arith}
 use Rattle.std.specs.Prelude.{◌⊎◌, nat_le, slice_index}
 use Rattle.std.specs.List.{All, list_all}
 use Rattle.std.proofs.lemmas.Bool.{cases_Bool, cond_both, le-leb, lt-leb, and_left, and_right}
@@ -12,7 +13,8 @@ use Rattle.mig_stream.specs.declared.item.Mode.{Mode}
 use Rattle.mig_stream.specs.declared.item.Mode.TheVariants.{Single, Main, MainBySection, MainAsShown}
 use Rattle.mig_stream.specs.declared.item.Filling.TheVariants.{Zero, Normal}
 use Rattle.mig_stream.specs.declared.item.Due.{Due}
-use Rattle.mig_stream.specs.declared.item.Due.TheVariants.{FileHeader, TypeByte, ConfigLength, ConfigName, StartHead, SectionHead, RecordHead, ListEntry, PageSize, BlockName, Content, Footer, Passed, Nothing}
+use Rattle.mig_stream.specs.declared.item.Due.TheVariants.{FileHeader, TypeByte, ConfigLength, ConfigName, StartHead, SectionHead, RecordHead, ListEntry}
+use Rattle.mig_stream.specs.declared.item.Due.TheVariants.{PageSize, BlockName, Content, Footer, Passed, Nothing}
 use Rattle.mig_stream.specs.declared.item.RecordKind.{RecordKind}
 use Rattle.mig_stream.specs.declared.item.RecordKind.TheVariants.{SizeList, Named, Continued, EndOfSection, Flush}
 use Rattle.mig_stream.specs.declared.item.StreamState.{StreamState}
@@ -21,7 +23,9 @@ use Rattle.mig_stream.specs.declared.fault.StreamFault.TheVariants.{Waiting}
 use Rattle.mig_stream.specs.Fields.{be64_at}
 use Rattle.mig_stream.specs.PageRecord.{PageRecord}
 use Rattle.mig_stream.specs.Progress.{StreamProgress, whole_table}
-use Rattle.mig_stream.specs.Items.{is_single, is_page_size, is_passed, record_kind, kind_faults, head_faults, record_faults, entry_faults, passed_faults, faults, first_fault, after_type, after_kind, after_head, after_record, after_entry, passed_by, after_item, after, with_record, is_start, has_none, flush_ends, flush_rounds, eos_records, eos_rounds, open_records, whole_rounds}
+use Rattle.mig_stream.specs.Items.{is_single, is_page_size, is_passed, record_kind, kind_faults, head_faults, record_faults, entry_faults, passed_faults}
+use Rattle.mig_stream.specs.Items.{faults, first_fault, after_type, after_kind, after_head, after_record, after_entry, passed_by, after_item, after}
+use Rattle.mig_stream.specs.Items.{with_record, is_start, has_none, flush_ends, flush_rounds, eos_records, eos_rounds, open_records, whole_rounds}
 use Rattle.mig_stream.specs.Reading.{Settings, with_waiting, AreFaultless, after_all, Front, Ends}
 use Rattle.mig_stream.specs.Flushed.{from}
 use Rattle.mig_stream.specs.Limited.{LimitLetsThrough}

@@ -21,7 +21,8 @@ use Rattle.mig_stream.specs.declared.item.Subsection.TheVariants.{PageBits, Uuid
 use Rattle.mig_stream.specs.declared.item.EntryForm.{EntryForm}
 use Rattle.mig_stream.specs.declared.item.EntryForm.TheVariants.{Plain, Addressed, Sized}
 use Rattle.mig_stream.specs.declared.item.Due.{Due}
-use Rattle.mig_stream.specs.declared.item.Due.TheVariants.{FileHeader, TypeByte, ConfigLength, ConfigName, StartHead, SectionHead, RecordHead, ListEntry, PageSize, BlockName, Content, Footer, Passed, Nothing}
+use Rattle.mig_stream.specs.declared.item.Due.TheVariants.{FileHeader, TypeByte, ConfigLength, ConfigName, StartHead, SectionHead, RecordHead, ListEntry}
+use Rattle.mig_stream.specs.declared.item.Due.TheVariants.{PageSize, BlockName, Content, Footer, Passed, Nothing}
 use Rattle.mig_stream.specs.declared.item.RecordKind.{RecordKind}
 use Rattle.mig_stream.specs.declared.item.RecordKind.TheVariants.{SizeList, Named, Continued, EndOfSection, Flush}
 use Rattle.mig_stream.specs.declared.fault.StreamFault.{StreamFault}
@@ -29,7 +30,9 @@ use Rattle.mig_stream.specs.Fields.{be32_at}
 use Rattle.mig_stream.specs.PageRecord.{PageRecord}
 use Rattle.mig_stream.specs.Progress.{StreamProgress, start, is_used_up, table_of, whole_table}
 use Rattle.mig_mem.specs.First.{first_of}
-use Rattle.mig_stream.specs.Items.{id_in, is_passed, passed_by, subsection_of, body_of, capabilities_due, entry_due, behind_passed, after_type_byte, size, length_in, is_page_size, kind_faults, head_faults, record_faults, faults, after_type, after_kind, after_head, after_entry, whole_rounds, after_item, after, eos_rounds, is_start, has_none, flush_ends, flush_rounds}
+use Rattle.mig_stream.specs.Items.{id_in, is_passed, passed_by, subsection_of, body_of, capabilities_due, entry_due, behind_passed, after_type_byte, size}
+use Rattle.mig_stream.specs.Items.{length_in, is_page_size, kind_faults, head_faults, record_faults, faults, after_type, after_kind, after_head, after_entry}
+use Rattle.mig_stream.specs.Items.{whole_rounds, after_item, after, eos_rounds, is_start, has_none, flush_ends, flush_rounds}
 use Rattle.mig_stream.specs.Reading.{AreFaultless, after_all, Front}
 use Rattle.mig_stream.specs.Law.{ReadingsKeepLimits}
 use Rattle.mig_stream.proofs.Steps.{passed, not_size, IsLater-front}

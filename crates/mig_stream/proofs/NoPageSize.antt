@@ -1,5 +1,6 @@
 -- Where the page size of a block may be and isn't, what is there is read as where none may be.
-use Rattle.std.proofs.Common.{◌≡◌, ℕ, ◌+◌, ◌/◌, ◌%◌, ◌<◌, ◌≤◌, Bool, true, false, not, cond, eqb, List, [], ◌∷◌, length, get_or, Option, Some, None, refl, sym, ap, subst, ◌∙◌, inl, inr, arith}
+use Rattle.std.proofs.Common.{◌≡◌, ℕ, ◌+◌, ◌/◌, ◌%◌, ◌<◌, ◌≤◌, Bool, true, false, not, cond, eqb, List, [], ◌∷◌, length, get_or, Option, Some, None, refl, sym}
+use Rattle.std.proofs.Common.{ap, subst, ◌∙◌, inl, inr, arith}
 use Rattle.std.specs.Prelude.{◌&&◌}
 use Rattle.std.specs.List.{concat}
 use Rattle.std.proofs.lemmas.Bool.{ne_eqb, eqb-false, false_from_ne_true}
@@ -15,7 +16,8 @@ use Rattle.mig_stream.specs.declared.item.Due.TheVariants.{RecordHead, ListEntry
 use Rattle.mig_stream.specs.Fields.{be64_at}
 use Rattle.mig_stream.specs.Format.{flags_of, least_page_size}
 use Rattle.mig_stream.specs.Progress.{StreamProgress}
-use Rattle.mig_stream.specs.Items.{id_in, is_page_size, record_kind, head_faults, record_faults, entry_faults, list_due, first_fault, after_kind, after_head, after_record, after_entry, after}
+use Rattle.mig_stream.specs.Items.{id_in, is_page_size, record_kind, head_faults, record_faults, entry_faults, list_due, first_fault, after_kind, after_head}
+use Rattle.mig_stream.specs.Items.{after_record, after_entry, after}
 use Rattle.mig_stream.specs.Reading.{AreFaultless, after_all, Front}
 use Rattle.mig_stream.proofs.Fronts.{sized}
 use Rattle.mig_stream.proofs.SpelledItems.{flags_small}

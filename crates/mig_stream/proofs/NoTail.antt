@@ -14,7 +14,8 @@ use Rattle.mig_stream.specs.declared.item.PassedItem.TheVariants.{Command, Subse
 use Rattle.mig_stream.specs.declared.item.EntryForm.{EntryForm}
 use Rattle.mig_stream.specs.declared.item.EntryForm.TheVariants.{Plain, Addressed, Sized}
 use Rattle.mig_stream.specs.declared.item.Due.{Due}
-use Rattle.mig_stream.specs.declared.item.Due.TheVariants.{FileHeader, TypeByte, ConfigLength, ConfigName, StartHead, SectionHead, RecordHead, ListEntry, PageSize, BlockName, Content, Footer, Passed, Nothing}
+use Rattle.mig_stream.specs.declared.item.Due.TheVariants.{FileHeader, TypeByte, ConfigLength, ConfigName, StartHead, SectionHead, RecordHead, ListEntry}
+use Rattle.mig_stream.specs.declared.item.Due.TheVariants.{PageSize, BlockName, Content, Footer, Passed, Nothing}
 use Rattle.mig_stream.specs.declared.item.RecordKind.{RecordKind}
 use Rattle.mig_stream.specs.declared.item.RecordKind.TheVariants.{SizeList, Named, Continued, EndOfSection, Flush}
 use Rattle.mig_stream.specs.declared.item.StreamState.{StreamState}
@@ -25,7 +26,9 @@ use Rattle.mig_stream.specs.Fields.{be32_at}
 use Rattle.mig_stream.specs.Format.{end_byte}
 use Rattle.mig_stream.specs.PageRecord.{PageRecord}
 use Rattle.mig_stream.specs.Progress.{StreamProgress}
-use Rattle.mig_stream.specs.Items.{length_in, is_page_size, is_single, has_tail, is_passed, passed_by, closes, passed_faults, head_faults, record_faults, entry_faults, faults, after_type, after_type_byte, after_head, entry_due, behind_passed, open_records, end_section, eos_records, after_item, after}
+use Rattle.mig_stream.specs.Items.{length_in, is_page_size, is_single, has_tail, is_passed, passed_by, closes, passed_faults, head_faults, record_faults}
+use Rattle.mig_stream.specs.Items.{entry_faults, faults, after_type, after_type_byte, after_head, entry_due, behind_passed, open_records, end_section}
+use Rattle.mig_stream.specs.Items.{eos_records, after_item, after}
 use Rattle.mig_stream.specs.Later.{is_open}
 use Rattle.mig_stream.specs.Reading.{AreFaultless, after_all, Ends}
 use Rattle.mig_stream.specs.Flushed.{from, SectionsHaveNoTail}

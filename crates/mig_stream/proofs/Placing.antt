@@ -1,5 +1,6 @@
 -- The places of the page records that are read: the table has them.
-use Rattle.std.proofs.Common.{◌≡◌, eqb, ℕ, Bool, ◌-◌, ◌<◌, false, not, nat_lt, ◌==◌, List, [], ◌∷◌, ◌++◌, length, get_or, Option, Some, None, All, sym, ap, subst, inl, inr, arith, true}
+use Rattle.std.proofs.Common.{◌≡◌, eqb, ℕ, Bool, ◌-◌, ◌<◌, false, not, nat_lt, ◌==◌, List, [], ◌∷◌, ◌++◌, length, get_or, Option, Some, None, All, sym, ap}
+use Rattle.std.proofs.Common.{subst, inl, inr, arith, true}
 use Rattle.std.specs.Prelude.{is_none, slice_index, ⊤}
 use Rattle.std.specs.Option.{unwrap_or}
 use Rattle.std.proofs.lemmas.List.{length-append, get_or_append_left, get_or_past}
@@ -21,7 +22,8 @@ use Rattle.mig_stream.specs.declared.item.Subsection.TheVariants.{PageBits, Uuid
 use Rattle.mig_stream.specs.declared.item.EntryForm.{EntryForm}
 use Rattle.mig_stream.specs.declared.item.EntryForm.TheVariants.{Plain, Addressed, Sized}
 use Rattle.mig_stream.specs.declared.item.Due.{Due}
-use Rattle.mig_stream.specs.declared.item.Due.TheVariants.{FileHeader, TypeByte, ConfigLength, ConfigName, StartHead, SectionHead, RecordHead, ListEntry, PageSize, BlockName, Content, Footer, Passed, Nothing}
+use Rattle.mig_stream.specs.declared.item.Due.TheVariants.{FileHeader, TypeByte, ConfigLength, ConfigName, StartHead, SectionHead, RecordHead, ListEntry}
+use Rattle.mig_stream.specs.declared.item.Due.TheVariants.{PageSize, BlockName, Content, Footer, Passed, Nothing}
 use Rattle.mig_stream.specs.declared.item.RecordKind.{RecordKind}
 use Rattle.mig_stream.specs.declared.item.RecordKind.TheVariants.{SizeList, Named, Continued, EndOfSection, Flush}
 use Rattle.mig_stream.specs.declared.fault.StreamFault.{StreamFault}
@@ -30,7 +32,10 @@ use Rattle.mig_stream.specs.Fields.{be32_at}
 use Rattle.mig_stream.specs.PageRecord.{PageRecord}
 use Rattle.mig_stream.specs.Progress.{StreamProgress, start}
 use Rattle.mig_mem.specs.First.{first_of}
-use Rattle.mig_stream.specs.Items.{is_passed, closes, subsection_of, body_of, capabilities_due, entry_due, behind_passed, after_footer, after_type_byte, id_in, length_in, is_page_size, has_page, is_full, kind_faults, head_faults, record_faults, faults, after_type, after_kind, after_head, after_entry, open_records, whole_rounds, after_item, after, eos_records, eos_rounds, is_start, has_none, flush_ends, flush_rounds}
+use Rattle.mig_stream.specs.Items.{is_passed, closes, subsection_of, body_of, capabilities_due, entry_due, behind_passed, after_footer, after_type_byte, id_in}
+use Rattle.mig_stream.specs.Items.{length_in, is_page_size, has_page, is_full, kind_faults, head_faults, record_faults, faults, after_type, after_kind}
+use Rattle.mig_stream.specs.Items.{after_head, after_entry, open_records, whole_rounds, after_item, after, eos_records, eos_rounds, is_start, has_none}
+use Rattle.mig_stream.specs.Items.{flush_ends, flush_rounds}
 use Rattle.mig_stream.specs.Reading.{AreFaultless, after_all, Front}
 use Rattle.mig_stream.proofs.Steps.{passed, not_size}
 

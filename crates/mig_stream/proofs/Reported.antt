@@ -1,5 +1,6 @@
 -- Reports: items that are added one after another, and what a reader's report says of its stream.
-use Rattle.std.proofs.Common.{◌≡◌, ◌≢◌, ℕ, ◌+◌, ◌-◌, ◌<◌, ◌≤◌, ◌^◌, List, [], ◌∷◌, ◌++◌, length, take, Option, Some, None, refl, sym, ap, subst, ◌∙◌, append_assoc, arith}
+use Rattle.std.proofs.Common.{◌≡◌, ◌≢◌, ℕ, ◌+◌, ◌-◌, ◌<◌, ◌≤◌, ◌^◌, List, [], ◌∷◌, ◌++◌, length, take, Option, Some, None, refl, sym, ap, subst, ◌∙◌}
+use Rattle.std.proofs.Common.{append_assoc, arith}
 use Rattle.std.specs.Prelude.{IfSome, IfNone}
 use Rattle.std.specs.List.{concat}
 use Rattle.std.proofs.lemmas.List.{append-nil, length-append, length-take, take-take, take_all}
@@ -17,7 +18,8 @@ use Rattle.mig_stream.specs.Reader.{IsUnfinished, with_taken, Reader, ReadsOn, S
 use Rattle.mig_stream.specs.declared.record_reader.RecordEvent.{RecordEvent}
 use Rattle.mig_stream.specs.declared.record_reader.RecordEvent.TheVariants.{Records, Section, End}
 use Rattle.mig_stream.specs.Giving.{Giver, GivenSoFar, none_given, with_more, with_last, with_given, with_open, all_read, Gives, TellsFound, Paused, PausesAt}
-use Rattle.mig_stream.specs.Report.{kind_of, ItemAt, item_at, items_at, Reported, nothing_reported, with_item, with_items, with_cleared, ReportsTo, IsReport, Reports, EndsReport, ReadsReporting, KeepsItems, HasReport, HasOneReport, ReportsUpToValid, LongerTextsReportMore}
+use Rattle.mig_stream.specs.Report.{kind_of, ItemAt, item_at, items_at, Reported, nothing_reported, with_item, with_items, with_cleared, ReportsTo, IsReport}
+use Rattle.mig_stream.specs.Report.{Reports, EndsReport, ReadsReporting, KeepsItems, HasReport, HasOneReport, ReportsUpToValid, LongerTextsReportMore}
 use Rattle.mig_stream.proofs.Feeding.{reads_short}
 use Rattle.mig_stream.proofs.Fronts.{AreFaultless-append, after_all-append}
 use Rattle.mig_stream.proofs.Giver.{after_item-open, AreFaultless-open, after_all-open, single_after, reads_single, all_last, all_more}

@@ -1,5 +1,6 @@
 -- How much room a limit leaves: as many records as the open round lacks.
-use Rattle.std.proofs.Common.{◌≡◌, ◌==◌, ◌&&◌, ◌%◌, ◌/◌, eqb, ℕ, zero, suc, ◌+◌, ◌-◌, ◌≤◌, inl, inr, Bool, true, false, cond, List, [], ◌∷◌, ◌++◌, length, Option, Some, None, refl, sym, ap, subst, ◌∙◌, arith, rules}
+use Rattle.std.proofs.Common.{◌≡◌, ◌==◌, ◌&&◌, ◌%◌, ◌/◌, eqb, ℕ, zero, suc, ◌+◌, ◌-◌, ◌≤◌, inl, inr, Bool, true, false, cond, List, [], ◌∷◌, ◌++◌, length}
+use Rattle.std.proofs.Common.{Option, Some, None, refl, sym, ap, subst, ◌∙◌, arith, rules}
 use Rattle.std.specs.Prelude.{◌⊎◌, not, is_none, slice_index}
 use Rattle.std.specs.List.{All}
 use Rattle.std.specs.Option.{unwrap_or}
@@ -22,7 +23,8 @@ use Rattle.mig_stream.specs.declared.item.Subsection.TheVariants.{PageBits, Uuid
 use Rattle.mig_stream.specs.declared.item.PassedItem.{PassedItem}
 use Rattle.mig_stream.specs.declared.item.PassedItem.TheVariants.{Command, SubsectionHead, SubsectionBody, Capability, Address}
 use Rattle.mig_stream.specs.declared.item.Due.{Due}
-use Rattle.mig_stream.specs.declared.item.Due.TheVariants.{FileHeader, TypeByte, ConfigLength, ConfigName, StartHead, SectionHead, RecordHead, ListEntry, PageSize, BlockName, Content, Footer, Passed, Nothing}
+use Rattle.mig_stream.specs.declared.item.Due.TheVariants.{FileHeader, TypeByte, ConfigLength, ConfigName, StartHead, SectionHead, RecordHead, ListEntry}
+use Rattle.mig_stream.specs.declared.item.Due.TheVariants.{PageSize, BlockName, Content, Footer, Passed, Nothing}
 use Rattle.mig_stream.specs.declared.item.RecordKind.{RecordKind}
 use Rattle.mig_stream.specs.declared.item.RecordKind.TheVariants.{SizeList, Named, Continued, EndOfSection, Flush}
 use Rattle.mig_stream.specs.declared.fault.StreamFault.{StreamFault}
@@ -30,7 +32,10 @@ use Rattle.mig_stream.specs.declared.fault.StreamFault.TheVariants.{Waiting, Siz
 use Rattle.mig_stream.specs.Fields.{be32_at, be64_at}
 use Rattle.mig_stream.specs.PageRecord.{PageRecord}
 use Rattle.mig_stream.specs.Progress.{StreamProgress}
-use Rattle.mig_stream.specs.Items.{has_page, is_page_size, id_in, is_passed, is_full, subsection_of, body_of, capabilities_due, list_due, entry_due, behind_passed, after_footer, closes, record_kind, kind_faults, head_faults, record_faults, entry_faults, passed_faults, faults, after_type, after_type_byte, after_kind, after_head, after_entry, after_item, after, with_record, is_start, has_none, flush_ends, flush_rounds, eos_room, eos_records, eos_rounds, less_room, open_room, open_records, whole_rounds}
+use Rattle.mig_stream.specs.Items.{has_page, is_page_size, id_in, is_passed, is_full, subsection_of, body_of, capabilities_due, list_due, entry_due}
+use Rattle.mig_stream.specs.Items.{behind_passed, after_footer, closes, record_kind, kind_faults, head_faults, record_faults, entry_faults, passed_faults}
+use Rattle.mig_stream.specs.Items.{faults, after_type, after_type_byte, after_kind, after_head, after_entry, after_item, after, with_record, is_start, has_none}
+use Rattle.mig_stream.specs.Items.{flush_ends, flush_rounds, eos_room, eos_records, eos_rounds, less_room, open_room, open_records, whole_rounds}
 use Rattle.mig_stream.specs.Reading.{Settings, AreFaultless, after_all, Front}
 use Rattle.mig_stream.specs.Flushed.{from}
 use Rattle.mig_stream.specs.Limited.{WaitingIsBounded, FullRoundIsRefused}

@@ -1,5 +1,6 @@
 -- What is spelled is read as one item: file header, configuration, heads, type bytes, and footer.
-use Rattle.std.proofs.Common.{◌≡◌, ◌≢◌, ◌⊎◌, ℕ, ◌+◌, ◌*◌, ◌/◌, ◌%◌, ◌^◌, ◌<◌, ◌≤◌, Bool, true, false, cond, eqb, ltb, List, [], ◌∷◌, ◌++◌, length, Option, Some, None, refl, sym, ap, subst, ◌∙◌, inl, inr, arith}
+use Rattle.std.proofs.Common.{◌≡◌, ◌≢◌, ◌⊎◌, ℕ, ◌+◌, ◌*◌, ◌/◌, ◌%◌, ◌^◌, ◌<◌, ◌≤◌, Bool, true, false, cond, eqb, ltb, List, [], ◌∷◌, ◌++◌, length, Option, Some}
+use Rattle.std.proofs.Common.{None, refl, sym, ap, subst, ◌∙◌, inl, inr, arith}
 use Rattle.std.specs.Prelude.{not, ◌&&◌, IfSome}
 use Rattle.std.specs.Int.{w64, to_be_bytes}
 use Rattle.std.proofs.lemmas.List.{drop_at}
@@ -14,14 +15,16 @@ use Rattle.mig_stream.specs.declared.item.Before.TheVariants as before
 use Rattle.mig_stream.specs.declared.item.Filling.TheVariants.{Zero, Normal}
 use Rattle.mig_stream.specs.declared.item.RecordKind.{RecordKind}
 use Rattle.mig_stream.specs.declared.item.RecordKind.TheVariants.{SizeList, Named, Continued, EndOfSection, Flush}
-use Rattle.mig_stream.specs.declared.item.Due.TheVariants.{FileHeader, TypeByte, ConfigLength, ConfigName, StartHead, SectionHead, RecordHead, Footer, Passed, Nothing}
+use Rattle.mig_stream.specs.declared.item.Due.TheVariants.{FileHeader, TypeByte, ConfigLength, ConfigName, StartHead, SectionHead, RecordHead, Footer, Passed}
+use Rattle.mig_stream.specs.declared.item.Due.TheVariants.{Nothing}
 use Rattle.mig_stream.specs.declared.fault.StreamFault.TheVariants as fault
 use Rattle.mig_stream.specs.Fields.{be32, be64, counted, be32_at, be64_at}
 use Rattle.mig_stream.specs.Format.{end_byte, section_type, configuration_type, ram_name, ram_instance, ram_version, flags_of, most_name_bytes}
 use Rattle.mig_stream.specs.PageRecord.{PageRecord}
 use Rattle.mig_stream.specs.Progress.{StreamProgress}
 use Rattle.mig_mem.specs.First.{first_of}
-use Rattle.mig_stream.specs.Items.{size, record_kind, is_single, is_allowed, is_machine, may_pass, is_passed, passed_by, closes, has_tail, kind_faults, head_faults, first_fault, after_type, after_kind, after_head, end_section, after}
+use Rattle.mig_stream.specs.Items.{size, record_kind, is_single, is_allowed, is_machine, may_pass, is_passed, passed_by, closes, has_tail, kind_faults}
+use Rattle.mig_stream.specs.Items.{head_faults, first_fault, after_type, after_kind, after_head, end_section, after}
 use Rattle.mig_stream.specs.Reading.{Front}
 use Rattle.mig_stream.specs.Text.{file_header, configuration, start_head, footer}
 use Rattle.mig_stream.proofs.Fronts.{Front-none, Front-push, Front-append}

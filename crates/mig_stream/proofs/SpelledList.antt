@@ -1,6 +1,7 @@
 -- What is spelled is read as a size list: its head, and an entry for each block with what follows
 -- it.
-use Rattle.std.proofs.Common.{◌≡◌, ℕ, ◌+◌, ◌*◌, ◌-◌, ◌/◌, ◌%◌, ◌^◌, ◌<◌, ◌≤◌, Bool, true, false, not, cond, eqb, ltb, leb, List, [], ◌∷◌, ◌++◌, length, get_or, inl, inr, Some, None, refl, sym, ap, subst, ◌∙◌, append_assoc, arith}
+use Rattle.std.proofs.Common.{◌≡◌, ℕ, ◌+◌, ◌*◌, ◌-◌, ◌/◌, ◌%◌, ◌^◌, ◌<◌, ◌≤◌, Bool, true, false, not, cond, eqb, ltb, leb, List, [], ◌∷◌, ◌++◌, length, get_or}
+use Rattle.std.proofs.Common.{inl, inr, Some, None, refl, sym, ap, subst, ◌∙◌, append_assoc, arith}
 use Rattle.std.specs.Prelude.{◌||◌, ◌&&◌}
 use Rattle.std.specs.List.{AllByRecursion}
 use Rattle.std.proofs.lemmas.List.{length-append, take_at}
@@ -20,7 +21,8 @@ use Rattle.mig_stream.specs.Fields.{be64, counted, be64_at}
 use Rattle.mig_stream.specs.Format.{flags_of, least_page_size}
 use Rattle.mig_stream.specs.Progress.{StreamProgress}
 use Rattle.mig_mem.specs.First.{first_of}
-use Rattle.mig_stream.specs.Items.{id_in, length_in, is_page_size, record_faults, entry_faults, list_due, entry_due, first_fault, after_record, after_entry, after}
+use Rattle.mig_stream.specs.Items.{id_in, length_in, is_page_size, record_faults, entry_faults, list_due, entry_due, first_fault, after_record, after_entry}
+use Rattle.mig_stream.specs.Items.{after}
 use Rattle.mig_stream.specs.Reading.{Front}
 use Rattle.mig_stream.specs.Text.{entry, total_bytes, size_list}
 use Rattle.mig_stream.specs.Machine.{IsBlockPageSize, IsTail, entries, tailed_list}

@@ -1,5 +1,6 @@
 -- A machine's complete stream is read as it is spelled.
-use Rattle.std.proofs.Common.{◌≡◌, ◌⊎◌, ℕ, ◌^◌, ◌<◌, Bool, cond, true, false, List, [], ◌∷◌, ◌++◌, length, Option, Some, None, refl, sym, ap, subst, ◌∙◌, append_assoc, inl, inr}
+use Rattle.std.proofs.Common.{◌≡◌, ◌⊎◌, ℕ, ◌^◌, ◌<◌, Bool, cond, true, false, List, [], ◌∷◌, ◌++◌, length, Option, Some, None, refl, sym, ap, subst, ◌∙◌}
+use Rattle.std.proofs.Common.{append_assoc, inl, inr}
 use Rattle.std.specs.Prelude.{is_none, not, ◌==◌, ◌&&◌, IfSome}
 use Rattle.std.specs.List.{flat_map, list_any, AllByRecursion}
 use Rattle.mig_mem.specs.RamTable.{RamTable, IsTable}
@@ -17,7 +18,8 @@ use Rattle.mig_stream.specs.Progress.{StreamProgress, start, table_of}
 use Rattle.mig_stream.specs.Items.{is_single, open_records, is_allowed, is_machine, is_addressed, may_pass, has_tail, end_records}
 use Rattle.mig_stream.specs.Reading.{settings, in_frame, Front, IsReading}
 use Rattle.mig_stream.specs.Text.{Record, Follow, HasNoFlush, all_records, body, section, file_header, start_head}
-use Rattle.mig_stream.specs.Machine.{Command, command, IsCommand, is_advise, Configuration, configured, IsConfiguration, ignores_shared, form_of, tailed_list, PartOrCommand, PartOf, CommandOf, part_or_command, IsPartOrCommand, parts_of, IsMachineText}
+use Rattle.mig_stream.specs.Machine.{Command, command, IsCommand, is_advise, Configuration, configured, IsConfiguration, ignores_shared, form_of, tailed_list}
+use Rattle.mig_stream.specs.Machine.{PartOrCommand, PartOf, CommandOf, part_or_command, IsPartOrCommand, parts_of, IsMachineText}
 use Rattle.mig_stream.specs.Law.{closed}
 use Rattle.mig_stream.proofs.Fronts.{Front-none, Front-append}
 use Rattle.mig_stream.proofs.After.{unlimited, after_records, after_body, mode_behind, records_behind, FlushesFit, HasNoTail}

@@ -1,5 +1,6 @@
 -- What is passed over is read as it is spelled: COMMANDs, and the subsections of the configuration.
-use Rattle.std.proofs.Common.{◌≡◌, ℕ, ◌+◌, ◌-◌, ◌^◌, Bool, true, false, cond, eqb, List, [], ◌∷◌, length, take, Option, Some, None, refl, sym, ap, subst, ◌∙◌, arith}
+use Rattle.std.proofs.Common.{◌≡◌, ℕ, ◌+◌, ◌-◌, ◌^◌, Bool, true, false, cond, eqb, List, [], ◌∷◌, length, take, Option, Some, None, refl, sym, ap, subst, ◌∙◌}
+use Rattle.std.proofs.Common.{arith}
 use Rattle.std.specs.Prelude.{not, ◌&&◌, ◌||◌}
 use Rattle.std.specs.List.{flat_map, list_any, AllByRecursion}
 use Rattle.std.specs.Str.{bytes_eq}
@@ -20,9 +21,11 @@ use Rattle.mig_stream.specs.Fields.{be32, counted, be16_at, be32_at}
 use Rattle.mig_stream.specs.Format.{command_type, subsection_type, subsection_name, subsection_version, ignore_shared}
 use Rattle.mig_stream.specs.Progress.{StreamProgress}
 use Rattle.mig_mem.specs.First.{first_of}
-use Rattle.mig_stream.specs.Items.{is_allowed, has_tail, id_in, subsection_of, is_machine, may_pass, is_passed, is_passed_command, allows_postcopy, is_before_start, advises, is_addressed, passed_by, after_command, body_of, capabilities_due, after_type, first_fault, after}
+use Rattle.mig_stream.specs.Items.{is_allowed, has_tail, id_in, subsection_of, is_machine, may_pass, is_passed, is_passed_command, allows_postcopy}
+use Rattle.mig_stream.specs.Items.{is_before_start, advises, is_addressed, passed_by, after_command, body_of, capabilities_due, after_type, first_fault, after}
 use Rattle.mig_stream.specs.Reading.{Front}
-use Rattle.mig_stream.specs.Machine.{Command, command_bytes, command, IsCommand, is_advise, SubsectionBody, PageBits, Uuid, Capabilities, kind_of, body_bytes, IsCapability, IsSubsectionBody, subsection_head, subsection, ignore_shared_in, names_shared}
+use Rattle.mig_stream.specs.Machine.{Command, command_bytes, command, IsCommand, is_advise, SubsectionBody, PageBits, Uuid, Capabilities, kind_of, body_bytes}
+use Rattle.mig_stream.specs.Machine.{IsCapability, IsSubsectionBody, subsection_head, subsection, ignore_shared_in, names_shared}
 use Rattle.mig_stream.proofs.Fronts.{Front-none, Front-append}
 use Rattle.mig_stream.proofs.SpelledItems.{item_front, be32_back}
 use Rattle.mig_stream.proofs.Tails.{twice, first_fits, others_fit}

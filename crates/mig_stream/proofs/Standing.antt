@@ -1,5 +1,6 @@
 -- What a reader represents after a call, and what it returns.
-use Rattle.std.proofs.Common.{◌≡◌, ◌≢◌, ℕ, ◌+◌, ◌-◌, ◌<◌, get_or, Bool, true, false, All, List, [], ◌∷◌, ◌++◌, length, Option, Some, None, refl, sym, ap, subst, ◌∙◌, append_assoc, arith}
+use Rattle.std.proofs.Common.{◌≡◌, ◌≢◌, ℕ, ◌+◌, ◌-◌, ◌<◌, get_or, Bool, true, false, All, List, [], ◌∷◌, ◌++◌, length, Option, Some, None, refl, sym, ap, subst}
+use Rattle.std.proofs.Common.{◌∙◌, append_assoc, arith}
 use Rattle.std.specs.Prelude.{IfSome, IfNone}
 use Rattle.std.proofs.lemmas.List.{length-append, append-nil, get_or_at}
 use Rattle.std.specs.Bool.{then_some}
@@ -11,7 +12,8 @@ use Rattle.mig_stream.specs.PageRecord.{PageRecord}
 use Rattle.mig_stream.specs.Progress.{StreamProgress, start, is_used_up, table_of, whole_table}
 use Rattle.mig_stream.specs.Reading.{Settings, Reads, StreamReading, IsReading, state_at}
 use Rattle.mig_stream.specs.Round.{RoundOfRecords}
-use Rattle.mig_stream.specs.Reader.{Reader, ReadsOn, with_taken, SoFar, nothing_yet, with_piece, one_taken, Stands, StepsOn, Tells, waiting, HasState, IsFinal, HasTable, HasRound}
+use Rattle.mig_stream.specs.Reader.{Reader, ReadsOn, with_taken, SoFar, nothing_yet, with_piece, one_taken, Stands, StepsOn, Tells, waiting, HasState, IsFinal}
+use Rattle.mig_stream.specs.Reader.{HasTable, HasRound}
 use Rattle.mig_stream.proofs.Feeding.{reads_short}
 use Rattle.mig_stream.proofs.Later.{Reads-on, Reads-more}
 use Rattle.mig_stream.proofs.Steps.{IsLater-front}

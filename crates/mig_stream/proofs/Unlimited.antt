@@ -6,7 +6,8 @@ use Rattle.mig_stream.specs.declared.item.Mode.{Mode}
 use Rattle.mig_stream.specs.declared.item.Mode.TheVariants.{Single, Main, MainBySection, MainAsShown}
 use Rattle.mig_stream.specs.declared.item.Filling.TheVariants.{Zero, Normal}
 use Rattle.mig_stream.specs.declared.item.Due.{Due}
-use Rattle.mig_stream.specs.declared.item.Due.TheVariants.{FileHeader, TypeByte, ConfigLength, ConfigName, StartHead, SectionHead, RecordHead, ListEntry, PageSize, BlockName, Content, Footer, Passed, Nothing}
+use Rattle.mig_stream.specs.declared.item.Due.TheVariants.{FileHeader, TypeByte, ConfigLength, ConfigName, StartHead, SectionHead, RecordHead, ListEntry}
+use Rattle.mig_stream.specs.declared.item.Due.TheVariants.{PageSize, BlockName, Content, Footer, Passed, Nothing}
 use Rattle.mig_stream.specs.declared.item.RecordKind.{RecordKind}
 use Rattle.mig_stream.specs.declared.item.RecordKind.TheVariants.{SizeList, Named, Continued, EndOfSection, Flush}
 use Rattle.mig_stream.specs.declared.item.StreamState.{StreamState}
@@ -15,7 +16,8 @@ use Rattle.mig_stream.specs.declared.fault.StreamFault.{StreamFault}
 use Rattle.mig_stream.specs.declared.fault.StreamFault.TheVariants.{Waiting, SizePlace, NoBlock, OffsetOut}
 use Rattle.mig_stream.specs.Fields.{be64_at}
 use Rattle.mig_stream.specs.Progress.{StreamProgress}
-use Rattle.mig_stream.specs.Items.{is_page_size, has_page, is_passed, is_full, record_kind, kind_faults, head_faults, record_faults, faults, after_type, after_kind, after_head, after_record, after_item, after, eos_room, end_records}
+use Rattle.mig_stream.specs.Items.{is_page_size, has_page, is_passed, is_full, record_kind, kind_faults, head_faults, record_faults, faults, after_type}
+use Rattle.mig_stream.specs.Items.{after_kind, after_head, after_record, after_item, after, eos_room, end_records}
 use Rattle.mig_stream.specs.Reading.{AreFaultless, after_all, Front, Ends}
 use Rattle.mig_stream.specs.Flushed.{from}
 use Rattle.mig_stream.specs.Limited.{LimitOnlyRefuses}

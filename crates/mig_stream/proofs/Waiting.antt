@@ -9,13 +9,15 @@ use Rattle.mig_stream.specs.declared.item.Mode.TheVariants.{Single, Main, MainBy
 use Rattle.mig_stream.specs.declared.item.Filling.TheVariants.{Zero, Normal}
 use Rattle.mig_stream.specs.declared.item.Before.{Before}
 use Rattle.mig_stream.specs.declared.item.Due.{Due}
-use Rattle.mig_stream.specs.declared.item.Due.TheVariants.{FileHeader, TypeByte, ConfigLength, ConfigName, StartHead, SectionHead, RecordHead, ListEntry, PageSize, BlockName, Content, Footer, Passed, Nothing}
+use Rattle.mig_stream.specs.declared.item.Due.TheVariants.{FileHeader, TypeByte, ConfigLength, ConfigName, StartHead, SectionHead, RecordHead, ListEntry}
+use Rattle.mig_stream.specs.declared.item.Due.TheVariants.{PageSize, BlockName, Content, Footer, Passed, Nothing}
 use Rattle.mig_stream.specs.declared.item.RecordKind.{RecordKind}
 use Rattle.mig_stream.specs.declared.item.RecordKind.TheVariants.{SizeList, Named, Continued, EndOfSection, Flush}
 use Rattle.mig_stream.specs.declared.item.StreamState.{StreamState}
 use Rattle.mig_stream.specs.PageRecord.{PageRecord}
 use Rattle.mig_stream.specs.Progress.{StreamProgress}
-use Rattle.mig_stream.specs.Items.{is_page_size, is_passed, after_type_byte, size, after_type, after_head, open_records, whole_rounds, after_item, after, eos_records, eos_rounds, is_start, has_none, flush_ends, flush_rounds}
+use Rattle.mig_stream.specs.Items.{is_page_size, is_passed, after_type_byte, size, after_type, after_head, open_records, whole_rounds, after_item, after}
+use Rattle.mig_stream.specs.Items.{eos_records, eos_rounds, is_start, has_none, flush_ends, flush_rounds}
 use Rattle.mig_stream.specs.Reading.{AreFaultless, after_all, Front}
 use Rattle.mig_stream.specs.Taking.{HasTakenTo}
 use Rattle.mig_stream.specs.Giving.{Giver, waiting_in, to_go, left}

@@ -11,7 +11,8 @@ use Rattle.mig_mem.specs.Round.{IsRound, round_of}
 use Rattle.mig_mem.specs.RamTable.{RamTable}
 use Rattle.mig_stream.specs.declared.item.Section.TheVariants as sections
 use Rattle.mig_stream.specs.Text.{named_after, record_bytes, page_record, section}
-use Rattle.mig_stream.specs.Written.{Part, RoundPart, FlushPart, written_id, is_named, written_record, written_records, part_records, named_after_parts, written_parts, opening, closing, written}
+use Rattle.mig_stream.specs.Written.{Part, RoundPart, FlushPart, written_id, is_named, written_record, written_records, part_records, named_after_parts}
+use Rattle.mig_stream.specs.Written.{written_parts, opening, closing, written}
 use Rattle.mig_stream.specs.Writer.{Writer, PartSoFar, HasDrained, HasPut, with_head, with_pages, with_part, KeepsFront}
 
 -- ---- clauses about results

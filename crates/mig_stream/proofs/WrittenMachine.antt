@@ -1,5 +1,6 @@
 -- What a writer makes of RAM in a machine's stream is such a stream.
-use Rattle.std.proofs.Common.{ℕ, ◌≡◌, ◌≤◌, ◌<◌, ◌^◌, IfSome, List, [], ◌∷◌, ◌++◌, length, map, replicate, flat_map, Option, Some, None, refl, sym, ap, subst, ◌∙◌, append_assoc, append-nil, arith}
+use Rattle.std.proofs.Common.{ℕ, ◌≡◌, ◌≤◌, ◌<◌, ◌^◌, IfSome, List, [], ◌∷◌, ◌++◌, length, map, replicate, flat_map, Option, Some, None, refl, sym, ap, subst}
+use Rattle.std.proofs.Common.{◌∙◌, append_assoc, append-nil, arith}
 use Rattle.std.specs.List.{AllByRecursion}
 use Rattle.mig_mem.specs.RamTable.{RamTable, IsTable}
 use Rattle.mig_stream.specs.declared.item.Mode.{Mode}
@@ -10,7 +11,8 @@ use Rattle.mig_stream.specs.declared.item.EntryForm.TheVariants.{Plain}
 use Rattle.mig_stream.specs.Format.{most_name_bytes}
 use Rattle.mig_stream.specs.PageRecord.{PageRecord}
 use Rattle.mig_stream.specs.Text.{Record, Follow, all_records, AreRounds, section, body, file_header, configuration, start_head, size_list, total_bytes}
-use Rattle.mig_stream.specs.Machine.{Configuration, configured, IsConfiguration, form_of, IsTail, PartOf, part_or_command, IsPartOrCommand, parts_of, IsMachineText}
+use Rattle.mig_stream.specs.Machine.{Configuration, configured, IsConfiguration, form_of, IsTail, PartOf, part_or_command, IsPartOrCommand, parts_of}
+use Rattle.mig_stream.specs.Machine.{IsMachineText}
 use Rattle.mig_stream.specs.Written.{Part, RoundPart, FlushPart, written_id, written_record, written_parts, opening}
 use Rattle.mig_stream.specs.MachineWritten.{machine_written, MachineSinglesAreTexts, MachineMainsAreTexts}
 use Rattle.mig_stream.specs.Writer.{Writer, HasDrained}

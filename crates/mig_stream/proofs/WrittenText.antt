@@ -1,6 +1,7 @@
 -- What a writer makes is a stream of its table: of the rounds that it was given, or of as many
 -- rounds without a page as it was given FLUSHes.
-use Rattle.std.proofs.Common.{ℕ, zero, suc, ◌≡◌, ◌≤◌, Bool, true, false, cond, ◌==◌, IsTrue, IfSome, All, List, [], ◌∷◌, ◌++◌, length, map, replicate, flat_map, Option, Some, None, refl, sym, ap, subst, ◌∙◌, append_assoc, append-nil, arith}
+use Rattle.std.proofs.Common.{ℕ, zero, suc, ◌≡◌, ◌≤◌, Bool, true, false, cond, ◌==◌, IsTrue, IfSome, All, List, [], ◌∷◌, ◌++◌, length, map, replicate, flat_map}
+use Rattle.std.proofs.Common.{Option, Some, None, refl, sym, ap, subst, ◌∙◌, append_assoc, append-nil, arith}
 use Rattle.std.specs.List.{list_all, AllByRecursion}
 use Rattle.std.proofs.lemmas.Bool.{eqb-true}
 use Rattle.std.proofs.lemmas.List.Elements.{All-from_recursion, recursion_from_All, All-head, All-tail}
@@ -12,9 +13,11 @@ use Rattle.mig_stream.specs.declared.item.Mode.TheVariants.{Single, Main}
 use Rattle.mig_stream.specs.declared.item.Section.TheVariants as sections
 use Rattle.mig_stream.specs.Format.{end_byte}
 use Rattle.mig_stream.specs.PageRecord.{PageRecord}
-use Rattle.mig_stream.specs.Text.{Record, FlushMark, Fits, Follow, section, body, file_header, start_head, size_list, all_records, page_records, HasNoFlush, AreRounds, total_bytes, IsText}
+use Rattle.mig_stream.specs.Text.{Record, FlushMark, Fits, Follow, section, body, file_header, start_head, size_list, all_records, page_records, HasNoFlush}
+use Rattle.mig_stream.specs.Text.{AreRounds, total_bytes, IsText}
 use Rattle.mig_stream.proofs.Writing.{named_by_pages, named_by}
-use Rattle.mig_stream.specs.Written.{Part, RoundPart, FlushPart, written_id, is_named, written_record, written_records, part_records, written_parts, opening, closing, written}
+use Rattle.mig_stream.specs.Written.{Part, RoundPart, FlushPart, written_id, is_named, written_record, written_records, part_records, written_parts, opening}
+use Rattle.mig_stream.specs.Written.{closing, written}
 
 -- ---- the records of each part
 

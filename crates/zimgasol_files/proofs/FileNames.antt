@@ -1,5 +1,6 @@
 -- The names of files: what they are made of, and that no two are the same.
-use Rattle.std.proofs.Common.{◌≡◌, ◌≢◌, ℕ, ◌+◌, ◌/◌, ◌%◌, ◌<◌, ◌^◌, true, false, leb, eqb, ◌⊎◌, List, [], ◌∷◌, ◌++◌, length, get_or, All, codes, sym, refl, ap, ◌∙◌, subst, inl, inr, ⊎_elim, arith}
+use Rattle.std.proofs.Common.{◌≡◌, ◌≢◌, ℕ, ◌+◌, ◌/◌, ◌%◌, ◌<◌, ◌^◌, true, false, leb, eqb, ◌⊎◌, List, [], ◌∷◌, ◌++◌, length, get_or, All, codes, sym, refl, ap}
+use Rattle.std.proofs.Common.{◌∙◌, subst, inl, inr, ⊎_elim, arith}
 use Rattle.std.specs.Fmt.{decimal, digit_glyph}
 use Rattle.std.proofs.lemmas.Bool.{cond-true, cond-false, cond_both, cases_Bool, eqb-false, both_ways}
 use Rattle.std.proofs.lemmas.List.{append_cancel_left, append_cancel_right}
@@ -9,7 +10,8 @@ use Rattle.percent_encoding.specs.declared.ascii_set.AsciiSet.{AsciiSet}
 use Rattle.percent_encoding.specs.AsciiSet.{contains, should_percent_encode}
 use Rattle.percent_encoding.specs.Percent.{percent_encode, percent_encode_byte, percent_decode}
 use Rattle.percent_encoding.proofs.AsciiSetLemmas.{outside_from_kept}
-use Rattle.percent_encoding.proofs.PercentLemmas.{IsEscapeByte, All-percent_encode, All-percent_encode_byte, percent_encode_escaped, percent_encode_kept, round_trip}
+use Rattle.percent_encoding.proofs.PercentLemmas.{IsEscapeByte, All-percent_encode, All-percent_encode_byte, percent_encode_escaped, percent_encode_kept}
+use Rattle.percent_encoding.proofs.PercentLemmas.{round_trip}
 use Rattle.zimgasol_files.specs.declared.naming.TheConstants.{ESCAPED, ESCAPED_WITH_DOTS, MOST_LEN}
 use Rattle.zimgasol_files.specs.Naming.{escaped_in, stem_of, name_of, IsId, IsPlainName}
 

@@ -1,4 +1,5 @@
-use Rattle.std.proofs.Common.{arith, refl, sym, ap, ◌∙◌, ◌≡◌, ◌+◌, ◌-◌, ◌^◌, ◌<◌, ◌≤◌, ◌/◌, ◌%◌, ◌++◌, ◌∷◌, false, ℕ, suc, zero, length, drop, slice_set, length-drop}
+use Rattle.std.proofs.Common.{arith, refl, sym, ap, ◌∙◌, ◌≡◌, ◌+◌, ◌-◌, ◌^◌, ◌<◌, ◌≤◌, ◌/◌, ◌%◌, ◌++◌, ◌∷◌, false, ℕ, suc, zero, length, drop, slice_set}
+use Rattle.std.proofs.Common.{length-drop}
 use lib.ListN.{length-set}
 use lib.Seq.{take_all}
 use Rattle.std.specs.Fmt.{digits_onto, digit_glyph}
@@ -26,7 +27,8 @@ loop-rest-preserved c =
       omega (arith, l.invariant.1),
       fewer.1,
       length-set l.digits (l.from - 1) c.hex_digit.result ∙ l.invariant.3,
-      rw left (ap (digits_onto (48 + l.from - 1) 16 false (l.rest / 16)) written ∙ sym (digits_onto_step 16 false l.rest (drop l.from l.digits) (48 + l.from) (omega arith) (omega (arith, c.loop-rest-test.true))) ∙ l.invariant.4),
+      rw left (ap (digits_onto (48 + l.from - 1) 16 false (l.rest / 16)) written
+          ∙ sym (digits_onto_step 16 false l.rest (drop l.from l.digits) (48 + l.from) (omega arith) (omega (arith, c.loop-rest-test.true))) ∙ l.invariant.4),
     )
 
 pub overflow_sub-from-2 : goal.overflow_sub-from-2
@@ -40,4 +42,7 @@ returns-clause-items c =
     let written = drop-set-cons l.digits l.from _ _ l.invariant.0 (omega (arith, l.invariant.1, l.invariant.3)) c.hex_digit-2.ensures in
     let one : l.rest ≡ l.rest % 16 = omega (arith, c.loop-rest-test.false) in
     let whole = take_all (16 - (l.from - 1)) (drop (l.from - 1) now) (omega (arith, long, length-drop (l.from - 1) now)) in
-    c.push.ensures.items ∙ ap (λ digits. c.args.text.now.items ++ digits) (whole ∙ written ∙ ap (λ digit. digit_glyph false digit ∷ drop l.from l.digits) one ∙ sym (digits_onto_last 16 false l.rest (drop l.from l.digits) (48 + l.from) (omega arith) (omega (arith, c.loop-rest-test.false))) ∙ l.invariant.4)
+    c.push.ensures.items
+    ∙ ap (λ digits. c.args.text.now.items ++ digits)
+    (whole ∙ written ∙ ap (λ digit. digit_glyph false digit ∷ drop l.from l.digits) one
+    ∙ sym (digits_onto_last 16 false l.rest (drop l.from l.digits) (48 + l.from) (omega arith) (omega (arith, c.loop-rest-test.false))) ∙ l.invariant.4)

@@ -38,9 +38,11 @@ returns-clause-feeds c =
     let may : RefusesPiece c.args.source (length c.args.piece.now) before 0 old =
     subst (λ (n : ℕ). RefusesPiece c.args.source (length c.args.piece.now) before n old) c.if-status-ne-DONE.false c.refusal-status.ensures in
     let first : c.from_parts-staged.result.kept ≡ lent_image old.table before =
-    c.from_parts-staged.ensures.kept ∙ c.from_parts.ensures ∙ ap (λ (l : List (MutBor (List ℕ))). lent_image c.args.table (mut_lent_bytes l)) c.in-Ok.ensures.out
+    c.from_parts-staged.ensures.kept ∙ c.from_parts.ensures
+    ∙ ap (λ (l : List (MutBor (List ℕ))). lent_image c.args.table (mut_lent_bytes l)) c.in-Ok.ensures.out
     ∙ ap (λ (t : RamTable). lent_image t before) c.requires.table in
-    let there : lent_image i.table (mut_lent_bytes i.blocks.items) ≡ c.feed_memory-status.new.memory.kept = c.memory.view_is ∙ c.into_parts-memory.ensures.memory ∙ c.into_parts-fresh.ensures.memory in
+    let there : lent_image i.table (mut_lent_bytes i.blocks.items) ≡ c.feed_memory-status.new.memory.kept = c.memory.view_is
+    ∙ c.into_parts-memory.ensures.memory ∙ c.into_parts-fresh.ensures.memory in
     let own : i.table ≡ new.table =
     ap (λ (m : Image). m.table) there ∙ c.feed_memory-status.ensures.table ∙ ap (λ (m : Image). m.table) first
     ∙ sym c.feed_memory-status.ensures.feeds.same_table in
@@ -52,7 +54,8 @@ returns-clause-feeds c =
     subst (λ (t : RamTable). FitTable t after) own
     (subst (λ (l : List (MutBor (List ℕ))). FitTable i.table (mut_lent_bytes l)) (sym same_list) c.memory.invariant) in
     rounds_fed c.args.source c.args.piece.now before after c.feed_memory-status.new.taken c.feed_memory-status.result c.from_parts-staged.result
-    c.feed_memory-status.new.memory c.args.round c.into_parts-fresh.result.1 old new may first c.from_parts-staged.ensures.parts last c.into_parts-fresh.ensures.parts fit
+    c.feed_memory-status.new.memory c.args.round c.into_parts-fresh.result.1 old new may first c.from_parts-staged.ensures.parts last
+    c.into_parts-fresh.ensures.parts fit
     (record {
       feeds = c.feed_memory-status.ensures.feeds;
       keeps = c.feed_memory-status.ensures.keeps;

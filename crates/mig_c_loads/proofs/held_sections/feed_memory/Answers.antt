@@ -29,7 +29,8 @@ returns-in-Err-clause-feeds g c =
       takes = grind arith;
       counted = grind arith;
       same = λ _. c.in-Err.ensures.err;
-      settled = λ _ given first text loads. (λ final. c.feed.ensures.settled given first text loads final none, λ another. c.feed.ensures.another given first text loads another none);
+      settled = λ _ given first text loads.
+          (λ final. c.feed.ensures.settled given first text loads final none, λ another. c.feed.ensures.another given first text loads another none);
       goes_on = c.feed.ensures.open;
       same_table = c.feed.ensures.table.0;
     }

@@ -6,7 +6,8 @@ use Rattle.mig_command.specs.declared.answer.ChannelsChecked.{ChannelsChecked}
 use Rattle.mig_command.specs.declared.answer.Comparison.TheVariants.{Same}
 use Rattle.mig_scenario.specs.Layout.{bytes_in}
 use Rattle.mig_command.specs.Answer.{IsLoadOfSent, snapshots_in}
-use Rattle.mig_command.proofs.Checking.{compared_back, text_back, text_image, compared_err, compared_ok, want_answers, channels_back, none_gone, one_gone, told, are_checked}
+use Rattle.mig_command.proofs.Checking.{compared_back, text_back, text_image, compared_err, compared_ok, want_answers, channels_back, none_gone, one_gone, told}
+use Rattle.mig_command.proofs.Checking.{are_checked}
 use Rattle.mig_command.proofs.check.check_texts.Goals as goal
 use Rattle.mig_command.proofs.check.check_texts.Goals.{in-Same, in-Differs}
 

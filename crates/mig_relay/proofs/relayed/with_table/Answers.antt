@@ -3,7 +3,8 @@ use Rattle.std.specs.Prelude.{is_ok}
 use Rattle.mig_stream.specs.Reader.{HasTable}
 use Rattle.mig_load_types.specs.Settings.{main_of}
 use Rattle.mig_relay.proofs.MainStream.{main_so_far}
-use Rattle.mig_relay.proofs.RelayAnswers.{were_received, none_received, answers_with, answers_without, places_of_main, ends_without_table, no_memory_there, none_missing_there, goes_from_zeros}
+use Rattle.mig_relay.proofs.RelayAnswers.{were_received, none_received, answers_with, answers_without, places_of_main, ends_without_table, no_memory_there}
+use Rattle.mig_relay.proofs.RelayAnswers.{none_missing_there, goes_from_zeros}
 use Rattle.mig_relay.proofs.relayed.with_table.Goals as goal
 
 pub end-requires : goal.end-requires

@@ -19,7 +19,8 @@ returns-in_err-feed-clause-settled g c = λ given text stands final.
 pub returns-in_default-clause-ok : goal.returns-in_default-clause-ok
 returns-in_default-clause-ok g c = λ given first text image has.
     let step = c.in_ok-feed.ensures.stands in
-    no_table_yet given first text c.args.piece.now (g.M.GuestTarget.image c.args.memory.now) c.args.named.now c.args.sections.now c.args.reader.now c.feed.new.self has step
+    no_table_yet given first text c.args.piece.now
+    (g.M.GuestTarget.image c.args.memory.now) c.args.named.now c.args.sections.now c.args.reader.now c.feed.new.self has step
     (c.in_default.ensures (settings_for first.table given) (put_so_far (text ++ c.args.piece.now) false c.args.sections.now)
     (step (settings_for first.table given) (put_so_far text false c.args.sections.now) has.is_read.1))
 
@@ -39,7 +40,8 @@ returns-then-not-same-clause-ok g c = λ given first text image has.
     c.in-Some.ensures (settings_for first.table given) (put_so_far (text ++ c.args.piece.now) false c.args.sections.now)
     (step (settings_for first.table given) (put_so_far text false c.args.sections.now) has.is_read.1) in
     let same : (g.M.GuestTarget.image c.args.memory.now).table ≡ first.table = has.in_memory.same_table in
-    other_found given first text c.args.piece.now (g.M.GuestTarget.image c.args.memory.now) c.args.named.now c.args.sections.now c.args.reader.now c.in-Some.table.now image has found
+    other_found given first text c.args.piece.now
+    (g.M.GuestTarget.image c.args.memory.now) c.args.named.now c.args.sections.now c.args.reader.now c.in-Some.table.now image has found
     (λ is. absurd (let yes_way = c.same.ensures.1 (is ∙ sym same ∙ sym c.table-2.ensures.value) in let no_way = c.if-not-same.true in cc))
 
 pub put_sections-requires-clause-some : goal.put_sections-requires-clause-some
@@ -51,14 +53,16 @@ put_sections-requires-clause-some g c =
     c.in-Some.ensures (settings_for table some.given) (put_so_far (some.text ++ c.args.piece.now) false c.args.sections.now)
     (step (settings_for table some.given) (put_so_far some.text false c.args.sections.now) some.is_read.1) in
     let own : HasTable (settings_for table some.given) (some.text ++ c.args.piece.now) (Some table) =
-    subst (λ (t : RamTable). HasTable (settings_for table some.given) (some.text ++ c.args.piece.now) (Some t)) (c.same.ensures.0 c.if-not-same.false ∙ c.table-2.ensures.value) found in
+    subst (λ (t : RamTable). HasTable (settings_for table some.given) (some.text ++ c.args.piece.now) (Some t))
+    (c.same.ensures.0 c.if-not-same.false ∙ c.table-2.ensures.value) found in
     let fed = some.is_read.1.has_fed in
     let room = c.requires.room in
     record {
       given = some.given;
       text = some.text ++ c.args.piece.now;
       is_short = omega (arith, fed, room, length-append some.text c.args.piece.now);
-      takes = takes_more some.given table some.text c.args.piece.now c.args.sections.now c.args.reader.now c.feed.new.self some.is_page_size some.is_read step own;
+      takes = takes_more some.given table some.text c.args.piece.now c.args.sections.now c.args.reader.now
+          c.feed.new.self some.is_page_size some.is_read step own;
     }
 
 pub returns-clause-ok : goal.returns-clause-ok
@@ -72,13 +76,16 @@ returns-clause-ok g c = λ given first text image has.
     c.in-Some.ensures (settings_for first.table given) (put_so_far (text ++ piece) false n)
     (step (settings_for first.table given) (put_so_far text false n) has.is_read.1) in
     let own : HasTable (settings_for first.table given) (text ++ piece) (Some first.table) =
-    subst (λ (t : RamTable). HasTable (settings_for first.table given) (text ++ piece) (Some t)) (c.same.ensures.0 c.if-not-same.false ∙ c.table-2.ensures.value ∙ same) found in
+    subst (λ (t : RamTable). HasTable (settings_for first.table given) (text ++ piece) (Some t))
+    (c.same.ensures.0 c.if-not-same.false ∙ c.table-2.ensures.value ∙ same) found in
     let put = own_found given first text piece before c.args.named.now n c.args.reader.now c.feed.new.self has step own in
     let takes : Takes given first.table (text ++ piece) c.put_sections.new.sections c.put_sections.new.reader =
-    subst (λ (t : RamTable). Takes given t (text ++ piece) n c.feed.new.self → Takes given t (text ++ piece) c.put_sections.new.sections c.put_sections.new.reader) same
+    subst (λ (t : RamTable). Takes given t (text ++ piece) n c.feed.new.self
+    → Takes given t (text ++ piece) c.put_sections.new.sections c.put_sections.new.reader) same
     (c.put_sections.ensures.takes given (text ++ piece))
     (takes_more given first.table text piece n c.args.reader.now c.feed.new.self has.is_page_size has.is_read step own) in
-    own_put given first (text ++ piece) (g.M.GuestTarget.image c.put_sections.new.memory) c.put_sections.new.named c.put_sections.new.sections c.put_sections.new.reader
+    own_put given first (text ++ piece)
+    (g.M.GuestTarget.image c.put_sections.new.memory) c.put_sections.new.named c.put_sections.new.sections c.put_sections.new.reader
     (c.put_sections.ensures.table ∙ same) takes (c.put_sections.ensures.puts given first (text ++ piece) put)
 
 pub returns-clause-some : goal.returns-clause-some
@@ -90,7 +97,8 @@ returns-clause-some g c = λ _.
     c.in-Some.ensures (settings_for table some.given) (put_so_far (some.text ++ c.args.piece.now) false c.args.sections.now)
     (step (settings_for table some.given) (put_so_far some.text false c.args.sections.now) some.is_read.1) in
     let own : HasTable (settings_for table some.given) (some.text ++ c.args.piece.now) (Some table) =
-    subst (λ (t : RamTable). HasTable (settings_for table some.given) (some.text ++ c.args.piece.now) (Some t)) (c.same.ensures.0 c.if-not-same.false ∙ c.table-2.ensures.value) found in
+    subst (λ (t : RamTable). HasTable (settings_for table some.given) (some.text ++ c.args.piece.now) (Some t))
+    (c.same.ensures.0 c.if-not-same.false ∙ c.table-2.ensures.value) found in
     reads_some some.given table (some.text ++ c.args.piece.now) c.put_sections.new.sections c.put_sections.new.reader
     (c.put_sections.ensures.takes some.given (some.text ++ c.args.piece.now)
     (takes_more some.given table some.text c.args.piece.now c.args.sections.now c.args.reader.now c.feed.new.self some.is_page_size some.is_read step own))

@@ -2,7 +2,8 @@ use Rattle.std.proofs.Common.{ℕ, ◌≡◌, ◌≤◌, [], length, take, Resul
 use Rattle.std.specs.Io.KnownBytes.{Consumes}
 use Rattle.mig_session.specs.declared.pumping.PumpFault.{PumpFault}
 use Rattle.mig_sources.specs.Reads.{after_end, after_read, piece_limit}
-use Rattle.mig_session.proofs.Pumped.{ReadsPiece, Feeds, Ends, Pumps, begins, goes_on, no_buffer, finds_end, runs_out, is_no_memory, is_small, has_room, front_len, end_read, reads_piece}
+use Rattle.mig_session.proofs.Pumped.{ReadsPiece, Feeds, Ends, Pumps, begins, goes_on, no_buffer, finds_end, runs_out, is_no_memory, is_small, has_room}
+use Rattle.mig_session.proofs.Pumped.{front_len, end_read, reads_piece}
 use Rattle.mig_session.proofs.pumping.pump.Goals as goal
 
 pub returns-in_err-buffer-clause-pumped : goal.returns-in_err-buffer-clause-pumped

@@ -5,7 +5,8 @@ use Rattle.mig_packet.specs.declared.state.ChannelState.TheVariants.{Reading}
 use Rattle.mig_packet.specs.declared.page_reader.ChannelEvent.{ChannelEvent}
 use Rattle.mig_packet.specs.declared.page_reader.ChannelEvent.TheVariants as event
 use Rattle.mig_packet.specs.Paging.{PageHolder, GivesOn, HolderTells, Comes, Stops, NeedsMore}
-use Rattle.mig_session.proofs.Scanning.{Completed, counts_on, none_taken, at_first, at_next, at_pass, at_more, at_over, hello_completes, head_completes, page_completes, packet_completes}
+use Rattle.mig_session.proofs.Scanning.{Completed, counts_on, none_taken, at_first, at_next, at_pass, at_more, at_over, hello_completes, head_completes}
+use Rattle.mig_session.proofs.Scanning.{page_completes, packet_completes}
 use Rattle.mig_session.proofs.scan.read_all.Goals as goal
 
 pub returns-in-Closed : goal.returns-in-Closed

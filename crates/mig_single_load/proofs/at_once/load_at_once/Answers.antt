@@ -9,7 +9,8 @@ use Rattle.mig_assemble.specs.Judging.{places_of}
 use Rattle.mig_assemble.specs.NamedPlaces.{with_places}
 use Rattle.mig_assemble.specs.Target.{pages_of_round, FitsTable}
 use Rattle.mig_load_types.specs.Settings.{single_of}
-use Rattle.mig_single_load.proofs.LoadedAtOnce.{Gave, HasPut, put_first, put_fits, name_fits, put_records_more, put_section_more, fewer_records, fewer_section, answers_each}
+use Rattle.mig_single_load.proofs.LoadedAtOnce.{Gave, HasPut, put_first, put_fits, name_fits, put_records_more, put_section_more, fewer_records, fewer_section}
+use Rattle.mig_single_load.proofs.LoadedAtOnce.{answers_each}
 use Rattle.mig_single_load.proofs.at_once.load_at_once.Goals as goal
 use Rattle.mig_single_load.proofs.at_once.load_at_once.Goals.{in-Records, in-Section}
 

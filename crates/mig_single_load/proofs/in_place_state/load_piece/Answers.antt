@@ -5,7 +5,8 @@ use Rattle.mig_stream.specs.Progress.{whole_table}
 use Rattle.mig_stream.specs.declared.item.StreamState.{StreamState}
 use Rattle.mig_stream.specs.Giving.{HasNoneLeft}
 use Rattle.mig_stream.proofs.Writing.{on_err}
-use Rattle.mig_single_load.proofs.LoadsInPlace.{Found, found_some, found_other, found_off, found_on, found_on_some, found_none_left, some_first, some_put, some_all, names_other, names_at, names_off}
+use Rattle.mig_single_load.proofs.LoadsInPlace.{Found, found_some, found_other, found_off, found_on, found_on_some, found_none_left, some_first, some_put}
+use Rattle.mig_single_load.proofs.LoadsInPlace.{some_all, names_other, names_at, names_off}
 use Rattle.mig_single_load.proofs.in_place_state.load_piece.Goals as goal
 
 pub returns-then-is_of_other_table-clause-ok : goal.returns-then-is_of_other_table-clause-ok

@@ -9,7 +9,8 @@ use Rattle.mig_assemble.specs.NamedPlaces.{with_places}
 use Rattle.mig_assemble.specs.Target.{pages_of_round, FitsTable}
 use Rattle.mig_mem.specs.RamTable.{RamTable}
 use Rattle.mig_single_load.specs.LoadInPlace.{IsEnd}
-use Rattle.mig_single_load.proofs.LoadsInPlace.{Step, one_more, put_fits, few_more, some_on, puts_on, gives_on, puts_all, puts_none, gives_none, names_none, names_on, names_all, puts_some, no_end_records, no_end_section}
+use Rattle.mig_single_load.proofs.LoadsInPlace.{Step, one_more, put_fits, few_more, some_on, puts_on, gives_on, puts_all, puts_none, gives_none, names_none}
+use Rattle.mig_single_load.proofs.LoadsInPlace.{names_on, names_all, puts_some, no_end_records, no_end_section}
 use Rattle.mig_single_load.proofs.in_place_state.put_given.Goals as goal
 use Rattle.mig_single_load.proofs.in_place_state.put_given.Goals.{in-Records, in-Section}
 

@@ -6,4 +6,4 @@ use Rattle.mig_assemble.proofs.arrivals.Arrivals.clear.Goals as goal
 pub returns : goal.returns
 returns g c =
     none_come c.args.self.now.seen.table _ c.clear.ensures.items refl refl
-    (c.clear-2.ensures ∙ ap (λ (r : RoundSoFar). record { table = r.seen.table; marked = [] }) c.self.view_is)
+    (c.clear_places.ensures ∙ ap (λ (r : RoundSoFar). record { table = r.seen.table; marked = [] }) c.self.view_is)

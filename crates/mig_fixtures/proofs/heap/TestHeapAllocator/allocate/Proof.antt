@@ -31,14 +31,16 @@ use denote.Triple.Clauses.{Ended, Clauses}
 use denote.Triple.Statement.{Triple}
 use denote.Triple.Table.{cited}
 use denote.Triple.Walked.{Stays, stay_dropped, walk_of, ends_at, Goes-dropped}
-use types.Kit.{‵, raw, ◌⊛◌, some, later, given, learn, at_ret, any_q, Post as After, ◌$◌, ◌∵◌, !, qed, move, keep, drop, use0, use1, use2, split, join, fsplit, fjoin, feq_l, pick, suffices, await, done}
+use types.Kit.{‵, raw, ◌⊛◌, some, later, given, learn, at_ret, any_q, Post as After, ◌$◌, ◌∵◌, !, qed, move, keep, drop, use0, use1, use2, split, join, fsplit}
+use types.Kit.{fjoin, feq_l, pick, suffices, await, done}
 use types.ByLocal.{alloc_all, pass_all, free_all, look_at, get, get_in, get_tag, through, sets, sets_last, lands_as, env}
 use denote.RawPtr.{block_ptr}
 use denote.Builtin.{usize, bool, RefOf}
 use denote.Triple.Call.{calls_at}
 use Rattle.std.proofs.alloc.Shapes.{after, front, arm_body}
 use Rattle.std.proofs.raw_atomic.Walks.{proved}
-use Rattle.std.proofs.alloc.Calls.{Al, α, seen, Answer, answer_val, Answer-typed, Answer-Ok, Answer-err, takes_key, Takes, at_takes, Answered, Takes-goes, Takes-gives, answers}
+use Rattle.std.proofs.alloc.Calls.{Al, α, seen, Answer, answer_val, Answer-typed, Answer-Ok, Answer-err, takes_key, Takes, at_takes, Answered, Takes-goes}
+use Rattle.std.proofs.alloc.Calls.{Takes-gives, answers}
 use Rattle.mig_fixtures.proofs.Tallying.{Tallied, Refuses, at_refuses, Refuses-goes, Counts, at_counts, Counts-goes, Counts-gives}
 use Rattle.mig_fixtures.proofs.heap.Tally.TheLaws as tally_laws
 use Rattle.mig_fixtures.proofs.heap.Tally.refuses.Symbol as r_sym

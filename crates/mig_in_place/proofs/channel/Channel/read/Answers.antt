@@ -12,7 +12,9 @@ use Rattle.mig_in_place.specs.declared.main_stream.SizeList.TheVariants as list
 use Rattle.mig_in_place.specs.Round.{KeepsSome}
 use Rattle.mig_in_place.specs.Sources.{KeptChannel, IsChannelOf, WritesInto, HasRead}
 use Rattle.mig_in_place.proofs.Channels.{kept}
-use Rattle.mig_in_place.proofs.Midway.{IsAt, at_first, at_next, at_last, at_refused, hello_came, into_midst, head_came, page_came, packet_came, stop_rests, stop_waits, stop_channel, whole_waits, of_hello, of_head, of_page, of_packet, head_block, page_lies, page_size_of, of_refused, any_err, packet_on}
+use Rattle.mig_in_place.proofs.Midway.{IsAt, at_first, at_next, at_last, at_refused, hello_came, into_midst, head_came, page_came, packet_came, stop_rests}
+use Rattle.mig_in_place.proofs.Midway.{stop_waits, stop_channel, whole_waits, of_hello, of_head, of_page, of_packet, head_block, page_lies, page_size_of}
+use Rattle.mig_in_place.proofs.Midway.{of_refused, any_err, packet_on}
 use Rattle.mig_in_place.proofs.channel.Channel.read.Goals as goal
 
 pub items-init : goal.items-init
@@ -186,7 +188,8 @@ begin_packet-requires-clause-block g c =
     let table : RamTable = (g.M.GuestTarget.image c.args.memory.now).table in
     let comes = subst (λ (a : ChannelEvent). HolderTells i.reader (λ given text so_far. Comes given.page_size a so_far))
     c.in-Head.is c.read_on-count.ensures.comes in
-    head_block table (kept i.reader i.block i.is_whole) comes (subst (λ (x : KeptChannel). IsChannelOf table x) (sym c.self.view_is) c.items.invariant.0.channel)
+    head_block table (kept i.reader i.block i.is_whole) comes
+    (subst (λ (x : KeptChannel). IsChannelOf table x) (sym c.self.view_is) c.items.invariant.0.channel)
 
 pub items-preserved-in-Continue-1 : goal.items-preserved-in-Continue-1
 items-preserved-in-Continue-1 g c =

@@ -3,7 +3,8 @@ use Rattle.std.proofs.lemmas.List.{with_items_is, length-set}
 use Rattle.mig_mem.specs.Image.{zero_page}
 use Rattle.mig_mem.specs.Parts.{ChangesPart, part_at, parts_in, written}
 use Rattle.mig_mem.specs.BlockPages.{BlockPages, page_at, with_content}
-use Rattle.mig_mem.proofs.Slotted.{has_slot, length-zero_page, some_slot, more_room, room_more, room_slot, put_slot, put_more, kept_more, slot_made, page_zeros, page_bytes}
+use Rattle.mig_mem.proofs.Slotted.{has_slot, length-zero_page, some_slot, more_room, room_more, room_slot, put_slot, put_more, kept_more, slot_made, page_zeros}
+use Rattle.mig_mem.proofs.Slotted.{page_bytes}
 use Rattle.mig_mem.proofs.pages.Pages.set.Goals as goal
 
 pub get-slot-requires : goal.get-slot-requires

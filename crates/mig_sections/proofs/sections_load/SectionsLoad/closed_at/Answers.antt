@@ -8,8 +8,10 @@ use Rattle.mig_sections.proofs.sections_load.SectionsLoad.closed_at.Goals as goa
 
 pub returns-in-Some : goal.returns-in-Some
 returns-in-Some g c = λ memory given first text ended known.
-    let s : SectionsLoad = sections_load c.self.inside.reader c.self.inside.table c.self.inside.named c.self.inside.sections c.self.inside.fed c.self.inside.ended in
-    let loads : LoadsSections memory given first s text ended = subst (λ (x : SectionsLoad). LoadsSections memory given first x text ended) (sym c.self.view_is) known in
+    let s : SectionsLoad = sections_load c.self.inside.reader c.self.inside.table c.self.inside.named c.self.inside.sections c.self.inside.fed
+    c.self.inside.ended in
+    let loads : LoadsSections memory given first s text ended = subst (λ (x : SectionsLoad). LoadsSections memory given first x text ended)
+    (sym c.self.view_is) known in
     let has = by_reader memory given first s text ended (Some c.in-Some.reader) c.in-Some.is loads in
     closed_own given first text memory s.named s.sections c.in-Some.reader c.closed_at.result has
     (c.closed_at.ensures (settings_for first.table given) (put_so_far text false s.sections) has.is_read.1)

@@ -13,13 +13,16 @@ pub read_piece-requires-clause-some : goal.read_piece-requires-clause-some
 read_piece-requires-clause-some g c =
     let is : c.self.inside.reader ≡ Some c.in-Some.reader = search rules in
     let same : c.self.inside.table ≡ (g.M.GuestTarget.image c.args.memory.now).table = c.same.ensures.0 c.if-not-same.false ∙ c.table.ensures.value in
-    subst (λ (t : RamTable). ReadsSome t c.self.inside.sections c.in-Some.reader) same (reads_kept c.self.inside.reader c.in-Some.reader is c.self.invariant.reads).0
+    subst (λ (t : RamTable). ReadsSome t c.self.inside.sections c.in-Some.reader) same
+    (reads_kept c.self.inside.reader c.in-Some.reader is c.self.invariant.reads).0
 
 pub returns-in_default-clause-ok : goal.returns-in_default-clause-ok
 returns-in_default-clause-ok g c = λ given first text known.
-    let s : SectionsLoad = sections_load c.self.inside.reader c.self.inside.table c.self.inside.named c.self.inside.sections c.self.inside.fed c.self.inside.ended in
+    let s : SectionsLoad = sections_load c.self.inside.reader c.self.inside.table c.self.inside.named c.self.inside.sections c.self.inside.fed
+    c.self.inside.ended in
     let memory : Image = g.M.GuestTarget.image c.args.memory.now in
-    let loads : LoadsSections memory given first s text false = subst (λ (x : SectionsLoad). LoadsSections memory given first x text false) (sym c.self.view_is) known in
+    let loads : LoadsSections memory given first s text false = subst (λ (x : SectionsLoad). LoadsSections memory given first x text false)
+    (sym c.self.view_is) known in
     let none : c.self.inside.reader ≡ None = search rules in
     let has = other_stays given first text c.args.piece.now memory s.named s.sections (by_reader memory given first s text false None none loads) in
     subst (λ (o : Option Reader). LoadsSections memory given first
@@ -44,22 +47,27 @@ invariant_of-self-in-Ok g c =
 
 pub returns-in-Ok-clause-ok : goal.returns-in-Ok-clause-ok
 returns-in-Ok-clause-ok g c = λ given first text known.
-    let s : SectionsLoad = sections_load c.self.inside.reader c.self.inside.table c.self.inside.named c.self.inside.sections c.self.inside.fed c.self.inside.ended in
+    let s : SectionsLoad = sections_load c.self.inside.reader c.self.inside.table c.self.inside.named c.self.inside.sections c.self.inside.fed
+    c.self.inside.ended in
     let before : Image = g.M.GuestTarget.image c.args.memory.now in
     let after : Image = g.M.GuestTarget.image c.read_piece.new.memory in
-    let loads : LoadsSections before given first s text false = subst (λ (x : SectionsLoad). LoadsSections before given first x text false) (sym c.self.view_is) known in
+    let loads : LoadsSections before given first s text false = subst (λ (x : SectionsLoad). LoadsSections before given first x text false)
+    (sym c.self.view_is) known in
     let is : c.self.inside.reader ≡ Some c.in-Some.reader = search rules in
     let has = c.in-Ok.ensures.ok given first text loads.is_image (by_reader before given first s text false (Some c.in-Some.reader) is loads) in
     subst (λ (o : Option Reader). LoadsSections after given first
     (sections_load o s.table c.read_piece.new.named c.read_piece.new.sections (s.fed + length c.args.piece.now) s.ended) (text ++ c.args.piece.now) false)
     (sym c.reader_if.ensures)
-    (loads_more before after given first s text c.args.piece.now (reader_if c.in-Ok.own c.read_piece.new.reader) c.read_piece.new.named c.read_piece.new.sections loads has)
+    (loads_more before after given first s text c.args.piece.now
+    (reader_if c.in-Ok.own c.read_piece.new.reader) c.read_piece.new.named c.read_piece.new.sections loads has)
 
 pub returns-in-Err-clause-settled : goal.returns-in-Err-clause-settled
 returns-in-Err-clause-settled g c = λ given first text known final _.
-    let s : SectionsLoad = sections_load c.self.inside.reader c.self.inside.table c.self.inside.named c.self.inside.sections c.self.inside.fed c.self.inside.ended in
+    let s : SectionsLoad = sections_load c.self.inside.reader c.self.inside.table c.self.inside.named c.self.inside.sections c.self.inside.fed
+    c.self.inside.ended in
     let before : Image = g.M.GuestTarget.image c.args.memory.now in
-    let loads : LoadsSections before given first s text false = subst (λ (x : SectionsLoad). LoadsSections before given first x text false) (sym c.self.view_is) known in
+    let loads : LoadsSections before given first s text false = subst (λ (x : SectionsLoad). LoadsSections before given first x text false)
+    (sym c.self.view_is) known in
     let is : c.self.inside.reader ≡ Some c.in-Some.reader = search rules in
     let has = by_reader before given first s text false (Some c.in-Some.reader) is loads in
     let settled = subst (λ (t : RamTable). Stands (settings_for t given) (put_so_far text false s.sections) c.in-Some.reader
@@ -68,8 +76,10 @@ returns-in-Err-clause-settled g c = λ given first text known final _.
 
 pub returns-in-Err-clause-another : goal.returns-in-Err-clause-another
 returns-in-Err-clause-another g c = λ given first text known another _.
-    let s : SectionsLoad = sections_load c.self.inside.reader c.self.inside.table c.self.inside.named c.self.inside.sections c.self.inside.fed c.self.inside.ended in
+    let s : SectionsLoad = sections_load c.self.inside.reader c.self.inside.table c.self.inside.named c.self.inside.sections c.self.inside.fed
+    c.self.inside.ended in
     let before : Image = g.M.GuestTarget.image c.args.memory.now in
-    let loads : LoadsSections before given first s text false = subst (λ (x : SectionsLoad). LoadsSections before given first x text false) (sym c.self.view_is) known in
+    let loads : LoadsSections before given first s text false = subst (λ (x : SectionsLoad). LoadsSections before given first x text false)
+    (sym c.self.view_is) known in
     let is : c.self.inside.reader ≡ Some c.in-Some.reader = search rules in
     not_another given first text before s.named s.sections c.in-Some.reader (by_reader before given first s text false (Some c.in-Some.reader) is loads) another

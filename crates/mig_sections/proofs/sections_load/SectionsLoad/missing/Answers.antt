@@ -8,6 +8,8 @@ use Rattle.mig_sections.proofs.sections_load.SectionsLoad.missing.Goals as goal
 
 pub returns : goal.returns
 returns g c = λ memory given first text ended known.
-    let s : SectionsLoad = sections_load c.self.inside.reader c.self.inside.table c.self.inside.named c.self.inside.sections c.self.inside.fed c.self.inside.ended in
-    let loads : LoadsSections memory given first s text ended = subst (λ (x : SectionsLoad). LoadsSections memory given first x text ended) (sym c.self.view_is) known in
+    let s : SectionsLoad = sections_load c.self.inside.reader c.self.inside.table c.self.inside.named c.self.inside.sections c.self.inside.fed
+    c.self.inside.ended in
+    let loads : LoadsSections memory given first s text ended = subst (λ (x : SectionsLoad). LoadsSections memory given first x text ended)
+    (sym c.self.view_is) known in
     tells_missing given first text memory s.named s.sections s.reader c.lacking.result loads.has_sections c.lacking.ensures.value

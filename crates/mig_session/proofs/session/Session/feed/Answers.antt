@@ -4,7 +4,8 @@ use Rattle.mig_session.specs.Loading.{RoundLoad, Feeding}
 use Rattle.mig_session.specs.Session.{Fed, LoadSession, StandsFor, LacksMemory, rounds_loaded, target_in, session, feeding}
 use Rattle.mig_session.specs.Advancing.{IsFedNext, failed_without_memory}
 use Rattle.mig_answer.specs.declared.verdict.Verdict.{Verdict}
-use Rattle.mig_session.proofs.Sessions.{Keeps, keeps_of, held_then, fed_next, feed_steps, feed_runs_out, feed_counts, feed_lacks, is_session_still, has_source_of, open_of, room_of}
+use Rattle.mig_session.proofs.Sessions.{Keeps, keeps_of, held_then, fed_next, feed_steps, feed_runs_out, feed_counts, feed_lacks, is_session_still}
+use Rattle.mig_session.proofs.Sessions.{has_source_of, open_of, room_of}
 use Rattle.mig_session.proofs.session.Session.feed.Goals as goal
 
 pub returns-in-None-clause-ok : goal.returns-in-None-clause-ok
