@@ -130,8 +130,8 @@ class Bench:
         """What is timed, in its order: the name, and the function, passed whether to compare."""
         found = [(WRITES, self.write), ("`zimgasol save`", self.save),
                  ("`zimgasol verify`", self.verify),
-                 ("`zimgasol extract --no-digest`", self.extract_alone),
-                 ("`zimgasol extract`", self.extract), (LOADS, self.load)]
+                 ("`zimgasol extract`", self.extract),
+                 ("`zimgasol extract --digest`", self.extract_digest), (LOADS, self.load)]
         if self.words.analyze:
             found.append(("`analyze-migration.py -x`", self.analyze))
         return found
@@ -155,7 +155,7 @@ class Bench:
         seconds = run([self.words.zimgasol, "save", "--block", block, "--frame", "machine",
                        "--machine", "none", self.saved])
         if first:
-            run([self.words.zimgasol, "extract", self.saved, self.memory, "--no-digest"])
+            run([self.words.zimgasol, "extract", self.saved, self.memory])
             self.compare()
         self.saved.unlink()
         return seconds
@@ -171,8 +171,8 @@ class Bench:
             shutil.rmtree(self.memory)
         return seconds
 
-    def extract_alone(self, first):
-        return self.extract(first, "--no-digest")
+    def extract_digest(self, first):
+        return self.extract(first, "--digest")
 
     def compare(self):
         """Compares what was extracted, and removes it."""

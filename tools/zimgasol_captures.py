@@ -187,7 +187,7 @@ class Run:
             self.complains("extract", found, error)
             expect("extract without --partial", ("", False), (printed, (self.room / "out").exists()))
             more.append("--partial")
-        printed, _ = self.ran("extract", self.name, "out", *self.channels, *more)
+        printed, _ = self.ran("extract", self.name, "out", "--digest", *self.channels, *more)
         expect("extract", whole_line(self.name, found, self.capture), printed)
         listed = json.loads((self.room / "out" / "blocks.json").read_text())["blocks"]
         digests = found["digests"]

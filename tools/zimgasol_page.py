@@ -79,6 +79,9 @@ def wrong(what):
 CASES = [
     ("zimgasol extract guest.sav bare --no-digest", None),
     ("cat bare/blocks.json", None),
+    ("zimgasol extract guest.sav neither --digest --no-digest", (
+        ["error: the argument '--digest' cannot be used with '--no-digest'", "",
+         "Usage: zimgasol extract --digest <FILE> <DIR>", "", "For more information, try '--help'."], 2)),
     ("zimgasol verify full.sav --frame ram --quiet", ([], 0)),
     ("zimgasol save --block ram=half.bin --block rom=later.bin two.sav", None),
     ("zimgasol verify two.sav --frame ram", None),
@@ -121,7 +124,7 @@ CASES = [
     ("zimgasol save --block ram=half.bin --block rom=later.bin day.sav", None),
     ("zimgasol extract day.sav day --frame ram", None),
     ("zimgasol save --block rom=memory/ram.bin --since day changes.sav", None),
-    ("zimgasol extract changes.sav over --frame ram --since day", None),
+    ("zimgasol extract changes.sav over --frame ram --since day --digest", None),
     ("cat over/blocks.json", None),
     ("zimgasol save --block rom=memory/ram.bin --block ram=half.bin --since over same.sav --replace", None),
     ("zimgasol extract changes.sav day --frame ram --since day", ([f"day/blocks.json: {EXISTS}"], 3)),
@@ -152,7 +155,7 @@ CASES = [
     ("zimgasol inspect one.sav --frame ram --channel one.sav.0 --json --partial", None),
     ("zimgasol extract one.sav gone --frame ram --channel one.sav.0", None),
     ("zimgasol verify gone/rom.bin", (["gone/rom.bin: No such file or directory (os error 2)"], 3)),
-    ("zimgasol extract one.sav parts --frame ram --channel one.sav.0 --partial", None),
+    ("zimgasol extract one.sav parts --frame ram --channel one.sav.0 --partial --digest", None),
     ("cat parts/blocks.json", None),
     ("zimgasol verify main.sav --quiet", (
         ['main.sav: INCOMPLETE: 20 of 32 pages of block "pc.ram" have no record',
@@ -166,7 +169,7 @@ CASES = [
     ("zimgasol inspect rounds.sav --json --partial", None),
     ("zimgasol extract rounds.sav gone", None),
     ("zimgasol verify gone/pc.ram.bin", (["gone/pc.ram.bin: No such file or directory (os error 2)"], 3)),
-    ("zimgasol extract rounds.sav rounds --partial", None),
+    ("zimgasol extract rounds.sav rounds --partial --digest", None),
     ("cat rounds/blocks.json", None),
     ("zimgasol verify cpr.sav", (
         ["cpr.sav: partial: sections 2, blocks 1, memory 4194304 bytes, RAM ends at byte 89, devices: whole, 1011 bytes",
@@ -996,7 +999,7 @@ class Shell:
                 memories[block] = self.over(memory, block, found)
         blocks = [{"id": it, "file": f"{it}.bin", "bytes": len(memory), "sha256": stream_facts.digest(memory)}
                   for it, memory in memories.items()]
-        if "--no-digest" in words:
+        if "--digest" not in words:
             blocks = [{key: it[key] for key in it if key != "sha256"} for it in blocks]
         text = json.dumps({"page_size": 4096, "blocks": blocks}, indent=2, sort_keys=True) + "\n"
         self.files[listed] = text.encode()

@@ -76,8 +76,8 @@ class Guest:
 
     def measure_single(self):
         self.measure("verify", "verify", self.stream)
-        self.measure("extract", "extract", self.stream, self.memory)
-        self.measure("extract --no-digest", "extract", self.stream, self.again, "--no-digest")
+        self.measure("extract --digest", "extract", self.stream, self.memory, "--digest")
+        self.measure("extract", "extract", self.stream, self.again)
         self.measure("compare, two folders", "compare", self.memory, self.again)
         shutil.rmtree(self.again)
         self.measure("compare, a stream and a folder", "compare", self.stream, self.memory)
@@ -86,7 +86,7 @@ class Guest:
         self.measure("save", "save", *block, "--frame", "machine", self.saved)
         self.measure("save --since", "save", *block, "--since", self.memory, "--replace", self.saved)
         self.measure("extract --since", "extract", self.saved, self.again, "--frame", "ram",
-                     "--since", self.memory, "--no-digest")
+                     "--since", self.memory)
         shutil.rmtree(self.again)
         self.saved.unlink()
 
@@ -97,8 +97,7 @@ class Guest:
         self.measure("save --channels 4", "save", *block, "--frame", "machine", "--channels", "4",
                      self.saved)
         self.measure("verify, 4 channels", "verify", self.saved, *channels)
-        self.measure("extract --no-digest, 4 channels", "extract", self.saved, self.again,
-                     *channels, "--no-digest")
+        self.measure("extract, 4 channels", "extract", self.saved, self.again, *channels)
         for file in files:
             os.unlink(file)
         self.measure("compare, of 4 channels", "compare", self.memory, self.again)

@@ -88,7 +88,7 @@ def extracted(zimgasol, stream, folder, *words):
     Compares the SHA-256 that the list of blocks has.
     """
     shutil.rmtree(folder, ignore_errors=True)
-    ran(zimgasol, "extract", stream, folder, *words)
+    ran(zimgasol, "extract", stream, folder, "--digest", *words)
     found = {}
     for block in json.loads((folder / "blocks.json").read_text())["blocks"]:
         memory = (folder / block["file"]).read_bytes()

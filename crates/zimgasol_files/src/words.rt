@@ -304,15 +304,26 @@ fn extract_places<'a>(alloc: Global) -> Result<Command<'a>, AllocError> {
     ))
 }
 
+// Declares the options for digests. Without either no digest is made.
+fn digest_flags<'a>(alloc: Global, command: Command<'a>) -> Result<Command<'a>, AllocError> {
+    let digest = flag(
+        alloc,
+        "digest",
+        "Adds the SHA-256 of each file to blocks.json (slow: it reads each file again)",
+    );
+    let no_digest = flag(
+        alloc,
+        "no-digest",
+        "Adds no SHA-256 to blocks.json (the default)",
+    );
+    command.arg(digest.conflicts_with("no-digest")?)?.arg(no_digest)
+}
+
 fn extract_command<'a>(alloc: Global) -> Result<Command<'a>, AllocError> {
-    extract_places(alloc)?
+    let command = extract_places(alloc)?
         .arg(replace_flag(alloc))?
-        .arg(quiet_flag(alloc))?
-        .arg(flag(
-            alloc,
-            "no-digest",
-            "Leaves each file's SHA-256 out of blocks.json: it takes most of the time",
-        ))
+        .arg(quiet_flag(alloc))?;
+    digest_flags(alloc, command)
 }
 
 fn blocks_option<'a>(alloc: Global) -> Arg<'a> {
@@ -498,7 +509,7 @@ fn extract_in<'a>(matches: &ArgMatches<'a>) -> ExtractWords<'a> {
         block: matches.get_str("block"),
         since: matches.get_str("since"),
         replace: matches.get_flag("replace"),
-        digest: !matches.get_flag("no-digest"),
+        digest: matches.get_flag("digest"),
         durable: true,
     }
 }
