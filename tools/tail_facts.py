@@ -80,4 +80,4 @@ def fault_line(name, length, tail):
              "cut description": f"byte {length} (description of the devices): {CUT}",
              "unknown": f"byte {length} (devices): no valid description follows, so it isn't known whether their state is complete",
              "extra": f"byte {length - extra} (after the end): {extra} unknown bytes follow"}.get(state)
-    return wrong and f"{name}: {wrong}; `--ram-only` verifies RAM alone"
+    return wrong and f"zimgasol: {name}: {wrong}; `--ram-only` verifies RAM alone"

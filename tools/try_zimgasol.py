@@ -39,10 +39,12 @@ BROKEN = "zimgasol: the output: Broken pipe (os error 32)\n"
 FOLDER = "Is a directory (os error 21)\n"
 NOTHING = "No such file or directory (os error 2)\n"
 EXISTS = "is there already; `--replace` replaces it\n"
-UNPLAIN = "is no plain file, and isn't replaced\n"
+UNPLAIN = "not a regular file; not replaced\n"
 OUTPUT = "zimgasol: the output: "
-PACKED = ("zstd.save: libvirt compressed the stream with zstd; `tail -c +93 FILE | zstd -dc | zimgasol verify -` "
+PACKED = ("zimgasol: zstd.save: libvirt compressed the stream with zstd; `tail -c +93 FILE | zstd -dc | zimgasol verify -` "
           "reads it, or save it with save_image_format = \"raw\"\n")
+OTHER_COMPARE = ("zimgasol: .zimgasol-compare.partial: note: another `compare` is running; "
+                 "if not, delete it\n")
 SAVE = "zimgasol save --block ram=memory/ram.bin"
 LINKED = "ln -s $PWD/beside"
 # ids that would lead out of a folder, hide a file or an option, or be too long for a name
@@ -50,6 +52,13 @@ IDS = ["../evil", "/etc/x", "..", ".", ".hidden", "a/b", 'q"q', "a b", "%41", "*
        "blocks.json", "x" * 255, "%" * 255]
 NAMES = ["%2E%2E%2Fevil", "%2Fetc%2Fx", "%2E%2E", "%2E", "%2Ehidden", "a%2Fb", "q%22q", "a%20b",
          "%2541", "%2A", "%7E", "%24x", "-rf", "blocks.json", "%long-14", "%long-15"]
+
+
+def on_terminal(command):
+    """A command whose output is a terminal, and then its status."""
+    spawn = f"import os, pty; print(os.waitstatus_to_exitcode(pty.spawn({shlex.split(command)!r})))"
+    return f"python3 -c {shlex.quote(spawn)} | tr -d '\\r'"
+
 
 # ---- rows: what is tried, the command, all that it prints (a pattern, where it is compiled), status
 STREAMS = (
@@ -64,12 +73,15 @@ STREAMS = (
     ("", f"{SAVE} - > /dev/full", OUTPUT + FULL, 3),
     ("full output, the files stay", "zimgasol extract guest.sav full > /dev/full; echo $?; ls full",
      f"{OUTPUT}{FULL}3\nblocks.json\nram.bin\n", 0),
-    # (head may have read all before it ends)
-    ("output that ends early", "zimgasol inspect guest.sav | head -1",
-     re.compile(r"file guest\.sav, 87406 bytes\n(zimgasol: the output: Broken pipe \(os error 32\)\n)?"), 0),
-    ("", "(sleep 0.3; zimgasol inspect guest.sav; echo $? >&2) | true", f"{BROKEN}3\n", 0),
-    ("", "(sleep 0.3; zimgasol --help; echo $? >&2) | true", f"{BROKEN}3\n", 0),
+    ("output that ends early", "zimgasol inspect guest.sav | head -1", "file guest.sav, 87406 bytes\n", 0),
+    ("", "(sleep 0.3; zimgasol inspect guest.sav; echo $? >&2) | true", "3\n", 0),
+    ("", "(sleep 0.3; zimgasol verify guest.sav guest.sav; echo $? >&2) | true", "3\n", 0),
+    ("", "(sleep 0.3; zimgasol --help; echo $? >&2) | true", "3\n", 0),
+    # (of a stream that is cut the message stays)
     ("", f"({SAVE} -; echo $? >&2) | head -c 1 > /dev/null", f"{BROKEN}3\n", 0),
+    ("output that is a terminal", on_terminal(f"{SAVE} -"),
+     'zimgasol: OUT "-": the standard output is a terminal; redirect it, or name a file\n2\n', 0),
+    ("", on_terminal("zimgasol verify guest.sav"), f"{WHOLE}0\n", 0),
     ("closed error output", "zimgasol verify cut.sav 2>&-", "", 1),
     ("full error output", "zimgasol verify cut.sav 2> /dev/full", "", 1),
     # the line of --progress must not go into a file that has the number of the error output
@@ -81,19 +93,19 @@ STREAMS = (
     ("closed output, a file", f"{SAVE} closed.sav >&-; echo $?; zimgasol verify --frame ram closed.sav",
      f"{OUTPUT}{BAD_NUMBER}3\nclosed.sav: complete: sections 3, blocks 1, memory 131072 bytes, "
      "the stream ends at byte 86382, 0 bytes follow\n", 0),
-    ("input that ends early", "head -c 40000 guest.sav | zimgasol verify -", f"-: {CUT}", 1),
+    ("input that ends early", "head -c 40000 guest.sav | zimgasol verify -", f"zimgasol: -: {CUT}", 1),
     ("", "head -c 40000 guest.sav | zimgasol extract - early; echo $?; ls early",
-     f"-: {CUT}1\nls: cannot access 'early': No such file or directory\n", 2),
-    ("", ": | zimgasol verify -", "-: byte 0 (before section 1): fault 34: the stream ends early; "
+     f"zimgasol: -: {CUT}1\nls: cannot access 'early': No such file or directory\n", 2),
+    ("", ": | zimgasol verify -", "zimgasol: -: byte 0 (before section 1): fault 34: the stream ends early; "
      "the file was cut, or the save didn't come to its end\n", 1),
     ("input in pieces", "(head -c 9 guest.sav; sleep 0.2; tail -c +10 guest.sav) | zimgasol verify -",
      PIPED, 0),
-    ("closed input", "zimgasol verify - <&-", re.compile(r"-: .* \(os error \d+\)\n"), 3),
-    ("input that is a folder", "zimgasol verify - < .", f"-: {FOLDER}", 3),
-    ("", "zimgasol verify .", f".: {FOLDER}", 3),
-    ("", "zimgasol verify guest.sav --channel .", f".: {FOLDER}", 3),
+    ("closed input", "zimgasol verify - <&-", re.compile(r"zimgasol: -: .* \(os error \d+\)\n"), 3),
+    ("input that is a folder", "zimgasol verify - < .", f"zimgasol: -: {FOLDER}", 3),
+    ("", "zimgasol verify .", f"zimgasol: .: {FOLDER}", 3),
+    ("", "zimgasol verify guest.sav --channel .", f"zimgasol: .: {FOLDER}", 3),
     ("input that fails", "zimgasol verify /proc/self/mem",
-     "/proc/self/mem: Input/output error (os error 5)\n", 3),
+     "zimgasol: /proc/self/mem: Input/output error (os error 5)\n", 3),
 )
 IDENTS = (
     ("ids", "zimgasol extract ids.sav deep/ids --quiet; echo $?; ls -A . .. deep | grep -c -e evil -e hidden;"
@@ -101,85 +113,95 @@ IDENTS = (
     ("", "zimgasol extract ids.sav one --block ../evil --quiet; echo $?; ls -A one",
      "0\n%2E%2E%2Fevil.bin\nblocks.json\n", 0),
     ("", "zimgasol extract guest.sav none --block $'\\e[2J'; echo $?; ls none",
-     "guest.sav: has no block \"%1B[2J\"\n1\nls: cannot access 'none': No such file or directory\n", 2),
-    ("", "zimgasol verify steering.sav", "steering.sav: byte 42 (section 1, START): fault 21: "
+     "zimgasol: guest.sav: has no block \"%1B[2J\"\n1\nls: cannot access 'none': No such file or directory\n", 2),
+    ("", "zimgasol verify steering.sav", "zimgasol: steering.sav: byte 42 (section 1, START): fault 21: "
      "bad block id\n", 1),
     ("", "zimgasol inspect machine.sav | sed -n 2p", 'machine "%1B[2J%22x"\n', 0),
     ("", "zimgasol save --block $'\\e=memory/ram.bin' out.sav",
      'zimgasol: --block "%1B": the id isn\'t 1 to 255 characters of printable ASCII\n', 2),
-    ("names", "zimgasol verify $'\\e[2J\\n\"'", f"%1B[2J%0A%22: {NOTHING}", 3),
-    ("", "zimgasol verify $'gr\\xc3\\xbcn'", f"gr%C3%BCn: {NOTHING}", 3),
+    ("names", "zimgasol verify $'\\e[2J\\n\"'", f"zimgasol: %1B[2J%0A%22: {NOTHING}", 3),
+    ("", "zimgasol verify $'gr\\xc3\\xbcn'", f"zimgasol: gr%C3%BCn: {NOTHING}", 3),
     ("", "zimgasol verify $'\\xff'", "zimgasol: an argument isn't UTF-8\n", 2),
-    ("", "zimgasol verify ''", f'"": {NOTHING}', 3),
-    ("", "zimgasol extract guest.sav ''", f'"": {NOTHING}', 3),
+    ("", "zimgasol verify ''", f'zimgasol: "": {NOTHING}', 3),
+    ("", "zimgasol extract guest.sav ''", f'zimgasol: "": {NOTHING}', 3),
     ("", "cp guest.sav ./-x; zimgasol verify -- -x", WHOLE.replace("guest", "-x", 1).replace("-x.sav", "-x"), 0),
-    ("arguments", "zimgasol verify guest.sav $'\\e]0;x\\a' 2>&1 | head -1",
+    ("arguments", "zimgasol inspect guest.sav $'\\e]0;x\\a' 2>&1 | head -1",
      "error: unexpected argument '%1B]0;x%07' found\n", 0),
     ("", "zimgasol verify guest.sav --page $'4096\\x7f' 2>&1 | head -1",
      "error: invalid value '4096%7F' for '--page <BYTES>'\n", 0),
     ("", "zimgasol verify guest.sav --$'\\e[2J' 2>&1 | head -1", "error: unexpected argument '--%1B[2J' found\n", 0),
 )
 PLACES = (
-    ("no folder", "zimgasol extract guest.sav nowhere/memory", f"nowhere/memory: {NOTHING}", 3),
-    ("", f"{SAVE} nowhere/out.sav", f"nowhere/out.sav.partial: {NOTHING}", 3),
+    ("no folder", "zimgasol extract guest.sav nowhere/memory", f"zimgasol: nowhere/memory: {NOTHING}", 3),
+    ("", f"{SAVE} nowhere/out.sav", f"zimgasol: nowhere/out.sav.partial: {NOTHING}", 3),
     ("a file in place of a folder", "zimgasol extract guest.sav guest.sav",
-     "guest.sav/blocks.json: Not a directory (os error 20)\n", 3),
-    ("files that exist", "zimgasol extract guest.sav memory", f"memory/blocks.json: {EXISTS}", 3),
+     "zimgasol: guest.sav/blocks.json: Not a directory (os error 20)\n", 3),
+    ("files that exist", "zimgasol extract guest.sav memory", f"zimgasol: memory/blocks.json: {EXISTS}", 3),
     ("", "mkdir old; echo old > old/ram.bin; zimgasol extract guest.sav old; echo $?; ls old; cat old/ram.bin",
-     f"old/ram.bin: {EXISTS}3\nram.bin\nold\n", 0),
+     f"zimgasol: old/ram.bin: {EXISTS}3\nram.bin\nold\n", 0),
     ("", "zimgasol extract guest.sav old --replace; ls old", f"{WHOLE}blocks.json\nram.bin\n", 0),
     ("a fault keeps old files", "zimgasol extract cut.sav old --replace; echo $?; ls old; cmp old/ram.bin memory/ram.bin",
-     f"cut.sav: {CUT}1\nblocks.json\nram.bin\n", 0),
+     f"zimgasol: cut.sav: {CUT}1\nblocks.json\nram.bin\n", 0),
     ("", f"echo old > old.sav; {SAVE} old.sav; echo $?; {SAVE} --since nowhere --replace old.sav; cat old.sav",
-     f"old.sav: {EXISTS}3\nnowhere/blocks.json: {NOTHING}old\n", 0),
+     f"zimgasol: old.sav: {EXISTS}3\nzimgasol: nowhere/blocks.json: {NOTHING}old\n", 0),
     ("a folder in place of a file", "mkdir -p dir/ram.bin; zimgasol extract guest.sav dir --replace; echo $?; ls dir",
-     f"dir/ram.bin: {UNPLAIN}3\nram.bin\n", 0),
+     f"zimgasol: dir/ram.bin: {UNPLAIN}3\nram.bin\n", 0),
     ("", "mkdir -p part/ram.bin.partial; zimgasol extract guest.sav part; echo $?; ls part",
-     "part/ram.bin.partial: File exists (os error 17)\n3\nram.bin.partial\n", 0),
-    ("", f"{SAVE} memory --replace", f"memory: {UNPLAIN}", 3),
+     "zimgasol: part/ram.bin.partial: File exists (os error 17)\n3\nram.bin.partial\n", 0),
+    ("", f"{SAVE} memory --replace", f"zimgasol: memory: {UNPLAIN}", 3),
     ("a link in place of a file", f"mkdir link; {LINKED} link/ram.bin; zimgasol extract guest.sav link --replace; echo $?; ls beside",
-     f"link/ram.bin: {UNPLAIN}3\nls: cannot access 'beside': No such file or directory\n", 2),
+     f"zimgasol: link/ram.bin: {UNPLAIN}3\nls: cannot access 'beside': No such file or directory\n", 2),
     ("", f"mkdir linked; {LINKED} linked/ram.bin.partial; zimgasol extract guest.sav linked --quiet; echo $?; ls beside linked",
      "0\nls: cannot access 'beside': No such file or directory\nlinked:\nblocks.json\nram.bin\n", 2),
     ("", f"{LINKED} linked.sav; {SAVE} --replace linked.sav; echo $?; ls beside",
-     f"linked.sav: {UNPLAIN}3\nls: cannot access 'beside': No such file or directory\n", 2),
-    ("a pipe in place of a file", f"mkfifo pipe; {SAVE} --replace pipe", f"pipe: {UNPLAIN}", 3),
-    ("a device in place of a file", f"{SAVE} --replace /dev/null", f"/dev/null: {UNPLAIN}", 3),
+     f"zimgasol: linked.sav: {UNPLAIN}3\nls: cannot access 'beside': No such file or directory\n", 2),
+    ("a pipe in place of a file", f"mkfifo pipe; {SAVE} --replace pipe", f"zimgasol: pipe: {UNPLAIN}", 3),
+    ("a device in place of a file", f"{SAVE} --replace /dev/null", f"zimgasol: /dev/null: {UNPLAIN}", 3),
     ("a list that isn't one", "mkdir list; echo '{}' > list/blocks.json; zimgasol compare list memory",
-     "list/blocks.json: is no list of blocks that `extract` wrote\n", 3),
+     "zimgasol: list/blocks.json: is no list of blocks that `extract` wrote\n", 3),
     ("a list that leads elsewhere", "mkdir out; sed 's|ram.bin|../memory/ram.bin|' memory/blocks.json > out/blocks.json;"
-     " zimgasol compare out memory", "out/blocks.json: is no list of blocks that `extract` wrote\n", 3),
+     " zimgasol compare out memory", "zimgasol: out/blocks.json: is no list of blocks that `extract` wrote\n", 3),
     ("a list without its file", "mkdir gone; cp memory/blocks.json gone; zimgasol compare gone memory",
-     f"gone/ram.bin: {NOTHING}", 3),
+     f"zimgasol: gone/ram.bin: {NOTHING}", 3),
     ("another `compare`", "mkdir .zimgasol-compare.partial; zimgasol compare guest.sav memory; echo $?;"
-     " rmdir .zimgasol-compare.partial", ".zimgasol-compare.partial: is there already: another `compare` runs, or was "
-     "killed; then remove it\n3\n", 0),
-    ("libvirt's files", "zimgasol verify never.save", "never.save: libvirt never completed this save\n", 1),
+     " ls -A | grep compare; rmdir .zimgasol-compare.partial", f"{OTHER_COMPARE}guest.sav and memory: the same: blocks 1, "
+     "memory 131072 bytes\n0\n.zimgasol-compare.partial\n", 0),
+    ("a `compare` that is killed", "bash -c '(head -c 300000 noise.sav; sleep 1.5) |"
+     " timeout -s KILL 0.7 zimgasol compare - memory' 2> /dev/null; ls .zimgasol-compare.partial/a;"
+     " zimgasol compare guest.sav memory; ls -A | grep compare; rm -r .zimgasol-compare.partial",
+     f"ram.bin.partial\n{OTHER_COMPARE}guest.sav and memory: the same: blocks 1, memory 131072 bytes\n"
+     ".zimgasol-compare.partial\n", 0),
+    ("libvirt's files", "zimgasol verify never.save", "zimgasol: never.save: libvirt never completed this save\n", 1),
     ("", "zimgasol extract zstd.save zstd; echo $?; ls zstd",
      f"{PACKED}1\nls: cannot access 'zstd': No such file or directory\n", 2),
     ("", "zimgasol compare memory zstd.save; ls -A | grep -c compare", f"{PACKED}0\n", 1),
     ("a program that is killed", "bash -c '(head -c 300000 noise.sav; sleep 1.5) |"
      " timeout -s KILL 0.7 zimgasol extract - killed' 2> /dev/null; ls killed;"
      " zimgasol extract guest.sav killed; ls killed", f"ram.bin.partial\n{WHOLE}blocks.json\nram.bin\n", 0),
+    ("", "bash -c '(head -c 300000 noise.sav; sleep 1.5) | timeout -s KILL 0.7 zimgasol extract - left' 2> /dev/null;"
+     " zimgasol extract ids.sav left --block '*'; ls left",
+     "ids.sav: complete: sections 3, blocks 16, memory 65536 bytes, RAM ends at byte 67041, devices: none, 1 bytes\n"
+     "zimgasol: left/ram.bin.partial: note: another `extract` is running; if not, delete it\n"
+     "%2A.bin\nblocks.json\nram.bin.partial\n", 0),
 )
 DISKS = (
-    ("full disk", "zimgasol extract ../guest.sav memory; echo $?; ls -A", f"memory/ram.bin.partial: {FULL}3\n", 0),
+    ("full disk", "zimgasol extract ../guest.sav memory; echo $?; ls -A", f"zimgasol: memory/ram.bin.partial: {FULL}3\n", 0),
     ("", "mkdir memory; zimgasol extract ../guest.sav memory; echo $?; ls -A memory; rmdir memory",
-     f"memory/ram.bin.partial: {FULL}3\n", 0),
-    ("", "zimgasol extract ../sparse.sav memory; echo $?; ls -A", f"memory/ram.bin.partial: {FULL}3\n", 0),
-    ("", "zimgasol save --block ram=../memory/ram.bin out.sav; echo $?; ls -A", f"out.sav.partial: {FULL}3\n", 0),
+     f"zimgasol: memory/ram.bin.partial: {FULL}3\n", 0),
+    ("", "zimgasol extract ../sparse.sav memory; echo $?; ls -A", f"zimgasol: memory/ram.bin.partial: {FULL}3\n", 0),
+    ("", "zimgasol save --block ram=../memory/ram.bin out.sav; echo $?; ls -A", f"zimgasol: out.sav.partial: {FULL}3\n", 0),
     ("", "zimgasol save --block ram=../memory/ram.bin --channels 2 out.sav; echo $?; ls -A",
-     f"out.sav.0.partial: {FULL}3\n", 0),
+     f"zimgasol: out.sav.0.partial: {FULL}3\n", 0),
     ("", "echo > beside; zimgasol compare ../guest.sav ./guest.sav; echo $?; ls -A; rm beside",
-     f"./.zimgasol-compare.partial/a/ram.bin.partial: {FULL}3\nbeside\n", 0),
+     f"zimgasol: ./.zimgasol-compare.partial/a/ram.bin.partial: {FULL}3\nbeside\n", 0),
     ("full disk, an output", "zimgasol inspect ../guest.sav > listing; head -c 70000 /dev/zero > fill 2> /dev/null;"
      " zimgasol inspect ../guest.sav --json > more; echo $?; rm *", f"{OUTPUT}{FULL}3\n", 0),
     ("read-only disk", "mount -o remount,ro none . && zimgasol extract ../guest.sav memory",
-     "memory: Read-only file system (os error 30)\n", 3),
+     "zimgasol: memory: Read-only file system (os error 30)\n", 3),
     ("", "mount -o remount,ro none . && zimgasol extract ../guest.sav .",
-     "./ram.bin.partial: Read-only file system (os error 30)\n", 3),
+     "zimgasol: ./ram.bin.partial: Read-only file system (os error 30)\n", 3),
     ("", "mount -o remount,ro none . && zimgasol save --block ram=../memory/ram.bin out.sav",
-     "out.sav.partial: Read-only file system (os error 30)\n", 3),
+     "zimgasol: out.sav.partial: Read-only file system (os error 30)\n", 3),
 )
 
 

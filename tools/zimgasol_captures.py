@@ -67,7 +67,7 @@ def is_outside(found, block):
 def lacking(name, found):
     """The lines of `verify` on the blocks that aren't in the stream."""
     pages = {it: len(memory) // 4096 for it, memory in found["memory"].items() if is_outside(found, it)}
-    return [f'{name}: INCOMPLETE: {count} of {count} pages of block "{it}" have no record: it isn\'t in the stream'
+    return [f'zimgasol: {name}: INCOMPLETE: {count} of {count} pages of block "{it}" have no record: it isn\'t in the stream'
             for it, count in pages.items()]
 
 

@@ -57,7 +57,7 @@ UNKNOWN = "no valid description follows, so it isn't known whether their state i
 DESCRIPTION = "description of the devices"
 RAM_ONLY = "`--ram-only` verifies RAM alone"
 WHOLE_RAM = "complete: sections 3, blocks 1, memory 131072 bytes, RAM ends at byte 86395"
-NO_MAGIC = "this is no migration stream of QEMU's; if it is compressed, pipe it through its unpacker into `-`"
+NO_MAGIC = "not a QEMU migration stream; if compressed: `zstd -dc FILE | zimgasol verify -`"
 NO_STREAM = f"byte 0 (before section 1): fault 11: the stream doesn't begin with QEVM; {NO_MAGIC}"
 NO_BLOCK = ["page size 4096", "sections 0"]
 NOTHING_READ = [*NO_BLOCK, "read up to byte 0"]
@@ -65,14 +65,14 @@ POSTCOPY = "fault 49: unsupported COMMAND; a migration that went over to postcop
 TOTAL = "byte 34 (section 1, START): fault 20: RAM total is 0 or above the limit"
 PAIR = " --channel pair.sav.0 --channel pair.sav.1"
 THREE = "".join(f" --channel three.sav.{i}" for i in (2, 0, 1))
-SHORT = "short/ram.bin: has 65536 bytes, and `blocks.json` lists 131072"
-TWICE = "twice/blocks.json: lists an id twice"
-NO_LIST = "short/blocks.json: is no list of blocks that `extract` wrote"
+SHORT = "zimgasol: short/ram.bin: has 65536 bytes, and `blocks.json` lists 131072"
+TWICE = "zimgasol: twice/blocks.json: lists an id twice"
+NO_LIST = "zimgasol: short/blocks.json: is no list of blocks that `extract` wrote"
 
 
 def wrong(what):
-    """What clap says of wrong arguments of `verify`."""
-    return [f"error: {what}", "", "Usage: zimgasol verify [OPTIONS] <FILE>", "", "For more information, try '--help'."]
+    """What clap says of wrong arguments of `inspect`."""
+    return [f"error: {what}", "", "Usage: zimgasol inspect [OPTIONS] <FILE>", "", "For more information, try '--help'."]
 
 
 # After those of the pages: commands, and what each prints and its status. None: as it is made here.
@@ -83,6 +83,50 @@ CASES = [
         ["error: the argument '--digest' cannot be used with '--no-digest'", "",
          "Usage: zimgasol extract --digest <FILE> <DIR>", "", "For more information, try '--help'."], 2)),
     ("zimgasol verify full.sav --frame ram --quiet", ([], 0)),
+    # ---- several files: their statuses, of which the worst is that of the program
+    ("zimgasol verify guest.sav cut.sav nowhere.sav main.sav 2>&1", (
+        [f"guest.sav: {WHOLE}", f"zimgasol: cut.sav: byte 50000 (section 2, PART, block \"ram\"): {CUT}",
+         "zimgasol: nowhere.sav: No such file or directory (os error 2)",
+         "main.sav: partial: sections 3, blocks 1, memory 131072 bytes, RAM ends at byte 221, devices: none, 1 bytes",
+         'zimgasol: main.sav: INCOMPLETE: 20 of 32 pages of block "pc.ram" have no record',
+         f"zimgasol: main.sav: INCOMPLETE: {NO_CONTENTS}", "4 files: 1 passed, 2 refused, 1 not read"], 3)),
+    ("zimgasol verify nowhere.sav cut.sav --quiet", (
+        ["zimgasol: nowhere.sav: No such file or directory (os error 2)",
+         f"zimgasol: cut.sav: byte 50000 (section 2, PART, block \"ram\"): {CUT}"], 3)),
+    ("zimgasol verify guest.sav cut.sav --quiet", (
+        [f"zimgasol: cut.sav: byte 50000 (section 2, PART, block \"ram\"): {CUT}"], 1)),
+    ("zimgasol verify guest.sav guest.sav --quiet", ([], 0)),
+    ("zimgasol verify guest.sav main.sav --partial", (
+        [f"guest.sav: {WHOLE}",
+         "main.sav: partial: sections 3, blocks 1, memory 131072 bytes, RAM ends at byte 221, devices: none, 1 bytes",
+         "2 files: 2 passed, 0 refused, 0 not read",
+         'zimgasol: main.sav: note: 20 of 32 pages of block "pc.ram" have no record'], 0)),
+    ("zimgasol verify - guest.sav < guest.sav", (
+        [f"-: {WHOLE}", f"guest.sav: {WHOLE}", "2 files: 2 passed, 0 refused, 0 not read"], 0)),
+    ("zimgasol verify - guest.sav -", (['zimgasol: FILE "-": only one FILE can be the standard input'], 2)),
+    ("zimgasol verify guest.sav main.sav --channel multi.sav.0", (
+        ['zimgasol: --channel "multi.sav.0": goes with one FILE'], 2)),
+    ("zimgasol verify guest.sav --json", None),
+    ("zimgasol verify guest.sav nowhere.sav main.sav --json 2>&1", None),
+    ("zimgasol verify guest.sav --json --quiet", (
+        ["error: the argument '--json' cannot be used with '--quiet'", "",
+         "Usage: zimgasol verify --json <FILE>...", "", "For more information, try '--help'."], 2)),
+    ("zimgasol verify multi.sav --json --channel multi.sav.0 --channel multi.sav.1", None),
+    # ---- where no stream or folder can be written
+    ("zimgasol extract guest.sav -", (
+        ['zimgasol: DIR "-": is no folder, and `extract` writes files; `./-` names a folder of that name'], 2)),
+    ("zimgasol extract guest.sav ./- --quiet", ([], 0)),
+    # ---- help for terminals of 40 to 80 columns, whose first line is what the command does
+    *((command, ([], 0)) for name in ("", " verify", " inspect", " extract", " save", " compare")
+      for columns in (40, 57, 80)
+      for command in (f"COLUMNS={columns} zimgasol help{name} | awk 'length > {columns}'",)),
+    ("COLUMNS=1 zimgasol help save | awk 'length > 40'", ([], 0)),
+    ("COLUMNS=200 zimgasol help save | awk 'length > 80'", ([], 0)),
+    ("zimgasol help save | awk 'length > 80'", ([], 0)),
+    ("zimgasol help save | awk 'length > 60 {wide = 1} END {print wide}'", (["1"], 0)),
+    ("zimgasol help extract | grep -A 4 Examples:", (
+        ["Examples:", "  zimgasol extract guest.sav memory", "  zimgasol extract day.sav restored \\",
+         "    --frame ram --since memory"], 0)),
     ("zimgasol save --block ram=half.bin --block rom=later.bin two.sav", None),
     ("zimgasol verify two.sav --frame ram", None),
     ("head -c 66000 two.sav > cut.sav", None),
@@ -96,13 +140,13 @@ CASES = [
     ("zimgasol compare guest.sav machine.sav", None),
     ("zimgasol compare guest.sav machine.sav --quiet", ([], 0)),
     ("zimgasol compare six main.sav", (
-        ['main.sav: INCOMPLETE: 20 of 32 pages of block "pc.ram" have no record',
-         f"main.sav: INCOMPLETE: {NO_CONTENTS}"], 1)),
+        ['zimgasol: main.sav: INCOMPLETE: 20 of 32 pages of block "pc.ram" have no record',
+         f"zimgasol: main.sav: INCOMPLETE: {NO_CONTENTS}"], 1)),
     ("zimgasol compare six main.sav --partial", (
         [f'block "{it}": only in six' for it in "abcdef"] + ['block "pc.ram": only in main.sav'] +
-        ['main.sav: note: 20 of 32 pages of block "pc.ram" have no record'], 1)),
+        ['zimgasol: main.sav: note: 20 of 32 pages of block "pc.ram" have no record'], 1)),
     ("zimgasol compare memory cut.sav --frame ram", None),
-    ("zimgasol compare memory nowhere", (["nowhere: No such file or directory (os error 2)"], 3)),
+    ("zimgasol compare memory nowhere", (["zimgasol: nowhere: No such file or directory (os error 2)"], 3)),
     ("zimgasol compare - -", (["zimgasol: compare - -: only one of the two can be the standard input"], 2)),
     ("zimgasol save --block ram out.sav", (['zimgasol: --block "ram": isn\'t ID=FILE'], 2)),
     ("zimgasol save --block =half.bin out.sav", (
@@ -112,13 +156,13 @@ CASES = [
     ("zimgasol save --block ram=half.bin --machine none out.sav", (
         ['zimgasol: --machine "none": goes with `--frame machine`'], 2)),
     ("zimgasol save --block ram=main.sav out.sav", (
-        ["main.sav: has 222 bytes, which is no multiple of the page size 4096 (`--page`)"], 1)),
+        ["zimgasol: main.sav: has 222 bytes, which is no multiple of the page size 4096 (`--page`)"], 1)),
     ("zimgasol save --block ram=half.bin --since memory out.sav", (
-        ["half.bin: has 65536 bytes, and in the folder of `--since` 131072"], 1)),
-    ("zimgasol save --block rom=half.bin --since memory out.sav", (["rom: isn't in the folder of `--since`"], 1)),
-    ("zimgasol save --block ram=none.bin out.sav", (["none.bin: No such file or directory (os error 2)"], 3)),
-    ("zimgasol save --block ram=half.bin full.sav", (["full.sav: " + EXISTS], 3)),
-    ("zimgasol save --block ram=half.bin memory", (["memory: is no plain file, and isn't replaced"], 3)),
+        ["zimgasol: half.bin: has 65536 bytes, and in the folder of `--since` 131072"], 1)),
+    ("zimgasol save --block rom=half.bin --since memory out.sav", (["zimgasol: rom: isn't in the folder of `--since`"], 1)),
+    ("zimgasol save --block ram=none.bin out.sav", (["zimgasol: none.bin: No such file or directory (os error 2)"], 3)),
+    ("zimgasol save --block ram=half.bin full.sav", (["zimgasol: full.sav: " + EXISTS], 3)),
+    ("zimgasol save --block ram=half.bin memory", (["zimgasol: memory: not a regular file; not replaced"], 3)),
     ("zimgasol save --block ram=half.bin --replace full.sav", None),
     # ---- laid over a folder, and over several channels
     ("zimgasol save --block ram=half.bin --block rom=later.bin day.sav", None),
@@ -127,15 +171,15 @@ CASES = [
     ("zimgasol extract changes.sav over --frame ram --since day --digest", None),
     ("cat over/blocks.json", None),
     ("zimgasol save --block rom=memory/ram.bin --block ram=half.bin --since over same.sav --replace", None),
-    ("zimgasol extract changes.sav day --frame ram --since day", ([f"day/blocks.json: {EXISTS}"], 3)),
+    ("zimgasol extract changes.sav day --frame ram --since day", ([f"zimgasol: day/blocks.json: {EXISTS}"], 3)),
     ("zimgasol extract changes.sav both --frame ram --since memory", (
-        ["rom: isn't in the folder of `--since`"], 1)),
+        ["zimgasol: rom: isn't in the folder of `--since`"], 1)),
     ("zimgasol extract day.sav both --frame ram --since memory", (
-        ["ram: has 65536 bytes, and in the folder of `--since` 131072"], 1)),
+        ["zimgasol: ram: has 65536 bytes, and in the folder of `--since` 131072"], 1)),
     ("zimgasol extract changes.sav both --frame ram --since nowhere", (
-        ["nowhere/blocks.json: No such file or directory (os error 2)"], 3)),
+        ["zimgasol: nowhere/blocks.json: No such file or directory (os error 2)"], 3)),
     ("zimgasol extract changes.sav both --frame ram --page 8192 --since day", (
-        ["day: has pages of 4096 bytes, and the other one of 8192"], 3)),
+        ["zimgasol: day: page size 4096, other operand 8192"], 3)),
     ("zimgasol save --block ram=half.bin --block rom=later.bin --channels 3 --uuid " + UUID + " three.sav", None),
     ("zimgasol verify three.sav --frame ram" + THREE, None),
     ("zimgasol inspect three.sav --frame ram --json" + THREE, None),
@@ -149,42 +193,42 @@ CASES = [
     # ---- pages without a record
     ("zimgasol verify one.sav --frame ram --channel one.sav.0 --partial", None),
     ("zimgasol verify one.sav --frame ram --channel one.sav.0 --quiet", (
-        ['one.sav: INCOMPLETE: 16 of 32 pages of block "rom" have no record', f"one.sav: INCOMPLETE: {CHANGES}"], 1)),
+        ['zimgasol: one.sav: INCOMPLETE: 16 of 32 pages of block "rom" have no record', f"zimgasol: one.sav: INCOMPLETE: {CHANGES}"], 1)),
     ("zimgasol inspect one.sav --frame ram --channel one.sav.0", None),
     ("zimgasol inspect one.sav --frame ram --channel one.sav.0 --json", None),
     ("zimgasol inspect one.sav --frame ram --channel one.sav.0 --json --partial", None),
     ("zimgasol extract one.sav gone --frame ram --channel one.sav.0", None),
-    ("zimgasol verify gone/rom.bin", (["gone/rom.bin: No such file or directory (os error 2)"], 3)),
+    ("zimgasol verify gone/rom.bin", (["zimgasol: gone/rom.bin: No such file or directory (os error 2)"], 3)),
     ("zimgasol extract one.sav parts --frame ram --channel one.sav.0 --partial --digest", None),
     ("cat parts/blocks.json", None),
     ("zimgasol verify main.sav --quiet", (
-        ['main.sav: INCOMPLETE: 20 of 32 pages of block "pc.ram" have no record',
-         f"main.sav: INCOMPLETE: {NO_CONTENTS}"], 1)),
+        ['zimgasol: main.sav: INCOMPLETE: 20 of 32 pages of block "pc.ram" have no record',
+         f"zimgasol: main.sav: INCOMPLETE: {NO_CONTENTS}"], 1)),
     ("zimgasol verify main.sav --quiet --partial", (
-        ['main.sav: note: 20 of 32 pages of block "pc.ram" have no record'], 0)),
+        ['zimgasol: main.sav: note: 20 of 32 pages of block "pc.ram" have no record'], 0)),
     ("zimgasol verify rounds.sav", None),
     ("zimgasol inspect rounds.sav", None),
     ("zimgasol inspect rounds.sav --partial", None),
     ("zimgasol inspect rounds.sav --json", None),
     ("zimgasol inspect rounds.sav --json --partial", None),
     ("zimgasol extract rounds.sav gone", None),
-    ("zimgasol verify gone/pc.ram.bin", (["gone/pc.ram.bin: No such file or directory (os error 2)"], 3)),
+    ("zimgasol verify gone/pc.ram.bin", (["zimgasol: gone/pc.ram.bin: No such file or directory (os error 2)"], 3)),
     ("zimgasol extract rounds.sav rounds --partial --digest", None),
     ("cat rounds/blocks.json", None),
     ("zimgasol verify cpr.sav", (
         ["cpr.sav: partial: sections 2, blocks 1, memory 4194304 bytes, RAM ends at byte 89, devices: whole, 1011 bytes",
-         """cpr.sav: INCOMPLETE: 1024 of 1024 pages of block "m0" have no record: it isn't in the stream""",
-         f"cpr.sav: INCOMPLETE: {NOT_SENT}"], 1)),
+         """zimgasol: cpr.sav: INCOMPLETE: 1024 of 1024 pages of block "m0" have no record: it isn't in the stream""",
+         f"zimgasol: cpr.sav: INCOMPLETE: {NOT_SENT}"], 1)),
     # (both are told: that RAM isn't there, and that the devices are cut)
     ("head -c 600 cpr.sav > cut-cpr.sav", ([], 0)),
     ("zimgasol verify cut-cpr.sav", (
-        ["""cut-cpr.sav: INCOMPLETE: 1024 of 1024 pages of block "m0" have no record: it isn't in the stream""",
-         f"cut-cpr.sav: INCOMPLETE: {NOT_SENT}",
+        ["""zimgasol: cut-cpr.sav: INCOMPLETE: 1024 of 1024 pages of block "m0" have no record: it isn't in the stream""",
+         f"zimgasol: cut-cpr.sav: INCOMPLETE: {NOT_SENT}",
          tail_facts.fault_line("cut-cpr.sav", 600, (RUNS / "data" / "cpr.sav").read_bytes()[89:600])], 1)),
     ("zimgasol verify persection.sav", (
         ["persection.sav: partial: sections 3, blocks 1, memory 2097152 bytes, RAM ends at byte 108, devices: whole, 1011 bytes",
-         """persection.sav: INCOMPLETE: 512 of 512 pages of block "ram" have no record: it isn't in the stream""",
-         f"persection.sav: INCOMPLETE: {NOT_RECORDED}"], 1)),
+         """zimgasol: persection.sav: INCOMPLETE: 512 of 512 pages of block "ram" have no record: it isn't in the stream""",
+         f"zimgasol: persection.sav: INCOMPLETE: {NOT_RECORDED}"], 1)),
     ("zimgasol save --block ram=half.bin --block rom=memory/ram.bin --since day --frame machine some.sav", None),
     ("zimgasol verify some.sav", None),
     ("zimgasol save --block rom=memory/ram.bin --since day --frame machine some.sav --replace", None),
@@ -193,44 +237,44 @@ CASES = [
     (r"(head -c 34 guest.sav; printf '\0\0\1\0\0\0\0\4\1a\0\0\1\0\0\0\0\0'; tail -c +55 guest.sav | head -c 13; "
      r"printf '\3\0\0\0\1'; tail -c +55 guest.sav | head -c 13) > large.sav", ([], 0)),
     ("zimgasol verify large.sav", (
-        ["""large.sav: INCOMPLETE: 268435456 of 268435456 pages of block "a" have no record: it isn't in the stream""",
-         f"large.sav: INCOMPLETE: {NOT_SENT}",
+        ["""zimgasol: large.sav: INCOMPLETE: 268435456 of 268435456 pages of block "a" have no record: it isn't in the stream""",
+         f"zimgasol: large.sav: INCOMPLETE: {NOT_SENT}",
          tail_facts.fault_line("large.sav", 83, b"")], 1)),
     # ---- a cut between the size list and the first record
     ("head -c 56 guest.sav > listed.sav", None),
     ("zimgasol inspect listed.sav", (
         ["file listed.sav, 56 bytes", 'machine "none"', "page size 4096",
          'block "ram" 131072 bytes, 0 pages, 0 zero pages', "sections 0", "read up to byte 54",
-         f"listed.sav: byte 56 (section 1, START): {CUT}"], 1)),
-    ("zimgasol extract listed.sav memory", ([f"listed.sav: byte 56 (section 1, START): {CUT}"], 1)),
+         f"zimgasol: listed.sav: byte 56 (section 1, START): {CUT}"], 1)),
+    ("zimgasol extract listed.sav memory", ([f"zimgasol: listed.sav: byte 56 (section 1, START): {CUT}"], 1)),
     # ---- COMMANDs and subsections that are whole are listed, and not one that is cut or has the fault. The COMMAND that
     # is put behind the configuration has its type byte at byte 17, then its number, its length and up to byte 38 its data;
     # the subsection its type byte at 17, its name up to 45, its version up to 49, a count, and capabilities at 53 and 57
     (f"(head -c 17 guest.sav; printf '{ADVISE}') > whole.sav", ([], 0)),
     ("zimgasol inspect whole.sav", (
         ["file whole.sav, 38 bytes", 'machine "none"', "command 3 POSTCOPY_ADVISE after section 0", *NO_BLOCK,
-         "read up to byte 38", f"whole.sav: byte 38 (before section 1): {CUT}"], 1)),
+         "read up to byte 38", f"zimgasol: whole.sav: byte 38 (before section 1): {CUT}"], 1)),
     ("head -c 37 whole.sav > cut.sav", ([], 0)),
     ("zimgasol inspect cut.sav", (
         ["file cut.sav, 37 bytes", 'machine "none"', *NO_BLOCK,
-         "read up to byte 18", f"cut.sav: byte 37 (before section 1): {CUT}"], 1)),
+         "read up to byte 18", f"zimgasol: cut.sav: byte 37 (before section 1): {CUT}"], 1)),
     (f"(head -c 17 guest.sav; printf '{CAPABILITIES}') > whole.sav", ([], 0)),
     ("zimgasol inspect whole.sav", (
         ["file whole.sav, 73 bytes", 'machine "none"',
          'subsection "configuration/capabilities" 000000020378797a0f782d69676e6f72652d736861726564', *NO_BLOCK,
-         "read up to byte 73", f"whole.sav: byte 73 (before section 1): {CUT}"], 1)),
+         "read up to byte 73", f"zimgasol: whole.sav: byte 73 (before section 1): {CUT}"], 1)),
     ("head -c 72 whole.sav > cut.sav", ([], 0)),
     ("zimgasol inspect cut.sav", (
         ["file cut.sav, 72 bytes", 'machine "none"', *NO_BLOCK,
-         "read up to byte 57", f"cut.sav: byte 72 (before section 1): {CUT}"], 1)),
+         "read up to byte 57", f"zimgasol: cut.sav: byte 72 (before section 1): {CUT}"], 1)),
     (r"(head -c 17 guest.sav; printf '\x08\0\5\0\0') > whole.sav", ([], 0)),
     ("zimgasol inspect whole.sav", (
         ["file whole.sav, 22 bytes", 'machine "none"', *NO_BLOCK,
-         "read up to byte 18", f"whole.sav: byte 18 (before section 1): {POSTCOPY}"], 1)),
+         "read up to byte 18", f"zimgasol: whole.sav: byte 18 (before section 1): {POSTCOPY}"], 1)),
     # ---- what a file is that begins otherwise
     ("gzip -c guest.sav > guest.gz", ([], 0)),
     ("zimgasol verify guest.gz", (
-        ["guest.gz: byte 0 (before section 1): fault 11: the stream doesn't begin with QEVM; "
+        ["zimgasol: guest.gz: byte 0 (before section 1): fault 11: the stream doesn't begin with QEVM; "
          "gzip compressed it: `gzip -dc FILE | zimgasol verify -`"], 1)),
     ("gzip -dc guest.gz | zimgasol verify -", ([f"-: {WHOLE}"], 0)),
     *((command, wanted) for front, what in (
@@ -241,56 +285,56 @@ CASES = [
         (r"\x16\3\1\2\0\1\0\1", "these are bytes of TLS, which hide the stream: migrate without `tls-creds`"),
         (r"\x7fELF\2\1\1\0", "this is an ELF file, as `dump-guest-memory` writes it: save by `migrate`"),
         (r"QFI\xfb\0\0\0\3", "this is a qcow2 image, and a snapshot in it isn't read: save by `migrate`"),
-        ("no stream", "this is no migration stream of QEMU's; if it is compressed, pipe it through its unpacker into `-`"))
+        ("no stream", NO_MAGIC))
       for command, wanted in (
         (f"printf '{front}' > other", ([], 0)),
-        ("zimgasol verify other", ([f"other: byte 0 (before section 1): fault 11: the stream doesn't begin with QEVM; {what}"], 1)))),
+        ("zimgasol verify other", ([f"zimgasol: other: byte 0 (before section 1): fault 11: the stream doesn't begin with QEVM; {what}"], 1)))),
     (f"(printf '{LIBVIRT_HEAD}'; head -c 60 /dev/zero; printf '<x/>' ; head -c 1 /dev/zero; gzip -c guest.sav) > packed.save", ([], 0)),
     ("zimgasol verify packed.save", (
-        ["packed.save: libvirt compressed the stream with gzip; `tail -c +98 FILE | gzip -dc | zimgasol verify -` reads it, "
+        ["zimgasol: packed.save: libvirt compressed the stream with gzip; `tail -c +98 FILE | gzip -dc | zimgasol verify -` reads it, "
          'or save it with save_image_format = "raw"'], 1)),
     ("tail -c +98 packed.save | gzip -dc | zimgasol verify -", ([f"-: {WHOLE}"], 0)),
     ("zimgasol compare packed.save memory", (
-        ["packed.save: libvirt compressed the stream with gzip; `tail -c +98 FILE | gzip -dc | zimgasol verify -` reads it, "
+        ["zimgasol: packed.save: libvirt compressed the stream with gzip; `tail -c +98 FILE | gzip -dc | zimgasol verify -` reads it, "
          'or save it with save_image_format = "raw"'], 1)),
     # ---- sections that aren't RAM's
     (r"(head -c 17 guest.sav; printf '\4\0\0\0\7\5timer\0\0\0\0\0\0\0\2'; tail -c +18 guest.sav) > device.sav", ([], 0)),
     ("zimgasol verify device.sav", (
-        ["device.sav: byte 17 (before section 1): fault 13: unexpected section type; "
+        ["zimgasol: device.sav: byte 17 (before section 1): fault 13: unexpected section type; "
          f'the section of "timer": {NOT_READ}'], 1)),
     (r"(head -c 67 guest.sav; printf '\4\0\0\0\x25\x240000:00:01.0/virtio-mem-device-early\0\0\0\0\0\0\0\1') > device.sav", ([], 0)),
     ("zimgasol verify device.sav", (
-        ["device.sav: byte 67 (after section 1): fault 13: unexpected section type; "
+        ["zimgasol: device.sav: byte 67 (after section 1): fault 13: unexpected section type; "
          'the section of "0000:00:01.0/virtio-mem-device-early": virtio-mem\'s state before RAM\'s pages, which isn\'t read'], 1)),
     (r"(head -c 67 guest.sav; printf '\1\0\0\0\2\x0cdirty-bitmap\0\0\0\0\0\0\0\1') > device.sav", ([], 0)),
     ("zimgasol verify device.sav", (
-        ["device.sav: byte 67 (after section 1): fault 13: unexpected section type; "
+        ["zimgasol: device.sav: byte 67 (after section 1): fault 13: unexpected section type; "
          'the section of "dirty-bitmap": bitmaps of disks, which aren\'t read: save without `dirty-bitmaps`'], 1)),
     (r"(head -c 86372 guest.sav; printf '\4\0\0\0\3\5timer\0\0\0\0\0\0\0\2') > device.sav", ([], 0)),
     ("zimgasol verify device.sav", (
-        ["device.sav: byte 86372 (after section 2): fault 13: unexpected section type; "
+        ["zimgasol: device.sav: byte 86372 (after section 2): fault 13: unexpected section type; "
          'the section of "timer": RAM has no END before it, as with `background-snapshot`: save without that'], 1)),
     (r"(head -c 67 guest.sav; printf '\4\0\0\0\3\5ti') > device.sav", ([], 0)),
     ("zimgasol verify device.sav", (
-        [f"device.sav: byte 67 (after section 1): fault 13: unexpected section type; {NOT_READ}"], 1)),
+        [f"zimgasol: device.sav: byte 67 (after section 1): fault 13: unexpected section type; {NOT_READ}"], 1)),
     (r"(head -c 67 guest.sav; printf '\4\0\0\0\3\4\x1b[\x22m\0\0\0\0\0\0\0\2') > device.sav", ([], 0)),
     ("zimgasol verify device.sav", (
-        [f'device.sav: byte 67 (after section 1): fault 13: unexpected section type; the section of "%1B[%22m": {NOT_READ}'], 1)),
+        [f'zimgasol: device.sav: byte 67 (after section 1): fault 13: unexpected section type; the section of "%1B[%22m": {NOT_READ}'], 1)),
     (r"(head -c 17 guest.sav; printf '\3\0\0\0\5') > device.sav", ([], 0)),
     ("zimgasol verify device.sav", (
-        [f"device.sav: byte 17 (before section 1): fault 13: unexpected section type; the section with the id 5: {NOT_READ}"], 1)),
+        [f"zimgasol: device.sav: byte 17 (before section 1): fault 13: unexpected section type; the section with the id 5: {NOT_READ}"], 1)),
     (r"(head -c 67 guest.sav; printf '\0') > device.sav", ([], 0)),
     ("zimgasol verify device.sav", (
-        ["device.sav: byte 67 (after section 1): fault 13: unexpected section type; the stream ends before RAM's END"], 1)),
+        ["zimgasol: device.sav: byte 67 (after section 1): fault 13: unexpected section type; the stream ends before RAM's END"], 1)),
     ("zimgasol verify guest.sav --frame ram", (
-        ["guest.sav: byte 86372 (after section 2): fault 13: unexpected section type; "
-         "this is a machine's stream, which is read without `--frame ram`"], 1)),
+        ["zimgasol: guest.sav: byte 86372 (after section 2): fault 13: unexpected section type; "
+         "this looks like a full machine stream; drop `--frame ram`"], 1)),
     (r"(head -c 17 guest.sav; printf '\1\0\0\0\7\x0aspapr/htab\0\0\0\0\0\0\0\1') > device.sav", ([], 0)),
     ("zimgasol verify device.sav", (
-        [f'device.sav: byte 18 (section 1, START): fault 14: the section isn\'t ram; the section of "spapr/htab": {NOT_READ}'], 1)),
+        [f'zimgasol: device.sav: byte 18 (section 1, START): fault 14: the section isn\'t ram; the section of "spapr/htab": {NOT_READ}'], 1)),
     (r"(head -c 67 guest.sav; printf '\2\0\0\0\2'; tail -c +68 guest.sav) > device.sav", ([], 0)),
     ("zimgasol verify device.sav", (
-        [f"device.sav: byte 68 (section 2, PART): fault 17: wrong section id; the section with the id 2: {NOT_READ}"], 1)),
+        [f"zimgasol: device.sav: byte 68 (section 2, PART): fault 17: wrong section id; the section with the id 2: {NOT_READ}"], 1)),
     # ---- records that aren't read
     *((command, wanted) for flags, shown, what in (
         (r"\0\x60", "0x60", "the save used xbzrle, which isn't read: save without it"),
@@ -299,7 +343,7 @@ CASES = [
       for command, wanted in (
         (f"(head -c 72 guest.sav; printf '" + r"\0\0\0\0\0\0" + f"{flags}') > record.sav", ([], 0)),
         ("zimgasol verify record.sav", (
-            [f"record.sav: byte 72 (section 2, PART): fault 27: unexpected record flags: {shown}; {what}"], 1)))),
+            [f"zimgasol: record.sav: byte 72 (section 2, PART): fault 27: unexpected record flags: {shown}; {what}"], 1)))),
     # ---- size lists with 8 bytes more: START's own head ends at byte 34, the total at 42, the entry at 54
     (f"(head -c 17 guest.sav; printf '{ADVISE}'; tail -c +18 guest.sav | head -c 37; printf '{HUGE}'; "
      "tail -c +55 guest.sav) > huge.sav", ([], 0)),
@@ -310,57 +354,57 @@ CASES = [
      "tail -c +43 guest.sav) > huge.sav", ([], 0)),
     ("zimgasol verify huge.sav", (
         ["huge.sav: partial: sections 3, blocks 2, memory 139264 bytes, RAM ends at byte 86434, devices: whole, 1011 bytes",
-         'huge.sav: INCOMPLETE: 2 of 2 pages of block "a" have no record: it isn\'t in the stream',
-         f"huge.sav: INCOMPLETE: {NONE_PLUGGED}"], 1)),
+         'zimgasol: huge.sav: INCOMPLETE: 2 of 2 pages of block "a" have no record: it isn\'t in the stream',
+         f"zimgasol: huge.sav: INCOMPLETE: {NONE_PLUGGED}"], 1)),
     (f"(head -c 17 guest.sav; printf '{ADVISE}'; tail -c +18 guest.sav | head -c 37; printf '{HUGE}{HUGE}') > huge.sav", ([], 0)),
     ("zimgasol verify huge.sav", (
-        ["huge.sav: byte 83 (section 1, START): fault 27: unexpected record flags: 0x0; "
+        ["zimgasol: huge.sav: byte 83 (section 1, START): fault 27: unexpected record flags: 0x0; "
          "the page size may be the other one (`--page`), or the save used mapped-ram"], 1)),
     (f"(head -c 17 guest.sav; printf '{CAPABILITIES}'; tail -c +18 guest.sav | head -c 17; "
      f"printf '{BOTH}{SMALL}{ADDRESS}'; tail -c +43 guest.sav | head -c 12; printf '{ADDRESS}'; tail -c +55 guest.sav) > shared.sav",
      ([], 0)),
     ("zimgasol verify shared.sav", (
         ["shared.sav: partial: sections 3, blocks 2, memory 139264 bytes, RAM ends at byte 86477, devices: whole, 1011 bytes",
-         'shared.sav: INCOMPLETE: 2 of 2 pages of block "a" have no record: it isn\'t in the stream',
-         f"shared.sav: INCOMPLETE: {SHARED}"], 1)),
+         'zimgasol: shared.sav: INCOMPLETE: 2 of 2 pages of block "a" have no record: it isn\'t in the stream',
+         f"zimgasol: shared.sav: INCOMPLETE: {SHARED}"], 1)),
     ("zimgasol extract shared.sav shared", (
-        ['shared.sav: INCOMPLETE: 2 of 2 pages of block "a" have no record: it isn\'t in the stream',
-         f"shared.sav: INCOMPLETE: {SHARED}"], 1)),
+        ['zimgasol: shared.sav: INCOMPLETE: 2 of 2 pages of block "a" have no record: it isn\'t in the stream',
+         f"zimgasol: shared.sav: INCOMPLETE: {SHARED}"], 1)),
     ("zimgasol verify shared.sav --partial --quiet", (
-        ['shared.sav: note: 2 of 2 pages of block "a" have no record: it isn\'t in the stream'], 0)),
+        ['zimgasol: shared.sav: note: 2 of 2 pages of block "a" have no record: it isn\'t in the stream'], 0)),
     # (a capability that isn't the last one, and is refused)
     (r"(head -c 17 guest.sav; printf '\x05\x1aconfiguration/capabilities\0\0\0\1\0\0\0\2\x0amapped-ram\x03xyz'; "
      "tail -c +18 guest.sav) > mapped.sav", ([], 0)),
     ("zimgasol verify mapped.sav", (
-        ["mapped.sav: byte 53 (before section 1): fault 47: unsupported capability; save without mapped-ram"], 1)),
+        ["zimgasol: mapped.sav: byte 53 (before section 1): fault 47: unsupported capability; save without mapped-ram"], 1)),
     # ---- channels
     ("zimgasol verify multi.sav", (
-        ["multi.sav: byte 72 (section 2, PART): fault 32: FLUSH in a single stream; "
+        ["zimgasol: multi.sav: byte 72 (section 2, PART): fault 32: FLUSH in a single stream; "
          "the pages of this stream went over multifd's channels; name each by `--channel`"], 1)),
     ("zimgasol verify multi.sav --channel multi.sav.0", (
-        ["multi.sav: round 2: fault 56: packet 1 is missing; "
+        ["zimgasol: multi.sav: round 2: fault 56: packet 1 is missing; "
          "each channel is named by `--channel`, and one may be missing or another migration's"], 1)),
     ("zimgasol verify multi.sav --channel multi.sav.1", (
-        ["multi.sav.1: byte 0 (hello): fault 38: hello id out of range; "
-         "each channel is named by `--channel`, and one may lack"], 1)),
+        ["zimgasol: multi.sav.1: byte 0 (hello): fault 38: hello id out of range; "
+         "name every channel with `--channel`; one seems to be missing"], 1)),
     ("zimgasol verify multi.sav --channel multi.sav.0 --channel multi.sav.0", (
-        ["multi.sav.0: byte 0 (hello): fault 51: hello id of an earlier channel; "
-         "two of the files are one channel's"], 1)),
+        ["zimgasol: multi.sav.0: byte 0 (hello): fault 51: hello id of an earlier channel; "
+         "two of these files are the same channel"], 1)),
     ("zimgasol verify multi.sav --channel multi.sav.0 --channel multi.sav.1 --uuid " + UUID, (
-        ["multi.sav.0: byte 0 (hello): fault 37: hello of another UUID; "
-         "the channel is of another migration; `--uuid` names the one that is meant"], 1)),
+        ["zimgasol: multi.sav.0: byte 0 (hello): fault 37: hello of another UUID; "
+         "this channel belongs to another migration; pick one with `--uuid`"], 1)),
     # END begins at byte 119; its head has 5 bytes, the record that is put behind it 13, and EOS 8
     (r"(head -c 124 multi.sav; printf '\0\0\0\0\0\0\0\2\3ram\0'; tail -c +125 multi.sav) > tail.sav", ([], 0)),
     ("zimgasol verify tail.sav --channel multi.sav.0 --channel multi.sav.1", (
-        ["tail.sav: byte 145 (round 3, section 4, END): fault 33: page record after the last FLUSH; "
+        ["zimgasol: tail.sav: byte 145 (round 3, section 4, END): fault 33: page record after the last FLUSH; "
          "QEMU ends each round by a FLUSH or an EOS; this stream has both, and no FLUSH at its end"], 1)),
     (r"(head -c 72 multi.sav; printf '\0\0\0\0\0\0\0\x60') > record.sav", ([], 0)),
     ("zimgasol verify record.sav --channel multi.sav.0 --channel multi.sav.1", (
-        ["record.sav: byte 72 (round 2, section 2, PART): fault 27: unexpected record flags: 0x60; "
+        ["zimgasol: record.sav: byte 72 (round 2, section 2, PART): fault 27: unexpected record flags: 0x60; "
          "the save used xbzrle, which isn't read: save without it"], 1)),
     (r"(head -c 67 multi.sav; printf '\4\0\0\0\7\5timer\0\0\0\0\0\0\0\2') > device.sav", ([], 0)),
     ("zimgasol verify device.sav --channel multi.sav.0 --channel multi.sav.1", (
-        ["device.sav: byte 67 (round 2, after section 1): fault 13: unexpected section type; "
+        ["zimgasol: device.sav: byte 67 (round 2, after section 1): fault 13: unexpected section type; "
          f'the section of "timer": {NOT_READ}'], 1)),
     *((command, wanted) for flags, shown, what in (
         ("x02", "0x2", "zlib compressed the pages; migrate with multifd-compression none"),
@@ -373,15 +417,15 @@ CASES = [
       for command, wanted in (
         ("(head -c 72 multi.sav.0; printf '" + r"\0\0\0" + f"\\{flags}'; tail -c +77 multi.sav.0) > flags.0", ([], 0)),
         ("zimgasol verify multi.sav --channel flags.0 --channel multi.sav.1", (
-            [f"flags.0: byte 64 (round 1, complete packets 0): fault 41: unexpected packet flags: {shown}; {what}"], 1)))),
+            [f"zimgasol: flags.0: byte 64 (round 1, complete packets 0): fault 41: unexpected packet flags: {shown}; {what}"], 1)))),
     ("zimgasol inspect command.sav --channel multi.sav.0 --channel multi.sav.1", None),
     ("zimgasol inspect command.sav --json --channel multi.sav.0 --channel multi.sav.1", None),
     ("head -c 100 command.sav > cut.main", None),
     ("zimgasol verify cut.main --channel multi.sav.0 --channel multi.sav.1", (
-        [f"cut.main: byte 100 (round 2, section 3, PART): {CUT}"], 1)),
+        [f"zimgasol: cut.main: byte 100 (round 2, section 3, PART): {CUT}"], 1)),
     ("head -c 95 command.sav > cut.main", None),
     ("zimgasol verify cut.main --channel multi.sav.0 --channel multi.sav.1", (
-        [f"cut.main: byte 95 (round 2, after section 2): {CUT}"], 1)),
+        [f"zimgasol: cut.main: byte 95 (round 2, after section 2): {CUT}"], 1)),
     # (START's EOS ends the first round. The COMMAND that is put behind it has its data from byte 72 on, and is cut in the
     # second round, of which the channels have all 32 pages)
     (r"(head -c 67 multi.sav; printf '\x08\0\2\0\4ab') > cut.main", ([], 0)),
@@ -390,10 +434,10 @@ CASES = [
          "channel multi.sav.0, 94208 bytes, id 0, packets 3, numbers 0-3, 22 pages, 10 zero pages",
          "channel multi.sav.1, 2752 bytes, id 1, packets 2, numbers 1-4, 0 pages, 0 zero pages",
          'block "ram" 131072 bytes, 22 pages, 10 zero pages', "rounds 1", "read up to byte 68",
-         f"cut.main: byte 74 (round 2, after section 1): {CUT}"], 1)),
+         f"zimgasol: cut.main: byte 74 (round 2, after section 1): {CUT}"], 1)),
     ("head -c 1408 multi.sav.1 > cut.1", None),
     ("zimgasol verify multi.sav --channel multi.sav.0 --channel cut.1", (
-        ["cut.1: byte 1408 (round 2, complete packets 1): fault 53: the channel ends before the main stream; "
+        ["zimgasol: cut.1: byte 1408 (round 2, complete packets 1): fault 53: the channel ends before the main stream; "
          "the files may be of different migrations"], 1)),
     # ---- of several channels, size lists with 8 bytes more
     (f"(head -c 17 multi.sav; printf '{CAPABILITIES}'; tail -c +18 multi.sav | head -c 17; "
@@ -402,25 +446,25 @@ CASES = [
     ("zimgasol verify shared.main --channel multi.sav.0 --channel multi.sav.1", (
         ["shared.main: partial: rounds 2, channels 2, packets 5, blocks 2, memory 139264 bytes, "
          "UUID 00000000-0000-0000-0000-000000000000, RAM ends at byte 219, devices: none, 1 bytes",
-         'shared.main: INCOMPLETE: 2 of 2 pages of block "a" have no record: it isn\'t in the stream',
-         f"shared.main: INCOMPLETE: {SHARED}"], 1)),
+         'zimgasol: shared.main: INCOMPLETE: 2 of 2 pages of block "a" have no record: it isn\'t in the stream',
+         f"zimgasol: shared.main: INCOMPLETE: {SHARED}"], 1)),
     ("head -c 170 shared.main > cut.main", ([], 0)),
     ("zimgasol verify cut.main --channel multi.sav.0 --channel multi.sav.1", (
-        [f"cut.main: byte 170 (round 2, section 2, PART): {CUT}"], 1)),
+        [f"zimgasol: cut.main: byte 170 (round 2, section 2, PART): {CUT}"], 1)),
     *((command, wanted) for more, at in ((HUGE, 117), ("", 109)) for command, wanted in (
         (f"(head -c 17 multi.sav; printf '{ADVISE}'; tail -c +18 multi.sav | head -c 37; printf '{more}'; "
          "tail -c +55 multi.sav | head -c 34) > cut.main", ([], 0)),
         ("zimgasol verify cut.main --channel multi.sav.0 --channel multi.sav.1", (
-            [f"cut.main: byte {at} (round 2, section 2, PART): {CUT}"], 1)))),
+            [f"zimgasol: cut.main: byte {at} (round 2, section 2, PART): {CUT}"], 1)))),
     (f"(head -c 17 multi.sav; printf '{ADVISE}'; tail -c +18 multi.sav | head -c 17; printf '{BOTH}{SMALL}{HUGE}'; "
      "tail -c +43 multi.sav | head -c 46) > cut.main", ([], 0)),
     ("zimgasol verify cut.main --channel multi.sav.0 --channel multi.sav.1", (
-        [f"cut.main: byte 127 (round 2, section 2, PART): {CUT}"], 1)),
+        [f"zimgasol: cut.main: byte 127 (round 2, section 2, PART): {CUT}"], 1)),
     ("head -c 88 multi.sav > cut.main", None),
     ("zimgasol extract cut.main cut --channel multi.sav.0 --channel multi.sav.1", (
-        [f"cut.main: byte 88 (round 2, section 2, PART): {CUT}"], 1)),
-    ("zimgasol verify cut/ram.bin", (["cut/ram.bin: No such file or directory (os error 2)"], 3)),
-    ("zimgasol verify multi.sav --channel none.0", (["none.0: No such file or directory (os error 2)"], 3)),
+        [f"zimgasol: cut.main: byte 88 (round 2, section 2, PART): {CUT}"], 1)),
+    ("zimgasol verify cut/ram.bin", (["zimgasol: cut/ram.bin: No such file or directory (os error 2)"], 3)),
+    ("zimgasol verify multi.sav --channel none.0", (["zimgasol: none.0: No such file or directory (os error 2)"], 3)),
     ("zimgasol verify multi.sav --uuid " + UUID, ([f'zimgasol: --uuid "{UUID}": goes with `--channel`'], 2)),
     ("zimgasol verify multi.sav --channel multi.sav.0 --uuid 12", (['zimgasol: --uuid "12": isn\'t a UUID'], 2)),
     ("zimgasol save --block ram=half.bin --uuid " + UUID + " out.sav", (
@@ -428,16 +472,16 @@ CASES = [
     ("zimgasol save --block ram=half.bin --channels 256 out.sav", (
         ['zimgasol: --channels "256": isn\'t a number from 1 to 255'], 2)),
     ("zimgasol save --block ram=half.bin --channels 2 -", (['zimgasol: --channels "2": OUT has to be a file'], 2)),
-    ("zimgasol save --block ram=half.bin --channels 2 multi.sav", (["multi.sav: " + EXISTS], 3)),
+    ("zimgasol save --block ram=half.bin --channels 2 multi.sav", (["zimgasol: multi.sav: " + EXISTS], 3)),
     ("zimgasol save --block ram=half.bin --channels 2 multi.sav --replace", None),
     ("zimgasol verify multi.sav --frame ram --channel multi.sav.0 --channel multi.sav.1", None),
     # ---- a folder of another page size, and one whose files aren't those of its list
     ("zimgasol save --block ram=half.bin --page 8192 --since day out.sav", (
-        ["day: has pages of 4096 bytes, and the stream would have pages of 8192; save with `--page 4096`"], 3)),
+        ["zimgasol: day: has pages of 4096 bytes, and the stream would have pages of 8192; save with `--page 4096`"], 3)),
     ("cp -r day wide", None),
     ("sed -i s/4096/8192/ wide/blocks.json", ([], 0)),
     ("zimgasol save --block ram=half.bin --since wide out.sav", (
-        ["wide: has pages of 8192 bytes, and the stream would have pages of 4096; save with `--page 8192`"], 3)),
+        ["zimgasol: wide: has pages of 8192 bytes, and the stream would have pages of 4096; save with `--page 8192`"], 3)),
     ("zimgasol save --block ram=half.bin --page 8192 --since wide fits.sav", None),
     ("cp -r memory short", None),
     ("truncate -s 65536 short/ram.bin", ([], 0)),
@@ -446,7 +490,7 @@ CASES = [
     ("zimgasol save --block ram=later.bin --since short out.sav", ([SHORT], 3)),
     ("zimgasol extract later.sav nothing --frame ram --since short", ([SHORT], 3)),
     ("truncate -s 139264 short/ram.bin", ([], 0)),
-    ("zimgasol compare short memory", (["short/ram.bin: has 139264 bytes, and `blocks.json` lists 131072"], 3)),
+    ("zimgasol compare short memory", (["zimgasol: short/ram.bin: has 139264 bytes, and `blocks.json` lists 131072"], 3)),
     ("truncate -s 5000 short/ram.bin", ([], 0)),
     ("sed -i s/131072/5000/ short/blocks.json", ([], 0)),
     ("zimgasol compare short short", ([NO_LIST], 3)),
@@ -455,28 +499,28 @@ CASES = [
     ("zimgasol compare memory twice", ([TWICE], 3)),
     ("zimgasol save --block ram=later.bin --since twice out.sav", ([TWICE], 3)),
     ("zimgasol extract later.sav nothing --frame ram --since twice", ([TWICE], 3)),
-    ("zimgasol verify nothing/ram.bin", (["nothing/ram.bin: No such file or directory (os error 2)"], 3)),
+    ("zimgasol verify nothing/ram.bin", (["zimgasol: nothing/ram.bin: No such file or directory (os error 2)"], 3)),
     # ---- the system doesn't say whether a file is there
     ("ln -s loop loop", ([], 0)),
-    ("zimgasol extract guest.sav half.bin --replace", (["half.bin/blocks.json: Not a directory (os error 20)"], 3)),
+    ("zimgasol extract guest.sav half.bin --replace", (["zimgasol: half.bin/blocks.json: Not a directory (os error 20)"], 3)),
     ("zimgasol extract guest.sav loop --replace", (
-        ["loop/blocks.json: Too many levels of symbolic links (os error 40)"], 3)),
-    ("zimgasol save --block ram=half.bin half.bin/out.sav", (["half.bin/out.sav: Not a directory (os error 20)"], 3)),
+        ["zimgasol: loop/blocks.json: Too many levels of symbolic links (os error 40)"], 3)),
+    ("zimgasol save --block ram=half.bin half.bin/out.sav", (["zimgasol: half.bin/out.sav: Not a directory (os error 20)"], 3)),
     ("zimgasol save --block ram=half.bin --channels 2 loop/out.sav", (
-        ["loop/out.sav: Too many levels of symbolic links (os error 40)"], 3)),
-    ("zimgasol compare memory half.bin/memory", (["half.bin/memory: Not a directory (os error 20)"], 3)),
+        ["zimgasol: loop/out.sav: Too many levels of symbolic links (os error 40)"], 3)),
+    ("zimgasol compare memory half.bin/memory", (["zimgasol: half.bin/memory: Not a directory (os error 20)"], 3)),
     # ---- arguments that control a terminal
-    ("zimgasol verify guest.sav $'\\e[2J\\n\"cut.sav'", (wrong("unexpected argument '%1B[2J%0A%22cut.sav' found"), 2)),
-    ("zimgasol verify guest.sav $'gr\\xc3\\xbcn'", (wrong("unexpected argument 'gr%C3%BCn' found"), 2)),
+    ("zimgasol inspect guest.sav $'\\e[2J\\n\"cut.sav'", (wrong("unexpected argument '%1B[2J%0A%22cut.sav' found"), 2)),
+    ("zimgasol inspect guest.sav $'gr\\xc3\\xbcn'", (wrong("unexpected argument 'gr%C3%BCn' found"), 2)),
     ("zimgasol $'\\e[2J'", (
         ["error: unrecognized subcommand '%1B[2J'", "", "Usage: zimgasol <COMMAND>", "",
          "For more information, try '--help'."], 2)),
-    ("zimgasol verify out.sav", (["out.sav: No such file or directory (os error 2)"], 3)),
-    ("zimgasol verify out.sav.partial", (["out.sav.partial: No such file or directory (os error 2)"], 3)),
+    ("zimgasol verify out.sav", (["zimgasol: out.sav: No such file or directory (os error 2)"], 3)),
+    ("zimgasol verify out.sav.partial", (["zimgasol: out.sav.partial: No such file or directory (os error 2)"], 3)),
     # ---- what follows RAM: the devices' sections up to byte 86577, the end byte, and 828 bytes of a description
     ("head -c 86395 guest.sav > short.sav", None),
-    ("zimgasol verify short.sav", ([f"short.sav: byte 86395 (devices): {TAIL_CUT}; {RAM_ONLY}"], 1)),
-    ("zimgasol verify - < short.sav", ([f"-: byte 86395 (devices): {TAIL_CUT}; {RAM_ONLY}"], 1)),
+    ("zimgasol verify short.sav", ([f"zimgasol: short.sav: byte 86395 (devices): {TAIL_CUT}; {RAM_ONLY}"], 1)),
+    ("zimgasol verify - < short.sav", ([f"zimgasol: -: byte 86395 (devices): {TAIL_CUT}; {RAM_ONLY}"], 1)),
     ("zimgasol verify short.sav --ram-only", ([f"short.sav: {WHOLE_RAM}, 0 bytes follow"], 0)),
     ("zimgasol inspect short.sav", None),
     ("zimgasol inspect short.sav --json", None),
@@ -484,77 +528,77 @@ CASES = [
     ("zimgasol extract short.sav ramalone", ([f"short.sav: {WHOLE_RAM}, devices: cut, 0 bytes"], 0)),
     ("zimgasol compare short.sav ramalone", (["short.sav and ramalone: the same: blocks 1, memory 131072 bytes"], 0)),
     ("head -c 86404 guest.sav > short.sav", None),
-    ("zimgasol verify short.sav", ([f"short.sav: byte 86404 (devices): {TAIL_CUT}; {RAM_ONLY}"], 1)),
+    ("zimgasol verify short.sav", ([f"zimgasol: short.sav: byte 86404 (devices): {TAIL_CUT}; {RAM_ONLY}"], 1)),
     ("head -c 86441 guest.sav > short.sav", None),
-    ("zimgasol verify short.sav", ([f"short.sav: byte 86441 (devices): {UNKNOWN}; {RAM_ONLY}"], 1)),
+    ("zimgasol verify short.sav", ([f"zimgasol: short.sav: byte 86441 (devices): {UNKNOWN}; {RAM_ONLY}"], 1)),
     ("head -c 86578 guest.sav > short.sav", None),
-    ("zimgasol verify short.sav", ([f"short.sav: byte 86578 (devices): {UNKNOWN}; {RAM_ONLY}"], 1)),
+    ("zimgasol verify short.sav", ([f"zimgasol: short.sav: byte 86578 (devices): {UNKNOWN}; {RAM_ONLY}"], 1)),
     ("zimgasol inspect short.sav", None),
     ("zimgasol verify short.sav --ram-only --quiet", ([], 0)),
     ("zimgasol extract short.sav ramalone --replace", ([f"short.sav: {WHOLE_RAM}, devices: not known, 183 bytes"], 0)),
     ("head -c 86579 guest.sav > short.sav", None),
-    ("zimgasol verify short.sav", ([f"short.sav: byte 86579 (devices): {TAIL_CUT}; {RAM_ONLY}"], 1)),
+    ("zimgasol verify short.sav", ([f"zimgasol: short.sav: byte 86579 (devices): {TAIL_CUT}; {RAM_ONLY}"], 1)),
     ("head -c 86585 guest.sav > short.sav", None),
-    ("zimgasol verify short.sav", ([f"short.sav: byte 86585 ({DESCRIPTION}): {TAIL_CUT}; {RAM_ONLY}"], 1)),
+    ("zimgasol verify short.sav", ([f"zimgasol: short.sav: byte 86585 ({DESCRIPTION}): {TAIL_CUT}; {RAM_ONLY}"], 1)),
     ("head -c 87405 guest.sav > short.sav", None),
-    ("zimgasol verify short.sav", ([f"short.sav: byte 87405 ({DESCRIPTION}): {TAIL_CUT}; {RAM_ONLY}"], 1)),
+    ("zimgasol verify short.sav", ([f"zimgasol: short.sav: byte 87405 ({DESCRIPTION}): {TAIL_CUT}; {RAM_ONLY}"], 1)),
     ("zimgasol inspect short.sav --json", None),
     ("head -c 1 guest.sav > one.bin", None),
     ("cat guest.sav one.bin > long.sav", None),
-    ("zimgasol verify long.sav", ([f"long.sav: byte 87406 (after the end): 1 unknown bytes follow; {RAM_ONLY}"], 1)),
+    ("zimgasol verify long.sav", ([f"zimgasol: long.sav: byte 87406 (after the end): 1 unknown bytes follow; {RAM_ONLY}"], 1)),
     ("zimgasol inspect long.sav", None),
     ("zimgasol inspect long.sav --json", None),
     ("zimgasol extract long.sav long", ([f"long.sav: {WHOLE_RAM}, devices: whole, 1012 bytes, 1 of them unknown"], 0)),
     # (its last byte isn't the brace, so it isn't JSON)
     ("cat short.sav one.bin > broken.sav", None),
-    ("zimgasol verify broken.sav", ([f"broken.sav: byte 87406 (devices): {UNKNOWN}; {RAM_ONLY}"], 1)),
+    ("zimgasol verify broken.sav", ([f"zimgasol: broken.sav: byte 87406 (devices): {UNKNOWN}; {RAM_ONLY}"], 1)),
     # (a page of zeros, with which a device was filled up)
     ("head -c 8192 later.bin > pages.bin", None),
     ("tail -c 4096 pages.bin > page.bin", None),
     ("cat guest.sav page.bin > long.sav", None),
     ("zimgasol verify long.sav", None),
     ("head -c 86390 machine.sav > short.sav", None),
-    ("zimgasol verify short.sav", ([f"short.sav: byte 86390 (devices): {TAIL_CUT}; {RAM_ONLY}"], 1)),
+    ("zimgasol verify short.sav", ([f"zimgasol: short.sav: byte 86390 (devices): {TAIL_CUT}; {RAM_ONLY}"], 1)),
     ("cat machine.sav one.bin > long.sav", None),
-    ("zimgasol verify long.sav", ([f"long.sav: byte 86391 (after the end): 1 unknown bytes follow; {RAM_ONLY}"], 1)),
+    ("zimgasol verify long.sav", ([f"zimgasol: long.sav: byte 86391 (after the end): 1 unknown bytes follow; {RAM_ONLY}"], 1)),
     ("tail -c 828 guest.sav > described.bin", None),
     ("cat machine.sav described.bin > described.sav", None),
     ("zimgasol verify described.sav", ([f"described.sav: {WHOLE_RAM.replace('86395', '86390')}, devices: none, 829 bytes"], 0)),
     ("head -c 87218 described.sav > short.sav", None),
-    ("zimgasol verify short.sav", ([f"short.sav: byte 87218 ({DESCRIPTION}): {TAIL_CUT}; {RAM_ONLY}"], 1)),
+    ("zimgasol verify short.sav", ([f"zimgasol: short.sav: byte 87218 ({DESCRIPTION}): {TAIL_CUT}; {RAM_ONLY}"], 1)),
     ("head -c 86394 described.sav > short.sav", None),
-    ("zimgasol verify short.sav", ([f"short.sav: byte 86394 ({DESCRIPTION}): {TAIL_CUT}; {RAM_ONLY}"], 1)),
+    ("zimgasol verify short.sav", ([f"zimgasol: short.sav: byte 86394 ({DESCRIPTION}): {TAIL_CUT}; {RAM_ONLY}"], 1)),
     ("zimgasol save --block ram=later.bin --channels 2 --frame machine --machine none pair.sav", None),
     ("head -c 137 pair.sav > short.sav", None),
-    ("zimgasol verify short.sav" + PAIR, ([f"short.sav: byte 137 (devices): {TAIL_CUT}; {RAM_ONLY}"], 1)),
+    ("zimgasol verify short.sav" + PAIR, ([f"zimgasol: short.sav: byte 137 (devices): {TAIL_CUT}; {RAM_ONLY}"], 1)),
     ("zimgasol verify short.sav --ram-only --quiet" + PAIR, ([], 0)),
     ("zimgasol inspect short.sav --json" + PAIR, None),
     ("zimgasol extract short.sav pair" + PAIR, None),
     ("cat short.sav page.bin > long.sav", None),
     ("zimgasol verify long.sav" + PAIR, None),
     # ---- inputs without an end, and what is known of a file's length after a fault
-    ("zimgasol verify /dev/zero", ([f"/dev/zero: {NO_STREAM}"], 1)),
-    ("zimgasol inspect /dev/full", (["file /dev/full", *NOTHING_READ, f"/dev/full: {NO_STREAM}"], 1)),
-    ("zimgasol extract /dev/zero nothing", ([f"/dev/zero: {NO_STREAM}"], 1)),
+    ("zimgasol verify /dev/zero", ([f"zimgasol: /dev/zero: {NO_STREAM}"], 1)),
+    ("zimgasol inspect /dev/full", (["file /dev/full", *NOTHING_READ, f"zimgasol: /dev/full: {NO_STREAM}"], 1)),
+    ("zimgasol extract /dev/zero nothing", ([f"zimgasol: /dev/zero: {NO_STREAM}"], 1)),
     ("zimgasol inspect /dev/zero --channel pair.sav.0", (
         ["file /dev/zero", "page size 4096", "UUID 00000000-0000-0000-0000-000000000000",
          "channel pair.sav.0, 94208 bytes, id 0, packets 1, numbers 0-0, 0 pages, 0 zero pages", "rounds 0",
-         "read up to byte 0", "/dev/zero: byte 0 (round 1, before section 1): fault 11: the stream doesn't begin with QEVM; "
+         "read up to byte 0", "zimgasol: /dev/zero: byte 0 (round 1, before section 1): fault 11: the stream doesn't begin with QEVM; "
          f"{NO_MAGIC}"], 1)),
     ("cat later.bin later.bin > large.bin", None),
-    ("zimgasol inspect large.bin", (["file large.bin, 262144 bytes", *NOTHING_READ, f"large.bin: {NO_STREAM}"], 1)),
-    ("zimgasol inspect - < large.bin", (["file -", *NOTHING_READ, f"-: {NO_STREAM}"], 1)),
-    ("head -c 9000000 /dev/zero | zimgasol verify -", ([f"-: {NO_STREAM}"], 1)),
+    ("zimgasol inspect large.bin", (["file large.bin, 262144 bytes", *NOTHING_READ, f"zimgasol: large.bin: {NO_STREAM}"], 1)),
+    ("zimgasol inspect - < large.bin", (["file -", *NOTHING_READ, f"zimgasol: -: {NO_STREAM}"], 1)),
+    ("head -c 9000000 /dev/zero | zimgasol verify -", ([f"zimgasol: -: {NO_STREAM}"], 1)),
     ("echo $?", (["1"], 1)),
     # ---- the most memory of a guest
-    ("zimgasol verify guest.sav --limit 131071", ([f"guest.sav: {TOTAL}"], 1)),
+    ("zimgasol verify guest.sav --limit 131071", ([f"zimgasol: guest.sav: {TOTAL}"], 1)),
     ("zimgasol verify guest.sav --limit 131072 --quiet", ([], 0)),
     ("zimgasol inspect guest.sav --limit 1", (
         ["file guest.sav, 87406 bytes", 'machine "none"', "page size 4096", "sections 0", "read up to byte 34",
-         f"guest.sav: {TOTAL}"], 1)),
-    ("zimgasol extract guest.sav limited --limit 131071", ([f"guest.sav: {TOTAL}"], 1)),
+         f"zimgasol: guest.sav: {TOTAL}"], 1)),
+    ("zimgasol extract guest.sav limited --limit 131071", ([f"zimgasol: guest.sav: {TOTAL}"], 1)),
     ("cat limited/blocks.json", (["cat: limited/blocks.json: No such file or directory"], 1)),
-    ("zimgasol verify pair.sav --limit 131071" + PAIR, ([f"pair.sav: {TOTAL.replace('(', '(round 1, ')}"], 1)),
+    ("zimgasol verify pair.sav --limit 131071" + PAIR, ([f"zimgasol: pair.sav: {TOTAL.replace('(', '(round 1, ')}"], 1)),
     ("zimgasol verify guest.sav --limit 0", (
         ["error: invalid value '0' for '--limit <BYTES>': 0 is not in 1..=1099511627776", "",
          "For more information, try '--help'."], 2)),
@@ -688,6 +732,11 @@ def ranges(pages):
     return ", ".join(texts + [".."] * (len(found) > 16))
 
 
+def in_one_line(value):
+    """A value as JSON on one line, with its members in order."""
+    return json.dumps(value, sort_keys=True, separators=(",", ":"))
+
+
 class Shell:
     """What the commands of the page print, of the files that lie beside them."""
 
@@ -719,10 +768,51 @@ class Shell:
             return self.files[words[1]].decode().splitlines()
         if words[1] in ("save", "compare"):
             return getattr(self, words[1])(words)
+        if words[1] == "verify" and (len(self.names_in(words)) > 1 or "--json" in words):
+            return self.verify_each(words)
         if "--channel" in words:
             return getattr(self, words[1] + "_several")(words[2], words)
         given = words[-1] if "<" in words else words[2]
         return getattr(self, words[1])(words[2], self.files[given], words)
+
+    # ---- several files
+
+    @staticmethod
+    def names_in(words):
+        """The files of `verify`: the words before the first option or redirection."""
+        ends = [at for at, word in enumerate(words) if word.startswith("--") or "<" in word or ">" in word]
+        return words[2:min(ends, default=len(words))]
+
+    def verify_each(self, words):
+        """What `verify` prints of several files, in its order (2>&1), and their sum."""
+        names, lines, counts = self.names_in(words), [], [0, 0, 0, 0]
+        for name in names:
+            lines += self.verify_named(name, [*words[:2], name, *words[2 + len(names):]])
+            counts[self.status] += 1
+        self.status = max(status for status, count in enumerate(counts) if count)
+        if "--json" in words or "--quiet" in words or len(names) < 2:
+            return lines
+        return [*lines, f"{len(names)} files: {counts[0]} passed, {counts[1]} refused, {counts[3]} not read"]
+
+    def verify_named(self, name, words):
+        """What `verify` prints of one of its files."""
+        if name not in self.files:
+            self.status = 3
+            said = f"{name}: No such file or directory (os error 2)"
+            value = {"complete": False, "error": said, "file": name, "status": 3}
+            return [in_one_line(value)] * ("--json" in words) + [f"zimgasol: {said}"]
+        if "--json" not in words:
+            return self.verify(name, self.files[name], words)
+        if "--channel" in words:
+            return self.in_line(self.inspect_several(name, words))
+        found = self.facts(self.files[name])
+        return self.in_line(self.inspect_json(name, self.files[name], found, words) + self.judged(name, found, words)[1])
+
+    @staticmethod
+    def in_line(lines):
+        """The lines of `inspect --json`, with the object on one line."""
+        end = lines.index("}") + 1
+        return [in_one_line(json.loads("\n".join(lines[:end]))), *lines[end:]]
 
     # ---- over several channels
 
@@ -774,7 +864,7 @@ class Shell:
             except (AssertionError, struct.error):
                 self.status = 1
                 packets, syncs = channel_facts.whole_before_cut(self.files[name])
-                return (f"{name}: byte {len(self.files[name])} (round {syncs + 1}, complete packets {packets}): fault 44: "
+                return (f"zimgasol: {name}: byte {len(self.files[name])} (round {syncs + 1}, complete packets {packets}): fault 44: "
                         "the channel ends inside a hello or packet; the file was cut, or the migration didn't come to its end")
         return None
 
@@ -835,7 +925,7 @@ class Shell:
         whole = self.whole_sections(data)
         block = block_at_cut(data)
         at = f', block "{block}"' if block else ""
-        return f"{name}: byte {len(data)} (section {whole + 1}, {'PART' if whole else 'START'}{at}): {CUT}"
+        return f"zimgasol: {name}: byte {len(data)} (section {whole + 1}, {'PART' if whole else 'START'}{at}): {CUT}"
 
     def whole_sections(self, data):
         """How many sections a cut stream has: the most that any front of it has."""
@@ -873,12 +963,12 @@ class Shell:
             return "complete", []
         is_meant = "--partial" in words
         mark = "note" if is_meant else "INCOMPLETE"
-        lines = [f'{name}: {mark}: {lack} of {pages} pages of block "{it}" have no record' +
+        lines = [f'zimgasol: {name}: {mark}: {lack} of {pages} pages of block "{it}" have no record' +
                  (": it isn't in the stream" if lack == pages else "") for it, lack, pages in few]
         if is_meant:
             return "partial", lines
         self.status = 1
-        return "partial", [*lines, f"{name}: INCOMPLETE: {cause(found, 'ram' in words[3:])}"]
+        return "partial", [*lines, f"zimgasol: {name}: INCOMPLETE: {cause(found, 'ram' in words[3:])}"]
 
     def save(self, words):
         option, blocks, at = {}, {}, 2
@@ -980,10 +1070,10 @@ class Shell:
         listed = f"{words[3]}/blocks.json"
         if listed in self.files and "--replace" not in words:
             self.status = 3
-            return [f"{listed}: is there already; `--replace` replaces it"]
+            return [f"zimgasol: {listed}: is there already; `--replace` replaces it"]
         if "--limit" in words:
             self.status = 1
-            return [f"{name}: {TOTAL}"]
+            return [f"zimgasol: {name}: {TOTAL}"]
         said = self.verify(name, data, words)
         if not self.status:
             self.lay_out(self.facts(data), words)

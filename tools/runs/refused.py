@@ -43,6 +43,7 @@ SCENARIO = "block 2 a\nblock 3 b\nset 0 0 7\nset 1 4096 9\nround\ntouch 1 0\nset
 TOOL = ("send s o", "send s p --channels 2", "check", "check --channels 2", "load o i",
         "load p i --channels 2", "load p i --channels 2 --feed", "compare s i")
 ZIMGASOL = ("verify guest.sav", "inspect guest.sav", "inspect guest.sav --json", "extract guest.sav memory",
+            "verify guest.sav guest.sav --json", "extract guest.sav digests --digest",
             "compare memory guest.sav", "save --block ram=memory/ram.bin one.sav",
             "save --block ram=memory/ram.bin --channels 2 two.sav",
             "verify --frame ram two.sav --channel two.sav.0 --channel two.sav.1",

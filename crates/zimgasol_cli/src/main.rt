@@ -1,14 +1,15 @@
 //! `zimgasol`: inspects guests that QEMU or libvirt saved in a file, verifies them, and extracts
 //! their memory.
 //!
-//! `main` passes its arguments and the standard streams to `run` of `zimgasol_command`.
+//! `main` passes its arguments, the standard streams and what is known of the output to `run` of
+//! `zimgasol_command`.
 #![tactic(auto)]
 
 use std::fs::File;
-use std::io::{ErrorKind, Write};
+use std::io::{ErrorKind, IsTerminal, Write};
 use std::process::ExitCode;
 use std::{env, io};
-use zimgasol_command::{FAILED, WORDS, run};
+use zimgasol_command::{FAILED, Screen, WORDS, run};
 
 // Returns the arguments after the program's name.
 fn words_given(rt: &HostRuntime) -> io::Result<Vec<String>> {
@@ -17,6 +18,15 @@ fn words_given(rt: &HostRuntime) -> io::Result<Vec<String>> {
         words.push(word)?;
     }
     Ok(words)
+}
+
+// Returns what is known of the standard output.
+fn screen(rt: &HostRuntime) -> Screen {
+    let is_terminal = rt.stdout().is_terminal();
+    match env::var(rt, "COLUMNS") {
+        Ok(columns) => Screen::new(is_terminal, Some(&columns)),
+        Err(_) => Screen::new(is_terminal, None),
+    }
 }
 
 // Prints why the arguments can't be read, and returns the exit status.
@@ -38,7 +48,14 @@ fn main(rt: HostRuntime) -> ExitCode {
     let _third = File::open(&rt, "/");
     let mut errors = rt.stderr();
     let status = match words_given(&rt) {
-        Ok(words) => run(&rt, &words, &mut rt.stdin(), &mut rt.stdout(), &mut errors),
+        Ok(words) => run(
+            &rt,
+            &words,
+            screen(&rt),
+            &mut rt.stdin(),
+            &mut rt.stdout(),
+            &mut errors,
+        ),
         Err(error) => put_unread(&mut errors, &error),
     };
     ExitCode::from(status)

@@ -13,14 +13,18 @@ use std::fs::Files;
 use std::io::{self, ErrorKind, Read, Write};
 use std::rt::Clock;
 use zimgasol_files::{
-    CompareWords, ExtractWords, Folder, FolderBlock, PIECE_PAGES, Packed, Pages, Reading,
+    CompareWords, ExtractWords, Folder, FolderBlock, PARTIAL, PIECE_PAGES, Packed, Pages, Reading,
     StreamWords, Trouble, Unfit, open, path_in, read_folder, shown, shown_name, unfit, unwritten,
 };
 use zimgasol_output::put_wrongs;
 use zimgasol_reading::Survey;
 
-/// The name of the folder that streams are extracted into.
-const TEMPORARY_NAME: &str = ".zimgasol-compare.partial";
+/// The name of the folder that streams are extracted into. A number follows it if that folder
+/// exists.
+const TEMPORARY_NAME: &str = ".zimgasol-compare";
+
+/// The most folders of other runs next to an operand, before a run is refused.
+const MOST_RUNS: u64 = 100;
 
 // The operands of `compare`.
 #[derive(Clone, Copy)]
@@ -33,6 +37,8 @@ enum Operand {
 #[derive(Drop)]
 struct Temporary {
     alloc: Global,
+    // the second operand, next to which the folder is
+    beside: String,
     path: String,
     // the folders in it, of each operand that is a stream
     first: String,
@@ -41,27 +47,54 @@ struct Temporary {
     made: bool,
 }
 
-// Returns the path of the temporary folder, next to the file or folder `path`.
-fn temporary_path(alloc: Global, path: &str) -> Result<String, AllocError> {
+// Returns the name of the temporary folder after `number` names that are taken.
+fn temporary_name(alloc: Global, number: u64) -> Result<String, AllocError> {
+    if number == 0 {
+        return format!(in alloc; "{TEMPORARY_NAME}{PARTIAL}");
+    }
+    format!(in alloc; "{TEMPORARY_NAME}-{number}{PARTIAL}")
+}
+
+// Returns the path of the temporary folder after `number` names that are taken, next to the file or
+// folder `path`.
+fn temporary_path(alloc: Global, path: &str, number: u64) -> Result<String, AllocError> {
+    let name = temporary_name(alloc, number)?;
     match path.trim_end_matches('/').rsplit_once('/') {
-        Some((folder, _)) => path_in(alloc, folder, TEMPORARY_NAME, ""),
-        None => String::from_str(alloc, TEMPORARY_NAME),
+        Some((folder, _)) => path_in(alloc, folder, &name, ""),
+        None => Ok(name),
     }
 }
 
+// Notes that the folder `path` is another run's, or was left by one that was killed.
+fn put_other_run<E: Write>(alloc: Global, errors: &mut E, path: &str) -> Result<(), Trouble> {
+    let name = shown_name(alloc, path)?;
+    let _ = writeln!(
+        errors,
+        "zimgasol: {name}: note: another `compare` is running; if not, delete it"
+    );
+    Ok(())
+}
+
 impl Temporary {
-    // Creates the temporary folder next to the file or folder `path`, before it is made.
-    fn new(alloc: Global, path: &str) -> Result<Temporary, AllocError> {
-        let path = temporary_path(alloc, path)?;
-        let first = path_in(alloc, &path, "a", "")?;
-        let second = path_in(alloc, &path, "b", "")?;
+    // Creates the temporary folder next to the file or folder `beside`, before it is made.
+    fn new(alloc: Global, beside: &str) -> Result<Temporary, AllocError> {
+        let path = temporary_path(alloc, beside, 0)?;
         Ok(Temporary {
             alloc,
+            beside: String::from_str(alloc, beside)?,
+            first: path_in(alloc, &path, "a", "")?,
+            second: path_in(alloc, &path, "b", "")?,
             path,
-            first,
-            second,
             made: false,
         })
+    }
+
+    // Takes the name after `number` names that are taken.
+    fn set_name(&mut self, number: u64) -> Result<(), AllocError> {
+        self.path = temporary_path(self.alloc, &self.beside, number)?;
+        self.first = path_in(self.alloc, &self.path, "a", "")?;
+        self.second = path_in(self.alloc, &self.path, "b", "")?;
+        Ok(())
     }
 
     // Returns the path of the folder that an operand is extracted into.
@@ -72,19 +105,28 @@ impl Temporary {
         }
     }
 
-    // Makes the folder, unless this run made it already. Refuses an existing folder.
-    fn make<H: Files>(&mut self, rt: &H) -> Result<(), Trouble> {
+    // Makes the folder, unless this run made it already. Notes each folder of another run, and then
+    // takes the next name.
+    fn make<H: Files, E: Write>(&mut self, rt: &H, errors: &mut E) -> Result<(), Trouble> {
         if self.made {
             return Ok(());
         }
+        for number in 0..MOST_RUNS {
+            self.set_name(number)?;
+            self.made = self.is_made(rt)?;
+            if self.made {
+                return Ok(());
+            }
+            put_other_run(self.alloc, errors, &self.path)?;
+        }
+        Err(unfit(self.alloc, &self.path, Unfit::OtherRun))
+    }
+
+    // Makes the folder. Returns whether it did: there may be one.
+    fn is_made<H: Files>(&self, rt: &H) -> Result<bool, Trouble> {
         match rt.create_dir(&self.path) {
-            Ok(()) => {
-                self.made = true;
-                Ok(())
-            }
-            Err(error) if error.kind() == ErrorKind::AlreadyExists => {
-                Err(unfit(self.alloc, &self.path, Unfit::OtherRun))
-            }
+            Ok(()) => Ok(true),
+            Err(error) if error.kind() == ErrorKind::AlreadyExists => Ok(false),
             Err(error) => Err(unwritten(self.alloc, &self.path, error)),
         }
     }
@@ -214,7 +256,7 @@ fn blocks_of<H: AllocGlobal + Files + Clock, R: Read, E: Write>(
     if is_folder(rt, words.file)? {
         return Ok(Some(read_folder(rt, words.file)?));
     }
-    temporary.make(rt)?;
+    temporary.make(rt, errors)?;
     extracted(rt, words, temporary.folder(operand), input, errors)
 }
 
@@ -467,7 +509,7 @@ fn compare_in<H: AllocGlobal + Files + Clock, R: Read, W: Write, E: Write>(
 /// # Errors
 ///
 /// `Trouble::Words` if both are the standard input, `Trouble::Unfit` if the page sizes differ or
-/// the temporary folder of another run exists, those of reading and extracting them, and
+/// the temporary folders of 100 other runs exist, those of reading and extracting them, and
 /// `Trouble::Output`.
 pub(crate) fn compare<H: AllocGlobal + Files + Clock, R: Read, W: Write, E: Write>(
     rt: &H,

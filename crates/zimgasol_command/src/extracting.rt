@@ -4,6 +4,7 @@
 //! is complete and the file is synced to its disk. With `--since` each file begins as a copy of its
 //! block in another folder, and the stream's pages are written over it.
 
+use crate::leftovers::{leftovers, put_leftovers};
 use mig_mem::{Dirty, NoMemory, Place, Table};
 use mig_zero::is_zero;
 use serde_json::{Value, json};
@@ -16,6 +17,7 @@ use zimgasol_files::{
     BlockFile, BlockNames, ChannelWords, ExtractWords, Folder, LIST_NAME, PARTIAL, StreamWords,
     Trouble, Unfit, block_value, complete_file, create, is_free, names_in, open, path_in,
     piece_buffer, read_folder, rename, shown, shown_name, unfit, unwritten, write_at, write_text,
+    wrong,
 };
 use zimgasol_output::{put_judgement, put_several_judgement};
 use zimgasol_reading::{
@@ -568,13 +570,9 @@ fn extract_several<H: AllocGlobal + Files + Clock, R: Read, W: Write, E: Write>(
     judge_several(rt.alloc(), &words.stream, name, &several, output, errors)
 }
 
-/// Extracts the memory of a stream, with its channels, and prints the verdict. Returns whether it
-/// is complete.
-///
-/// # Errors
-///
-/// Those of `extract_survey` and `read_several`, and `Trouble::Output`: then the files stay.
-pub(crate) fn extract<H: AllocGlobal + Files + Clock, R: Read, W: Write, E: Write>(
+// Extracts the memory of a stream, with its channels, and prints the verdict. Returns whether it is
+// complete.
+fn extract_stream<H: AllocGlobal + Files + Clock, R: Read, W: Write, E: Write>(
     rt: &H,
     words: &ExtractWords<'_>,
     channels: &ChannelWords<'_>,
@@ -589,4 +587,29 @@ pub(crate) fn extract<H: AllocGlobal + Files + Clock, R: Read, W: Write, E: Writ
     }
     let survey = extract_survey(rt, words, input, errors)?;
     judge_single(rt.alloc(), &words.stream, &name, &survey, output, errors)
+}
+
+/// Extracts the memory of a stream, with its channels, and prints the verdict. Notes the files that
+/// a killed run left. Returns whether the stream is complete.
+///
+/// # Errors
+///
+/// `Trouble::Words` if the folder is `-`, those of `extract_survey` and `read_several`, and
+/// `Trouble::Output`: then the files stay.
+pub(crate) fn extract<H: AllocGlobal + Files + Clock, R: Read, W: Write, E: Write>(
+    rt: &H,
+    words: &ExtractWords<'_>,
+    channels: &ChannelWords<'_>,
+    input: &mut R,
+    output: &mut W,
+    errors: &mut E,
+) -> Result<bool, Trouble> {
+    if words.folder == "-" {
+        let why = "is no folder, and `extract` writes files; `./-` names a folder of that name";
+        return Err(wrong(rt.alloc(), "DIR", words.folder, why));
+    }
+    let left = leftovers(rt, words.folder)?;
+    let is_whole = extract_stream(rt, words, channels, input, output, errors)?;
+    put_leftovers(rt, errors, &left);
+    Ok(is_whole)
 }

@@ -8,13 +8,23 @@
 //! | Modules | What they do |
 //! |---|---|
 //! | `running` | does what the words ask for, and returns the status |
+//! | `screen` | fits help to the width of a terminal |
+//! | `troubles` | the status and the message of what ends a command |
+//! | `verifying` | verifies one file after another |
 //! | `extracting` | writes each block into a file |
+//! | `leftovers` | names the files that a killed run left |
 //! | `comparing`, `differing` | list the pages that differ |
 #![tactic(auto)]
 
 mod comparing;
 mod differing;
 mod extracting;
+mod leftovers;
 mod running;
+mod screen;
+mod troubles;
+mod verifying;
 
-pub use running::{FAILED, WORDS, run};
+pub use running::run;
+pub use screen::Screen;
+pub use troubles::{FAILED, WORDS};

@@ -1,46 +1,36 @@
 //! The program as a function of its arguments and the standard streams.
 
-ghost use Rattle.std.specs.Prelude.{◌≤◌};
+ghost use Rattle.std.specs.Prelude.{◌≤◌, IfOk};
 
 use crate::comparing::compare;
 use crate::extracting::extract;
+use crate::screen::{Screen, fitted};
+use crate::troubles::{FAILED, REFUSED, WELL, WORDS, put_named_trouble, trouble_status};
+use crate::verifying::verify;
 use clap::Error;
 use clap::error::ErrorKind;
-use std::alloc::{AllocGlobal, Global};
+use std::alloc::{AllocError, AllocGlobal, Global};
 use std::fs::{Files, OpenFile};
 use std::io::{self, Read, Write};
 use std::rt::Clock;
 use zimgasol_files::{
-    ChannelWords, Packed, Request, StreamWords, Trouble, Unfit, asked, shown_name,
+    ChannelWords, Request, SaveWords, StreamWords, Trouble, asked, shown_name, wrong,
 };
 use zimgasol_output::{
     put_all_wrongs, put_json, put_lines, put_several_all_wrongs, put_several_json,
-    put_several_lines, put_several_verdict, put_verdict,
+    put_several_lines,
 };
 use zimgasol_reading::{NoSink, Several, Survey, read_several, read_stream};
 use zimgasol_saving::save;
 
-/// The exit status of success.
-const WELL: u8 = 0;
-
-/// The exit status for a stream with a fault, for memory that differs, and for memory that can't be
-/// saved.
-const REFUSED: u8 = 1;
-
-/// The exit status for wrong arguments.
-pub const WORDS: u8 = 2;
-
-/// The exit status for a file or a stream that can't be read or written, and for a refused
-/// allocation.
-pub const FAILED: u8 = 3;
-
 /// Runs the program on the arguments after its name, and returns the exit status: 0 for success, 1
-/// if something is refused or differs, `WORDS` or `FAILED`.
+/// if something is refused or differs, `WORDS` or `FAILED`. `screen` is what is known of `output`.
 ///
 /// Errors are written to `errors`. A failure to write to `errors` doesn't change the status.
 pub fn run<H: AllocGlobal + Files + Clock, R: Read, W: Write, E: Write>(
     rt: &H,
     words: &[String],
+    screen: Screen,
     input: &mut R,
     output: &mut W,
     errors: &mut E,
@@ -48,226 +38,158 @@ pub fn run<H: AllocGlobal + Files + Clock, R: Read, W: Write, E: Write>(
     ensures status { result ≤ 3 }
 {
     match asked(rt.alloc(), words) {
-        Ok(request) => done(rt, &request, input, output, errors),
-        Err(error) => said(output, errors, &error),
+        Ok(request) => done(rt, &request, screen, input, output, errors),
+        Err(error) => said(rt.alloc(), screen, output, errors, &error),
+    }
+}
+
+// Returns the text of `error`, the help in it fitted to `screen`.
+fn text_of(alloc: Global, screen: Screen, error: &Error) -> Result<String, AllocError> {
+    let text = format!(in alloc; "{error}")?;
+    match error.kind() {
+        ErrorKind::DisplayHelp | ErrorKind::DisplayHelpOnMissingArgumentOrSubcommand => {
+            fitted(alloc, &text, screen.columns)
+        }
+        _ => Ok(text),
     }
 }
 
 // Prints help, the version, or the error in the arguments, and returns the exit status.
-fn said<W: Write, E: Write>(output: &mut W, errors: &mut E, error: &Error) -> u8
+fn said<W: Write, E: Write>(
+    alloc: Global,
+    screen: Screen,
+    output: &mut W,
+    errors: &mut E,
+    error: &Error,
+) -> u8
     ensures { result ≤ 3 }
 {
     if error.kind() == ErrorKind::OutOfMemory {
-        let _ = writeln!(errors, "zimgasol: no memory");
-        return FAILED;
+        return put_no_memory(errors);
     }
-    if error.use_stderr() {
-        let _ = write!(errors, "{error}");
-        return WORDS;
+    match text_of(alloc, screen, error) {
+        Ok(text) if error.use_stderr() => {
+            let _ = write!(errors, "{text}");
+            WORDS
+        }
+        Ok(text) => put_text(output, errors, &text),
+        Err(_) => put_no_memory(errors),
     }
-    match write!(output, "{error}") {
+}
+
+// Prints `text` to the standard output, and returns the exit status. A closed pipe has no message.
+fn put_text<W: Write, E: Write>(output: &mut W, errors: &mut E, text: &str) -> u8
+    ensures { result ≤ 3 }
+{
+    match write!(output, "{text}") {
         Ok(()) => WELL,
         Err(failed) => {
-            let _ = writeln!(errors, "zimgasol: the output: {failed}");
+            if failed.kind() != io::ErrorKind::BrokenPipe {
+                let _ = writeln!(errors, "zimgasol: the output: {failed}");
+            }
             FAILED
         }
     }
 }
 
-// Executes `request`, and returns the exit status.
+// Writes that an allocation was refused, and returns the exit status.
+fn put_no_memory<E: Write>(errors: &mut E) -> u8
+    ensures { result ≤ 3 }
+{
+    let _ = writeln!(errors, "zimgasol: no memory");
+    FAILED
+}
+
+// Returns whether `trouble` has no message: the reader of the output has closed it. A stream that
+// `save` writes is then cut, which has one.
+fn is_quiet(request: &Request<'_>, trouble: &Trouble) -> bool {
+    let Trouble::Output(error) = trouble else {
+        return false;
+    };
+    error.kind() == io::ErrorKind::BrokenPipe && !matches!(request, Request::Save(_))
+}
+
+// Saves the memory of blocks as a stream, but not to a terminal. Returns true.
+fn save_to<H: AllocGlobal + Files + Clock, W: Write, E: Write>(
+    rt: &H,
+    words: &SaveWords<'_>,
+    screen: Screen,
+    output: &mut W,
+    errors: &mut E,
+) -> Result<bool, Trouble> {
+    if words.file == "-" && screen.is_terminal {
+        let why = "the standard output is a terminal; redirect it, or name a file";
+        return Err(wrong(rt.alloc(), "OUT", words.file, why));
+    }
+    save(rt, words, output, errors)
+}
+
+// Returns the exit status of a command that found what it read well, or refused it.
+fn status_of(is_well: Result<bool, Trouble>) -> Result<u8, Trouble>
+    ensures { IfOk result (λ status. status ≤ 3) }
+{
+    match is_well {
+        Ok(true) => Ok(WELL),
+        Ok(false) => Ok(REFUSED),
+        Err(trouble) => Err(trouble),
+    }
+}
+
+// Executes `request`. Returns the exit status.
+fn executed<H: AllocGlobal + Files + Clock, R: Read, W: Write, E: Write>(
+    rt: &H,
+    request: &Request<'_>,
+    screen: Screen,
+    input: &mut R,
+    output: &mut W,
+    errors: &mut E,
+) -> Result<u8, Trouble>
+    ensures { IfOk result (λ status. status ≤ 3) }
+{
+    match request {
+        Request::Verify(words) => verify(rt, words, input, output, errors),
+        Request::Inspect(words, channels, json) => {
+            status_of(inspect(rt, words, channels, *json, input, output, errors))
+        }
+        Request::Extract(words, channels) => {
+            status_of(extract(rt, words, channels, input, output, errors))
+        }
+        Request::Save(words) => status_of(save_to(rt, words, screen, output, errors)),
+        Request::Compare(words) => status_of(compare(rt, words, input, output, errors)),
+    }
+}
+
+// Returns the name of the file that trouble is about, if it names none.
+fn file_of<'a>(request: &Request<'a>) -> &'a str {
+    match request {
+        Request::Verify(words) => words.stream.file,
+        Request::Inspect(words, _, _) => words.file,
+        Request::Extract(words, _) => words.stream.file,
+        Request::Save(words) => words.file,
+        Request::Compare(words) => words.second.file,
+    }
+}
+
+// Executes `request`, reports its trouble, and returns the exit status.
 fn done<H: AllocGlobal + Files + Clock, R: Read, W: Write, E: Write>(
     rt: &H,
     request: &Request<'_>,
+    screen: Screen,
     input: &mut R,
     output: &mut W,
     errors: &mut E,
 ) -> u8
     ensures { result ≤ 3 }
 {
-    let (name, status) = match request {
-        Request::Verify(words, channels) => (
-            words.file,
-            verify(rt, words, channels, input, output, errors),
-        ),
-        Request::Inspect(words, channels, json) => (
-            words.file,
-            inspect(rt, words, channels, *json, input, output, errors),
-        ),
-        Request::Extract(words, channels) => (
-            words.stream.file,
-            extract(rt, words, channels, input, output, errors),
-        ),
-        Request::Save(words) => (words.file, save(rt, words, output, errors)),
-        Request::Compare(words) => (words.second.file, compare(rt, words, input, output, errors)),
-    };
-    match status {
-        Ok(true) => WELL,
-        Ok(false) => REFUSED,
+    match executed(rt, request, screen, input, output, errors) {
+        Ok(status) => status,
         Err(trouble) => {
-            let _ = put_named_trouble(rt.alloc(), errors, name, &trouble);
+            if !is_quiet(request, &trouble) {
+                let _ = put_named_trouble(rt.alloc(), errors, file_of(request), &trouble);
+            }
             trouble_status(&trouble)
         }
     }
-}
-
-// Returns the exit status for `trouble`.
-fn trouble_status(trouble: &Trouble) -> u8
-    ensures { result ≤ 3 }
-{
-    match trouble {
-        Trouble::Libvirt(_) | Trouble::Refused(_, _) | Trouble::NoBlock(_) => REFUSED,
-        Trouble::TooLarge | Trouble::Packed(_, _) => REFUSED,
-        Trouble::Unfit(_, why) => unfit_status(*why),
-        Trouble::Words(_, _) => WORDS,
-        _ => FAILED,
-    }
-}
-
-// Returns the exit status for an unsuitable file or folder.
-fn unfit_status(why: Unfit) -> u8
-    ensures { result ≤ 3 }
-{
-    match why {
-        Unfit::Pages(_, _) | Unfit::Empty | Unfit::NoBlock | Unfit::OtherLen(_, _) => REFUSED,
-        _ => FAILED,
-    }
-}
-
-// Writes the error line for `trouble`, about the file `name`.
-fn put_named_trouble<E: Write>(
-    alloc: Global,
-    errors: &mut E,
-    name: &str,
-    trouble: &Trouble,
-) -> io::Result<()> {
-    match shown_name(alloc, name) {
-        Ok(name) => put_trouble(errors, &name, trouble),
-        Err(_) => writeln!(errors, "zimgasol: no memory"),
-    }
-}
-
-// Writes the error line for `trouble`; `name` is printable.
-fn put_trouble<E: Write>(errors: &mut E, name: &str, trouble: &Trouble) -> io::Result<()> {
-    match trouble {
-        Trouble::NoMemory => writeln!(errors, "zimgasol: no memory"),
-        Trouble::Unread(error) => writeln!(errors, "{name}: {error}"),
-        Trouble::Output(error) => writeln!(errors, "zimgasol: the output: {error}"),
-        Trouble::OfFile(name, error) => writeln!(errors, "{name}: {error}"),
-        Trouble::Exists(name) => {
-            writeln!(errors, "{name}: is there already; `--replace` replaces it")
-        }
-        Trouble::Unfit(name, why) => put_unfit(errors, name, *why),
-        Trouble::TooLarge => writeln!(
-            errors,
-            "zimgasol: the blocks have more than 2^40 bytes together"
-        ),
-        Trouble::Words(words, why) => writeln!(errors, "zimgasol: {words}: {why}"),
-        Trouble::Refused(name, why) => writeln!(errors, "{name}: {why}"),
-        Trouble::NoBlock(id) => writeln!(errors, "{name}: has no block \"{id}\""),
-        Trouble::Libvirt(why) => writeln!(errors, "{name}: {why}"),
-        Trouble::Packed(Some(name), packed) => put_packed(errors, name, *packed),
-        Trouble::Packed(None, packed) => put_packed(errors, name, *packed),
-    }
-}
-
-// Writes the error line for a stream that libvirt compressed, with the command that reads it.
-fn put_packed<E: Write>(errors: &mut E, name: &str, packed: Packed) -> io::Result<()> {
-    let packer = packed.packer;
-    let first = packed.first;
-    write!(
-        errors,
-        "{name}: libvirt compressed the stream with {packer}; "
-    )?;
-    write!(
-        errors,
-        "`tail -c +{first} FILE | {packer} -dc | zimgasol verify -` reads it, "
-    )?;
-    writeln!(errors, "or save it with save_image_format = \"raw\"")
-}
-
-// Writes the error line for an unsuitable file or folder.
-fn put_unfit<E: Write>(errors: &mut E, name: &str, why: Unfit) -> io::Result<()> {
-    match why {
-        Unfit::Pages(len, size) => writeln!(
-            errors,
-            "{name}: has {len} bytes, which is no multiple of the page size {size} (`--page`)"
-        ),
-        Unfit::Empty => writeln!(
-            errors,
-            "{name}: has no bytes, and a block has at least a page"
-        ),
-        Unfit::OtherRun => writeln!(
-            errors,
-            "{name}: is there already: another `compare` runs, or was killed; then remove it"
-        ),
-        Unfit::NoFile => writeln!(errors, "{name}: is no plain file, and isn't replaced"),
-        Unfit::Changed => writeln!(errors, "{name}: its length changed while it was read"),
-        Unfit::NoList => writeln!(errors, "{name}: is no list of blocks that `extract` wrote"),
-        Unfit::NoBlock => writeln!(errors, "{name}: isn't in the folder of `--since`"),
-        Unfit::OtherLen(len, other) => writeln!(
-            errors,
-            "{name}: has {len} bytes, and in the folder of `--since` {other}"
-        ),
-        Unfit::OtherPages(size, other) => writeln!(
-            errors,
-            "{name}: has pages of {size} bytes, and the other one of {other}"
-        ),
-        Unfit::SavedPages(size, other) => writeln!(
-            errors,
-            "{name}: has pages of {size} bytes, and the stream would have pages of {other}; save with `--page {size}`"
-        ),
-        Unfit::ListedLen(len, listed) => writeln!(
-            errors,
-            "{name}: has {len} bytes, and `blocks.json` lists {listed}"
-        ),
-        Unfit::IdTwice => writeln!(errors, "{name}: lists an id twice"),
-    }
-}
-
-// Reads a stream, with its channels, and prints whether it is complete. Returns whether it is.
-fn verify<H: AllocGlobal + Files + Clock, R: Read, W: Write, E: Write>(
-    rt: &H,
-    words: &StreamWords<'_>,
-    channels: &ChannelWords<'_>,
-    input: &mut R,
-    output: &mut W,
-    errors: &mut E,
-) -> Result<bool, Trouble> {
-    let name = shown_name(rt.alloc(), words.file)?;
-    if channels.is_single(rt.alloc())? {
-        return verify_single(rt, words, &name, input, output, errors);
-    }
-    verify_several(rt, words, channels, &name, input, output, errors)
-}
-
-// Reads a single stream, and prints whether it is complete. Returns whether it is; `name` is
-// printable.
-fn verify_single<H: AllocGlobal + Files + Clock, R: Read, W: Write, E: Write>(
-    rt: &H,
-    words: &StreamWords<'_>,
-    name: &str,
-    input: &mut R,
-    output: &mut W,
-    errors: &mut E,
-) -> Result<bool, Trouble> {
-    let survey = read_stream(rt, words, input, &mut NoSink, errors)?;
-    put_verdict(rt.alloc(), output, errors, name, &survey, words.talk)
-}
-
-// Reads a main stream and its channels, and prints whether they are complete. Returns whether they
-// are; `name` is printable.
-fn verify_several<H: AllocGlobal + Files + Clock, R: Read, W: Write, E: Write>(
-    rt: &H,
-    words: &StreamWords<'_>,
-    channels: &ChannelWords<'_>,
-    name: &str,
-    input: &mut R,
-    output: &mut W,
-    errors: &mut E,
-) -> Result<bool, Trouble> {
-    let (read, _) = read_several(rt, words, channels, input, NoSink, errors);
-    let several = read?;
-    put_several_verdict(rt.alloc(), output, errors, name, &several, words.talk)
 }
 
 // How the contents of a stream are listed.

@@ -50,5 +50,5 @@ pub use trouble::{Packed, Trouble, Unfit, wrong};
 pub use watch::Watch;
 pub use words::{
     ChannelWords, CompareWords, ExtractWords, PageSize, Request, SaveWords, StreamWords, Talk,
-    asked,
+    VerifyWords, asked,
 };

@@ -1,6 +1,6 @@
 //! The command line, declared for `clap`, and its parsed arguments.
 
-ghost use Rattle.std.specs.Prelude.{◌≤◌, ◌^◌};
+ghost use Rattle.std.specs.Prelude.{◌≡◌, ◌≤◌, ◌^◌};
 ghost use Rattle.mig_mem.specs.PageSize.{IsPageSize};
 
 use crate::shown;
@@ -13,6 +13,47 @@ use std::alloc::{AllocError, Global};
 
 /// The program's version (CHANGELOG.md).
 const VERSION: &str = "0.3.0";
+
+/// What follows the options in the help. No line of an example has more than 40 columns.
+const EXAMPLES: &str = "\
+Exit status: 0 success; 1 refused, or different; 2 wrong arguments; 3 a file can't be read or written.
+
+Examples:
+  zimgasol verify guest.sav
+  zimgasol extract guest.sav memory
+  zimgasol compare a.sav b.sav
+  zimgasol help save";
+
+const VERIFY_EXAMPLES: &str = "\
+Of several FILEs the exit status is the worst one's: 3 if one can't be read, else 1 if one isn't complete, else 0.
+
+Examples:
+  zimgasol verify guest.sav
+  zimgasol verify *.sav
+  zimgasol verify --json *.sav
+  zstd -dc g.zst | zimgasol verify -";
+
+const INSPECT_EXAMPLES: &str = "\
+Examples:
+  zimgasol inspect guest.sav
+  zimgasol inspect guest.sav --json";
+
+const EXTRACT_EXAMPLES: &str = "\
+Examples:
+  zimgasol extract guest.sav memory
+  zimgasol extract day.sav restored \\
+    --frame ram --since memory";
+
+const SAVE_EXAMPLES: &str = "\
+Examples:
+  zimgasol save --block ram=ram.bin g.sav
+  zimgasol save --block ram=ram.bin \\
+    --since memory day.sav";
+
+const COMPARE_EXAMPLES: &str = "\
+Examples:
+  zimgasol compare a.sav b.sav
+  zimgasol compare memory b.sav";
 
 /// The size of the guest's pages.
 #[derive(Clone, Copy, Debug, PartialEq, Eq)]
@@ -85,6 +126,35 @@ pub struct ChannelWords<'a> {
     pub uuid: Option<&'a str>,
 }
 
+/// The arguments of `verify`.
+#[derive(Drop)]
+pub struct VerifyWords<'a> {
+    /// The options, which hold for each file; `file` is the first one.
+    pub stream: StreamWords<'a>,
+    /// The files' names, in the order of the arguments.
+    pub files: Vec<&'a str>,
+    pub channels: ChannelWords<'a>,
+    /// Whether an object of JSON is printed for each file, in place of lines.
+    pub json: bool,
+}
+
+impl<'a> VerifyWords<'a> {
+    /// Returns the stream in `file`, with the options of all files.
+    pub fn stream_in(&self, file: &'a str) -> StreamWords<'a>
+        ensures { result ≡ record self.now.stream { file = file.entry } }
+    {
+        StreamWords {
+            file,
+            page_size: self.stream.page_size,
+            frame: self.stream.frame,
+            most_memory: self.stream.most_memory,
+            ram_only: self.stream.ram_only,
+            talk: self.stream.talk,
+            partial: self.stream.partial,
+        }
+    }
+}
+
 /// The arguments of `extract`.
 #[derive(Clone, Copy)]
 pub struct ExtractWords<'a> {
@@ -136,7 +206,7 @@ pub struct CompareWords<'a> {
 /// A parsed command line.
 #[derive(Drop)]
 pub enum Request<'a> {
-    Verify(StreamWords<'a>, ChannelWords<'a>),
+    Verify(VerifyWords<'a>),
     /// True for JSON, false for lines.
     Inspect(StreamWords<'a>, ChannelWords<'a>, bool),
     Extract(ExtractWords<'a>, ChannelWords<'a>),
@@ -148,8 +218,12 @@ pub enum Request<'a> {
 
 fn file_arg<'a>(alloc: Global) -> Arg<'a> {
     Arg::new(alloc, "FILE").required(true).help(
-        "The file with the stream: of QEMU's `migrate file:`, or of `virsh save`; - for the standard input",
+        "File of QEMU's `migrate file:` or of `virsh save`; - is the standard input",
     )
+}
+
+fn files_arg<'a>(alloc: Global) -> Arg<'a> {
+    file_arg(alloc).num_args(1..).action(ArgAction::Append)
 }
 
 fn quiet_flag<'a>(alloc: Global) -> Arg<'a> {
@@ -172,7 +246,7 @@ fn partial_flag<'a>(alloc: Global) -> Arg<'a> {
     flag(
         alloc,
         "partial",
-        "Takes a stream that hasn't each page: of the changes since another one, or with unplugged memory",
+        "Accepts a stream without some pages: an incremental one, or one with unplugged memory",
     )
 }
 
@@ -181,7 +255,7 @@ fn page_option<'a>(alloc: Global) -> Arg<'a> {
         .long("page")
         .value_name("BYTES")
         .value_parser(ValueParser::from(["4096", "8192"].as_slice()))
-        .help("The size of the guest's pages [default: 4096]")
+        .help("Guest page size (most streams don't record it) [default: 4096]")
 }
 
 fn frame_option<'a>(alloc: Global) -> Arg<'a> {
@@ -190,7 +264,7 @@ fn frame_option<'a>(alloc: Global) -> Arg<'a> {
         .value_name("FRAME")
         .value_parser(ValueParser::from(["machine", "ram"].as_slice()))
         .help(
-            "What the stream is: a machine's, with its devices, or RAM's sections alone [default: machine]",
+            "What the stream is: a full machine stream, or RAM's sections alone [default: machine]",
         )
 }
 
@@ -199,14 +273,14 @@ fn limit_option<'a>(alloc: Global) -> Arg<'a> {
         .long("limit")
         .value_name("BYTES")
         .value_parser(ValueParser::Unsigned(1, MAX_TOTAL))
-        .help("The most bytes of memory that the guest may have [default: 2^40]")
+        .help("Refuses a guest with more memory [default: 2^40]")
 }
 
 fn ram_only_flag<'a>(alloc: Global) -> Arg<'a> {
     flag(
         alloc,
         "ram-only",
-        "Verifies RAM alone, and not the devices' state that follows it",
+        "Checks RAM alone, not the device state after it",
     )
 }
 
@@ -222,7 +296,7 @@ fn channel_option<'a>(alloc: Global) -> Arg<'a> {
         .long("channel")
         .value_name("FILE")
         .action(ArgAction::Append)
-        .help("A file with a channel's bytes (multifd); once for each channel")
+        .help("File of a multifd channel; once for each channel")
 }
 
 fn uuid_option<'a>(alloc: Global, help: &'a str) -> Arg<'a> {
@@ -232,19 +306,28 @@ fn uuid_option<'a>(alloc: Global, help: &'a str) -> Arg<'a> {
         .help(help)
 }
 
-// Declares a command that reads a stream.
+// Declares a command, with help for narrow terminals that ends with `examples`.
+fn command<'a>(alloc: Global, name: &'a str, about: &'a str, examples: &'a str) -> Command<'a> {
+    Command::new(alloc, name)
+        .about(about)
+        .next_line_help(true)
+        .after_help(examples)
+}
+
+// Declares a command that reads a stream from `file`.
 fn stream_command<'a>(
     alloc: Global,
     name: &'a str,
     about: &'a str,
+    examples: &'a str,
+    file: Arg<'a>,
 ) -> Result<Command<'a>, AllocError> {
-    Command::new(alloc, name)
-        .about(about)
-        .arg(file_arg(alloc))?
+    command(alloc, name, about, examples)
+        .arg(file)?
         .arg(channel_option(alloc))?
         .arg(uuid_option(
             alloc,
-            "The UUID that each channel has to name [default: that of the first channel]",
+            "UUID that each channel has to have [default: that of the first channel]",
         ))?
         .arg(page_option(alloc))?
         .arg(frame_option(alloc))?
@@ -253,18 +336,31 @@ fn stream_command<'a>(
         .arg(progress_flag(alloc))
 }
 
+fn lines_flag<'a>(alloc: Global) -> Result<Arg<'a>, AllocError> {
+    flag(
+        alloc,
+        "json",
+        "Prints one JSON object per FILE, each on a line",
+    )
+    .conflicts_with("quiet")
+}
+
 fn verify_command<'a>(alloc: Global) -> Result<Command<'a>, AllocError> {
     stream_command(
         alloc,
         "verify",
-        "Reports whether a saved guest is complete, or where it has a fault",
+        "Reports whether each saved guest is complete, or where it has a fault",
+        VERIFY_EXAMPLES,
+        files_arg(alloc),
     )?
     .arg(ram_only_flag(alloc))?
+    .arg(lines_flag(alloc)?)?
     .arg(quiet_flag(alloc))
 }
 
 fn inspect_command<'a>(alloc: Global) -> Result<Command<'a>, AllocError> {
-    stream_command(alloc, "inspect", "Lists what a saved guest has")?
+    let about = "Lists what a saved guest has";
+    stream_command(alloc, "inspect", about, INSPECT_EXAMPLES, file_arg(alloc))?
         .arg(ram_only_flag(alloc))?
         .arg(flag(alloc, "json", "Prints JSON in place of lines"))
 }
@@ -272,14 +368,14 @@ fn inspect_command<'a>(alloc: Global) -> Result<Command<'a>, AllocError> {
 fn folder_arg<'a>(alloc: Global) -> Arg<'a> {
     Arg::new(alloc, "DIR")
         .required(true)
-        .help("The folder; it is created if it isn't there")
+        .help("Folder to write to; created if missing")
 }
 
 fn one_block_option<'a>(alloc: Global) -> Arg<'a> {
     Arg::new(alloc, "block")
         .long("block")
         .value_name("ID")
-        .help("Extracts this block alone")
+        .help("Extracts only this block")
 }
 
 fn since_option<'a>(alloc: Global, help: &'a str) -> Arg<'a> {
@@ -294,13 +390,15 @@ fn extract_places<'a>(alloc: Global) -> Result<Command<'a>, AllocError> {
     stream_command(
         alloc,
         "extract",
-        "Writes the memory of a stream into a folder, a file for each block, and blocks.json",
+        "Writes each RAM block's memory into a file in a folder, and blocks.json",
+        EXTRACT_EXAMPLES,
+        file_arg(alloc),
     )?
     .arg(folder_arg(alloc))?
     .arg(one_block_option(alloc))?
     .arg(since_option(
         alloc,
-        "Applies the stream to the memory in a folder that `extract` made: what `save --since` saved",
+        "Applies an incremental stream (from `save --since`) to the memory in this folder",
     ))
 }
 
@@ -316,7 +414,9 @@ fn digest_flags<'a>(alloc: Global, command: Command<'a>) -> Result<Command<'a>, 
         "no-digest",
         "Adds no SHA-256 to blocks.json (the default)",
     );
-    command.arg(digest.conflicts_with("no-digest")?)?.arg(no_digest)
+    command
+        .arg(digest.conflicts_with("no-digest")?)?
+        .arg(no_digest)
 }
 
 fn extract_command<'a>(alloc: Global) -> Result<Command<'a>, AllocError> {
@@ -332,36 +432,33 @@ fn blocks_option<'a>(alloc: Global) -> Arg<'a> {
         .value_name("ID=FILE")
         .action(ArgAction::Append)
         .required(true)
-        .help("A block's id, and the file with its memory; once for each block")
+        .help("Block id, and the file with its memory; once for each block")
 }
 
 fn channels_option<'a>(alloc: Global) -> Arg<'a> {
     Arg::new(alloc, "channels")
         .long("channels")
         .value_name("N")
-        .help("Sends the pages over N channels (multifd), into the files OUT.0 and so on")
+        .help("Writes the pages over N multifd channels, into OUT.0, OUT.1 and so on")
 }
 
 // Declares `save` with its options for blocks, for `--since` and for channels.
 fn save_sources<'a>(alloc: Global) -> Result<Command<'a>, AllocError> {
-    Command::new(alloc, "save")
-        .about("Makes a stream of files with the memory of blocks, as a backup of a guest")
+    let about = "Writes a migration stream from raw block files";
+    command(alloc, "save", about, SAVE_EXAMPLES)
         .arg(blocks_option(alloc))?
         .arg(since_option(
             alloc,
-            "Saves only the pages that differ from a folder that `extract` made",
+            "Saves only the pages that differ from this folder, which `extract` made",
         ))?
         .arg(channels_option(alloc))?
-        .arg(uuid_option(
-            alloc,
-            "The UUID that the channels name, that of the guest [default: zeros]",
-        ))
+        .arg(uuid_option(alloc, "UUID in each channel: the guest's [default: zeros]"))
 }
 
 fn out_arg<'a>(alloc: Global) -> Arg<'a> {
-    Arg::new(alloc, "OUT").required(true).help(
-        "The file to write the stream to; - for the standard output",
-    )
+    Arg::new(alloc, "OUT")
+        .required(true)
+        .help("File to write the stream to; - is the standard output")
 }
 
 fn saved_frame_option<'a>(alloc: Global) -> Arg<'a> {
@@ -370,7 +467,7 @@ fn saved_frame_option<'a>(alloc: Global) -> Arg<'a> {
         .value_name("FRAME")
         .value_parser(ValueParser::from(["ram", "machine"].as_slice()))
         .help(
-            "What the stream is: RAM's sections alone, or a machine's, without its devices [default: ram]",
+            "What the stream is: RAM's sections alone, or a machine stream without devices [default: ram]",
         )
 }
 
@@ -378,7 +475,7 @@ fn machine_option<'a>(alloc: Global) -> Arg<'a> {
     Arg::new(alloc, "machine")
         .long("machine")
         .value_name("NAME")
-        .help("The machine's name, in a machine's stream: QEMU refuses another machine's")
+        .help("Machine type to record (QEMU refuses a mismatch)")
 }
 
 // Declares `save` with the options of `save_sources`, and those for the stream.
@@ -399,13 +496,13 @@ fn save_command<'a>(alloc: Global) -> Result<Command<'a>, AllocError> {
 
 fn compared_arg<'a>(alloc: Global, name: &'a str) -> Arg<'a> {
     Arg::new(alloc, name).required(true).help(
-        "A file with a stream, - for the standard input, or a folder that `extract` made",
+        "File with a stream, - for the standard input, or a folder that `extract` made",
     )
 }
 
 fn compare_command<'a>(alloc: Global) -> Result<Command<'a>, AllocError> {
-    Command::new(alloc, "compare")
-        .about("Lists the pages in which the memory of two streams or folders differs")
+    let about = "Lists the pages in which the memory of two streams or folders differs";
+    command(alloc, "compare", about, COMPARE_EXAMPLES)
         .arg(compared_arg(alloc, "A"))?
         .arg(compared_arg(alloc, "B"))?
         .arg(page_option(alloc))?
@@ -423,11 +520,10 @@ fn bare_program<'a>(alloc: Global) -> Result<Command<'a>, AllocError> {
             .no_binary_name(true)
             .version(VERSION)
             .about(
-                "Inspects and verifies guests that QEMU or libvirt saved in a file, extracts their memory, and saves it",
+                "Verifies and lists guests that QEMU or libvirt saved in a file, extracts their memory, and saves it",
             )
-            .after_help(
-                "Exit status: 0 success; 1 refused, or different; 2 wrong arguments; 3 a file can't be read or written.",
-            )
+            .next_line_help(true)
+            .after_help(EXAMPLES)
             .arg_required_else_help(true)
             .subcommand_required(true),
     )
@@ -502,6 +598,15 @@ fn channels_in<'a>(
     })
 }
 
+fn verify_in<'a>(alloc: Global, matches: &ArgMatches<'a>) -> Result<VerifyWords<'a>, AllocError> {
+    Ok(VerifyWords {
+        stream: stream_in(matches, "FILE"),
+        files: matches.get_strs("FILE").unwrap_or(&[]).to_vec(alloc)?,
+        channels: channels_in(alloc, matches)?,
+        json: matches.get_flag("json"),
+    })
+}
+
 fn extract_in<'a>(matches: &ArgMatches<'a>) -> ExtractWords<'a> {
     ExtractWords {
         stream: stream_in(matches, "FILE"),
@@ -550,7 +655,7 @@ fn request_in<'a>(
             channels_in(alloc, matches)?,
             matches.get_flag("json"),
         ),
-        _ => Request::Verify(stream_in(matches, "FILE"), channels_in(alloc, matches)?),
+        _ => Request::Verify(verify_in(alloc, matches)?),
     })
 }
 

@@ -75,11 +75,11 @@ const KNOWN_FILES: [(&[u8], &str); 8] = [
 ];
 
 const NO_STREAM: &str =
-    "this is no migration stream of QEMU's; if it is compressed, pipe it through its unpacker into `-`";
+    "not a QEMU migration stream; if compressed: `zstd -dc FILE | zimgasol verify -`";
 
 const OTHER_PAGE_SIZE: &str = "the page size may be the other one (`--page`)";
 
-const OTHER_FRAME: &str = "this is a machine's stream, which is read without `--frame ram`";
+const OTHER_FRAME: &str = "this looks like a full machine stream; drop `--frame ram`";
 
 /// A fault of a stream, and what was met up to it.
 #[derive(Clone, Copy)]

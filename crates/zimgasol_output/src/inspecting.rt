@@ -447,6 +447,21 @@ fn survey_value(alloc: Global, name: &str, survey: &Survey) -> Result<Value, All
     Ok(Value::Object(object))
 }
 
+/// Writes what a stream has, as JSON on one line. `name` is the file's, as it is printed.
+///
+/// # Errors
+///
+/// `Trouble::Output` if `output` can't be written, `Trouble::NoMemory`.
+pub fn put_json_line<W: Write>(
+    alloc: Global,
+    output: &mut W,
+    name: &str,
+    survey: &Survey,
+) -> Result<(), Trouble> {
+    let text = survey_value(alloc, name, survey)?.to_string(alloc)?;
+    writeln!(output, "{text}").map_err(output_failed)
+}
+
 /// Writes what a stream has, as JSON. `name` is the file's, as it is printed.
 ///
 /// # Errors

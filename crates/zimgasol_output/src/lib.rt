@@ -16,8 +16,8 @@ mod several_json;
 mod several_lines;
 mod verifying;
 
-pub use inspecting::{put_json, put_lines};
-pub use several_json::put_several_json;
+pub use inspecting::{put_json, put_json_line, put_lines};
+pub use several_json::{put_several_json, put_several_json_line};
 pub use several_lines::{
     put_several_all_wrongs, put_several_judgement, put_several_lines, put_several_verdict,
     put_several_wrongs,

@@ -124,7 +124,7 @@ fn put_block<E: Write>(
     };
     let _ = writeln!(
         errors,
-        "{name}: {mark}: {missing} of {pages} pages of block \"{id}\" have no record{end}"
+        "zimgasol: {name}: {mark}: {missing} of {pages} pages of block \"{id}\" have no record{end}"
     );
     Ok(())
 }
@@ -160,7 +160,7 @@ fn put_lacks<E: Write>(
         Coverage::Partial => put_blocks(alloc, errors, name, blocks, "note"),
         Coverage::Incomplete => {
             put_blocks(alloc, errors, name, blocks, "INCOMPLETE")?;
-            let _ = writeln!(errors, "{name}: INCOMPLETE: {cause}");
+            let _ = writeln!(errors, "zimgasol: {name}: INCOMPLETE: {cause}");
             Ok(())
         }
     }

@@ -34,9 +34,11 @@ fn channel_advice(fault: ChannelFault) -> Option<&'static str> {
     match fault {
         ChannelFault::HelloMagic => Some("this is no channel of multifd's"),
         ChannelFault::HelloUuid => Some(
-            "the channel is of another migration; `--uuid` names the one that is meant",
+            "this channel belongs to another migration; pick one with `--uuid`",
         ),
-        ChannelFault::HelloId => Some("each channel is named by `--channel`, and one may lack"),
+        ChannelFault::HelloId => Some(
+            "name every channel with `--channel`; one seems to be missing",
+        ),
         ChannelFault::PacketFlags(flags) => Some(flags_advice(flags)),
         ChannelFault::PacketMagic | ChannelFault::PageCount | ChannelFault::PacketSize => {
             Some("the page size may be the other one (`--page`)")
@@ -52,7 +54,7 @@ fn channel_advice(fault: ChannelFault) -> Option<&'static str> {
 fn advice_of(fault: Fault) -> Option<&'static str> {
     match fault {
         Fault::Channel(fault) => channel_advice(fault),
-        Fault::HelloTwice => Some("two of the files are one channel's"),
+        Fault::HelloTwice => Some("two of these files are the same channel"),
         Fault::Round(RoundFault::Missing(_)) => Some(
             "each channel is named by `--channel`, and one may be missing or another migration's",
         ),
@@ -107,7 +109,7 @@ fn put_within<W: Write>(
     }
 }
 
-/// Writes the line on a fault: the file, the place in it, the fault, and advice.
+/// Writes the error line on a fault: the file, the place in it, the fault, and advice.
 pub(crate) fn put_spotted<W: Write>(
     output: &mut W,
     name: &str,
@@ -116,7 +118,7 @@ pub(crate) fn put_spotted<W: Write>(
     block: &Option<String>,
     advice: &Option<String>,
 ) -> io::Result<()> {
-    write!(output, "{name}: ")?;
+    write!(output, "zimgasol: {name}: ")?;
     put_spot(output, fault.round, spot, block)?;
     put_found(output, fault.fault, advice)
 }

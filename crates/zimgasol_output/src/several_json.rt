@@ -202,6 +202,24 @@ fn several_value<F: Read + OpenFile + Drop>(
     Ok(Value::Object(object))
 }
 
+/// Writes what the main stream and the channels have, as JSON on one line.
+///
+/// # Errors
+///
+/// `Trouble::Output` where `output` can't be written, `Trouble::NoMemory`.
+pub fn put_several_json_line<F: Read + OpenFile + Drop, W: Write>(
+    alloc: Global,
+    output: &mut W,
+    name: &str,
+    several: &Several<F>,
+) -> Result<(), Trouble> {
+    let text = several_value(alloc, name, several)?.to_string(alloc)?;
+    match writeln!(output, "{text}") {
+        Ok(()) => Ok(()),
+        Err(error) => Err(Trouble::Output(error)),
+    }
+}
+
 /// Writes what the main stream and the channels have, as JSON.
 ///
 /// # Errors

@@ -45,7 +45,7 @@ pub(crate) fn put_section<W: Write>(
     }
 }
 
-/// Writes the line on a fault: the file, the place in it, the fault, and advice.
+/// Writes the error line on a fault: the file, the place in it, the fault, and advice.
 pub(crate) fn put_fault<W: Write>(
     output: &mut W,
     name: &str,
@@ -55,7 +55,7 @@ pub(crate) fn put_fault<W: Write>(
 ) -> io::Result<()> {
     let byte = place.byte;
     let fault = place.fault;
-    write!(output, "{name}: byte {byte} (")?;
+    write!(output, "zimgasol: {name}: byte {byte} (")?;
     put_section(output, place.sections, place.kind, block)?;
     write!(output, "): fault {fault}")?;
     if let Some(advice) = advice {
@@ -135,14 +135,14 @@ fn put_tail_found<W: Write>(output: &mut W, len: u64, fault: TailFault) -> io::R
     }
 }
 
-// Writes the line on the fault of the bytes after RAM.
+// Writes the error line on the fault of the bytes after RAM.
 fn put_tail_fault<W: Write>(
     output: &mut W,
     name: &str,
     len: u64,
     fault: TailFault,
 ) -> io::Result<()> {
-    write!(output, "{name}: ")?;
+    write!(output, "zimgasol: {name}: ")?;
     put_tail_found(output, len, fault)?;
     writeln!(output, "; `--ram-only` verifies RAM alone")
 }

@@ -1,0 +1,264 @@
+//! `verify`: reports whether saved guests are complete, one file after another.
+
+ghost use Rattle.std.specs.Prelude.{◌≡◌, ◌≤◌, ◌<◌, IfOk};
+
+use crate::troubles::{FAILED, REFUSED, WELL, put_message, put_named_trouble, trouble_status};
+use serde_json::json;
+use std::alloc::{AllocGlobal, Global};
+use std::fs::{Files, OpenFile};
+use std::io::{self, Read, Write};
+use std::rt::Clock;
+use std::str;
+use zimgasol_files::{StreamWords, Trouble, VerifyWords, shown_name, wrong};
+use zimgasol_output::{
+    put_all_wrongs, put_json_line, put_several_all_wrongs, put_several_json_line,
+    put_several_verdict, put_verdict,
+};
+use zimgasol_reading::{NoSink, Several, read_several, read_stream};
+
+// How many files were verified, by their status.
+#[derive(Clone, Copy)]
+struct Tally {
+    // complete, or partial with `--partial`
+    passed: u64,
+    // with a fault, or incomplete
+    refused: u64,
+    // that can't be read
+    unread: u64,
+}
+
+impl Tally {
+    // Creates the tally before the first file.
+    fn new() -> Tally {
+        Tally {
+            passed: 0,
+            refused: 0,
+            unread: 0,
+        }
+    }
+
+    // Counts a file with `status`.
+    fn add(&mut self, status: u8) {
+        match status {
+            WELL => self.passed = self.passed.saturating_add(1),
+            REFUSED => self.refused = self.refused.saturating_add(1),
+            _ => self.unread = self.unread.saturating_add(1),
+        }
+    }
+
+    // Returns the exit status: that of the worst file.
+    fn status(&self) -> u8
+        ensures unread { 0 < self.now.unread → result ≡ 3 }
+        ensures refused { self.now.unread ≡ 0 → 0 < self.now.refused → result ≡ 1 }
+        ensures passed { self.now.unread ≡ 0 → self.now.refused ≡ 0 → result ≡ 0 }
+        ensures bound { result ≤ 3 }
+    {
+        if self.unread != 0 {
+            return FAILED;
+        }
+        if self.refused != 0 {
+            return REFUSED;
+        }
+        WELL
+    }
+
+    // Writes the sum of all files.
+    fn put<W: Write>(&self, output: &mut W, files: usize) -> io::Result<()> {
+        let passed = self.passed;
+        let refused = self.refused;
+        let unread = self.unread;
+        writeln!(
+            output,
+            "{files} files: {passed} passed, {refused} refused, {unread} not read"
+        )
+    }
+}
+
+fn output_failed(error: io::Error) -> Trouble {
+    Trouble::Output(error)
+}
+
+// Refuses channels of several files, and the standard input twice.
+fn check_words(alloc: Global, words: &VerifyWords<'_>) -> Result<(), Trouble> {
+    let is_single = words.channels.is_single(alloc)?;
+    if words.files.len() < 2 {
+        return Ok(());
+    }
+    if !is_single {
+        let channel = words.channels.files.first().unwrap_or(&"");
+        return Err(wrong(alloc, "--channel", channel, "goes with one FILE"));
+    }
+    if words.files.iter().filter(|file| **file == "-").count() > 1 {
+        return Err(wrong(
+            alloc,
+            "FILE",
+            "-",
+            "only one FILE can be the standard input",
+        ));
+    }
+    Ok(())
+}
+
+// Reads a single stream, and prints whether it is complete. Returns whether it is; `name` is
+// printable.
+fn verify_single<H: AllocGlobal + Files + Clock, R: Read, W: Write, E: Write>(
+    rt: &H,
+    words: &StreamWords<'_>,
+    json: bool,
+    name: &str,
+    input: &mut R,
+    output: &mut W,
+    errors: &mut E,
+) -> Result<bool, Trouble> {
+    let alloc = rt.alloc();
+    let survey = read_stream(rt, words, input, &mut NoSink, errors)?;
+    if json {
+        put_json_line(alloc, output, name, &survey)?;
+        return put_all_wrongs(alloc, errors, name, &survey);
+    }
+    put_verdict(alloc, output, errors, name, &survey, words.talk)
+}
+
+// Prints whether a main stream and its channels are complete. Returns whether they are; `name` is
+// printable.
+fn judge_several<F: Read + OpenFile + Drop, W: Write, E: Write>(
+    alloc: Global,
+    words: &VerifyWords<'_>,
+    name: &str,
+    several: &Several<F>,
+    output: &mut W,
+    errors: &mut E,
+) -> Result<bool, Trouble> {
+    if words.json {
+        put_several_json_line(alloc, output, name, several)?;
+        return put_several_all_wrongs(alloc, errors, name, several);
+    }
+    put_several_verdict(alloc, output, errors, name, several, words.stream.talk)
+}
+
+// Reads a main stream and its channels, and prints whether they are complete. Returns whether they
+// are; `name` is printable.
+fn verify_several<H: AllocGlobal + Files + Clock, R: Read, W: Write, E: Write>(
+    rt: &H,
+    words: &VerifyWords<'_>,
+    name: &str,
+    input: &mut R,
+    output: &mut W,
+    errors: &mut E,
+) -> Result<bool, Trouble> {
+    let (read, _) = read_several(rt, &words.stream, &words.channels, input, NoSink, errors);
+    let several = read?;
+    judge_several(rt.alloc(), words, name, &several, output, errors)
+}
+
+// Reads `stream`, with the channels if there are some, and prints whether it is complete. Returns
+// whether it is.
+fn verify_stream<H: AllocGlobal + Files + Clock, R: Read, W: Write, E: Write>(
+    rt: &H,
+    words: &VerifyWords<'_>,
+    stream: &StreamWords<'_>,
+    input: &mut R,
+    output: &mut W,
+    errors: &mut E,
+) -> Result<bool, Trouble> {
+    let name = shown_name(rt.alloc(), stream.file)?;
+    if words.channels.files.is_empty() {
+        return verify_single(rt, stream, words.json, &name, input, output, errors);
+    }
+    verify_several(rt, words, &name, input, output, errors)
+}
+
+// Returns whether `trouble` ends the command, whatever files follow.
+fn is_of_all(trouble: &Trouble) -> bool {
+    matches!(
+        trouble,
+        Trouble::NoMemory | Trouble::Output(_) | Trouble::Words(_, _)
+    )
+}
+
+// Writes the object of JSON for a file that can't be verified.
+fn put_unread<W: Write>(
+    alloc: Global,
+    output: &mut W,
+    name: &str,
+    trouble: &Trouble,
+) -> Result<(), Trouble> {
+    let mut text = Vec::new(alloc);
+    if put_message(&mut text, name, trouble).is_err() {
+        return Err(Trouble::NoMemory);
+    }
+    let error = str::from_utf8(&text).unwrap_or("");
+    let status = trouble_status(trouble);
+    let object = json!(in alloc; {
+        "file": name, "complete": false, "error": error, "status": status
+    })?;
+    let line = object.to_string(alloc)?;
+    writeln!(output, "{line}").map_err(output_failed)
+}
+
+// Reports `trouble` of `file`. Returns the file's status, or `trouble` if it ends the command.
+fn report<W: Write, E: Write>(
+    alloc: Global,
+    words: &VerifyWords<'_>,
+    file: &str,
+    trouble: Trouble,
+    output: &mut W,
+    errors: &mut E,
+) -> Result<u8, Trouble>
+    ensures { IfOk result (λ status. status ≤ 3) }
+{
+    if is_of_all(&trouble) {
+        return Err(trouble);
+    }
+    if words.json {
+        let name = shown_name(alloc, file)?;
+        put_unread(alloc, output, &name, &trouble)?;
+    }
+    let _ = put_named_trouble(alloc, errors, file, &trouble);
+    Ok(trouble_status(&trouble))
+}
+
+// Verifies `file`. Returns its status.
+fn verify_file<'a, H: AllocGlobal + Files + Clock, R: Read, W: Write, E: Write>(
+    rt: &H,
+    words: &VerifyWords<'a>,
+    file: &'a str,
+    input: &mut R,
+    output: &mut W,
+    errors: &mut E,
+) -> Result<u8, Trouble> {
+    let stream = words.stream_in(file);
+    match verify_stream(rt, words, &stream, input, output, errors) {
+        Ok(true) => Ok(WELL),
+        Ok(false) => Ok(REFUSED),
+        Err(trouble) => report(rt.alloc(), words, file, trouble, output, errors),
+    }
+}
+
+/// Verifies each file, and prints what it found of it: of several files also their sum. Returns the
+/// exit status, that of the worst file: 3 if one can't be read, else 1 if one isn't complete.
+///
+/// # Errors
+///
+/// `Trouble::Words` of channels of several files, or the standard input twice, `Trouble::Output`
+/// and `Trouble::NoMemory`: then no more files are read.
+pub(crate) fn verify<H: AllocGlobal + Files + Clock, R: Read, W: Write, E: Write>(
+    rt: &H,
+    words: &VerifyWords<'_>,
+    input: &mut R,
+    output: &mut W,
+    errors: &mut E,
+) -> Result<u8, Trouble>
+    ensures { IfOk result (λ status. status ≤ 3) }
+{
+    check_words(rt.alloc(), words)?;
+    let mut tally = Tally::new();
+    for file in &words.files {
+        tally.add(verify_file(rt, words, *file, input, output, errors)?);
+    }
+    let files = words.files.len();
+    if files > 1 && !words.json && !words.stream.talk.quiet {
+        tally.put(output, files).map_err(output_failed)?;
+    }
+    Ok(tally.status())
+}
