@@ -1,6 +1,7 @@
 //! Reads an input in pieces, through one buffer.
 
-ghost use Rattle.std.specs.Prelude.{◌≡◌, ◌≤◌, length, IfOk};
+ghost use Rattle.std.specs.Prelude.{◌≡◌, ◌<◌, ◌≤◌, length, take, IfOk};
+ghost use Rattle.std.specs.Io.KnownBytes.{Consumes, IsAtEnd, ReadConsumes};
 
 use crate::trouble::Trouble;
 use std::alloc::Global;
@@ -10,7 +11,9 @@ use std::io::{self, ErrorKind, Read};
 pub(crate) const PIECE_LEN: usize = 262_144;
 
 /// Returns the buffer that pieces are read into.
-pub fn piece_buffer(alloc: Global) -> Result<Vec<u8>, Trouble> {
+pub fn piece_buffer(alloc: Global) -> Result<Vec<u8>, Trouble>
+    ensures { IfOk result (λ v. 0 < length v.items) }
+{
     let buffer = vec![in alloc; 0u8; PIECE_LEN]?;
     Ok(buffer)
 }
@@ -19,15 +22,16 @@ pub fn piece_buffer(alloc: Global) -> Result<Vec<u8>, Trouble> {
 fn read_some<R: Read>(input: &mut R, buffer: &mut [u8]) -> io::Result<usize>
     ensures len { length buffer.new ≡ length buffer.old }
     ensures count { IfOk result (λ n. n ≤ length buffer.old) }
+    ensures bytes { ReadConsumes (R.remaining input.old) (R.remaining input.new) result buffer.new }
 {
-    for _ in 0..u64::MAX {
+    'tries: for _ in 0..u64::MAX {
         match input.read(buffer) {
             Ok(len) => return Ok(len),
             Err(error) if error.kind() == ErrorKind::Interrupted => {}
             Err(error) => return Err(error),
         }
     }
-    Ok(0)
+    Err(io::Error::from(ErrorKind::Interrupted))
 }
 
 /// Reads until `buffer` is full or the input ends. Returns the number of bytes that it read: if it
@@ -40,17 +44,19 @@ fn read_some<R: Read>(input: &mut R, buffer: &mut [u8]) -> io::Result<usize>
 pub fn read_piece<R: Read>(input: &mut R, buffer: &mut [u8]) -> Result<usize, Trouble>
     ensures len { length buffer.new ≡ length buffer.old }
     ensures count { IfOk result (λ n. n ≤ length buffer.old) }
+    ensures bytes { IfOk result (λ n. Consumes (R.remaining input.old) (R.remaining input.new) (take n buffer.new)) }
+    ensures end { IfOk result (λ n. n < length buffer.old → IsAtEnd (R.remaining input.new)) }
 {
     let mut len = 0;
     'reads: for _ in 0..u64::MAX {
         if len == buffer.len() {
-            break;
+            return Ok(len);
         }
         match read_some(input, &mut buffer[len..]) {
-            Ok(0) => break,
+            Ok(0) => return Ok(len),
             Ok(more) => len += more,
             Err(error) => return Err(Trouble::Unread(error)),
         }
     }
-    Ok(len)
+    Err(Trouble::Unread(io::Error::from(ErrorKind::Interrupted)))
 }
