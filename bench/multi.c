@@ -7,7 +7,7 @@
 /* What is sent, and where. The sender and its streams are kept, or each run makes its own. */
 typedef struct sending {
     guest *guest;
-    zimgasol_multi kept;
+    zimgasol_send kept;
     streams to;
     uint64_t packing;
 } sending;
@@ -54,7 +54,7 @@ static void report_sending(const char *name, guest *of, const yardstick *copies,
         if (i == 0) alone = found;
         printf("  %-12s%zu: ", name, channel_counts[i]);
         put(copies, &alone, &found, s.packing);
-        zimgasol_multi_free(&s.kept);
+        zimgasol_send_free(&s.kept);
         streams_free(&s.to);
     }
 }

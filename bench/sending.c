@@ -42,32 +42,31 @@ void check_last_page(const guest *of, const uint8_t *page) {
 
 /* ---- one stream */
 
-static void drain_single(zimgasol_sender *sender, stream *to) {
+static void drain_single(zimgasol_send *sender, stream *to) {
     size_t len;
-    while ((len = zimgasol_sender_drain(sender, room_for(to, PIECE), PIECE)) > 0) to->len += len;
+    while ((len = zimgasol_send_drain(sender, ZIMGASOL_MAIN, room_for(to, PIECE), PIECE)) > 0)
+        to->len += len;
 }
 
 /* Sends a round of the pages from `first` on, at most SECTION, and drains it. */
-static void send_section(zimgasol_sender *sender, const guest *of, uint64_t first, stream *to) {
+static void send_section(zimgasol_send *sender, const guest *of, uint64_t first, stream *to) {
     uint64_t end = of->pages - first < SECTION ? of->pages : first + SECTION;
-    check(zimgasol_sender_begin_round(sender), "sender_begin_round");
+    check(zimgasol_send_begin_round(sender), "begin_round");
     for (uint64_t page = first; page < end; page++)
-        check(zimgasol_sender_put_page(sender, 0, page, of->bytes + page * PAGE, PAGE),
-            "sender_put_page");
-    check(zimgasol_sender_end_round(sender), "sender_end_round");
+        check(zimgasol_send_put_page(sender, 0, page, of->bytes + page * PAGE, PAGE), "put_page");
+    check(zimgasol_send_end_round(sender), "end_round");
     drain_single(sender, to);
 }
 
 void send_single(guest *of, zimgasol_frame frame, unsigned rounds, stream *to) {
-    zimgasol_sender sender = {0};
-    check(zimgasol_sender_new(&sender, &of->table), "sender_new");
+    zimgasol_send sender = {0};
+    check(zimgasol_send_new(&sender, &of->table, &(zimgasol_send_settings){0}), "send_new");
     for (unsigned round = 0; round < rounds; round++)
         for (uint64_t first = 0; first < of->pages; first += SECTION)
             send_section(&sender, of, first, to);
-    if (frame == ZIMGASOL_FRAME_RAM) check(zimgasol_sender_finish(&sender), "sender_finish");
-    else check(zimgasol_sender_finish_open(&sender), "sender_finish_open");
+    check(zimgasol_send_finish(&sender, frame != ZIMGASOL_FRAME_RAM), "finish");
     drain_single(&sender, to);
-    zimgasol_sender_free(&sender);
+    zimgasol_send_free(&sender);
 }
 
 /* ---- several channels */
@@ -76,15 +75,28 @@ void send_single(guest *of, zimgasol_frame frame, unsigned rounds, stream *to) {
 typedef struct channel {
     zimgasol_worker worker;
     pthread_t thread;
-    zimgasol_lent block;
+    const uint8_t *block;
     stream *to;
     uint64_t made;
 } channel;
 
-zimgasol_multi multi_of(guest *of, size_t channels) {
-    zimgasol_multi multi = {0};
-    check(zimgasol_multi_new(&multi, &of->table, uuid, sizeof uuid, channels, PACKET), "multi_new");
+zimgasol_send multi_of(guest *of, size_t channels) {
+    zimgasol_send multi = {0};
+    zimgasol_send_settings settings = {.channels = channels, .limit = PACKET};
+    memcpy(settings.uuid, uuid, sizeof uuid);
+    check(zimgasol_send_new(&multi, &of->table, &settings), "send_new");
     return multi;
+}
+
+/* Packs the next packet of a channel from the guest's block. */
+static zimgasol_status pack(channel *c) {
+    zimgasol_batch batch;
+    zimgasol_lent contents[PACKET];
+    zimgasol_status status = zimgasol_worker_next(&c->worker, &batch);
+    if (status != ZIMGASOL_RUNNING) return status;
+    for (size_t i = 0; i < batch.count; i++)
+        contents[i] = (zimgasol_lent){c->block + batch.pages[i] * PAGE, PAGE};
+    return zimgasol_worker_pack(&c->worker, contents, batch.count);
 }
 
 /* Makes the packets of one channel, on a thread of its own. */
@@ -93,8 +105,8 @@ static void *work_on(void *of) {
     zimgasol_status status;
     size_t len;
     do {
-        status = zimgasol_worker_step(&c->worker, &c->block, 1);
-        if (status != ZIMGASOL_RUNNING) check(status, "worker_step");
+        status = pack(c);
+        if (status != ZIMGASOL_RUNNING) check(status, "worker");
         c->made = now();
         while ((len = zimgasol_worker_drain(&c->worker, room_for(c->to, PIECE), PIECE)) > 0)
             c->to->len += len;
@@ -102,38 +114,39 @@ static void *work_on(void *of) {
     return NULL;
 }
 
-static void drain_main(zimgasol_multi *multi, stream *to) {
+static void drain_main(zimgasol_send *multi, stream *to) {
     size_t len;
-    while ((len = zimgasol_multi_drain(multi, room_for(to, PIECE), PIECE)) > 0) to->len += len;
+    while ((len = zimgasol_send_drain(multi, ZIMGASOL_MAIN, room_for(to, PIECE), PIECE)) > 0)
+        to->len += len;
 }
 
-void send_round(zimgasol_multi *multi, const guest *of, streams *to) {
+void send_round(zimgasol_send *multi, const guest *of, streams *to) {
     channel channels[MOST] = {0};
     uint64_t began = now(), made = began;
-    check(zimgasol_multi_begin_round(multi, of->places, of->pages), "multi_begin_round");
+    check(zimgasol_send_begin_round_pages(multi, of->places, of->pages), "begin_round");
     for (size_t j = 0; j < to->count; j++) {
-        channels[j].block = (zimgasol_lent){of->bytes, of->len};
+        channels[j].block = of->bytes;
         channels[j].to = &to->channels[j];
-        check(zimgasol_multi_worker(multi, &channels[j].worker), "multi_worker");
+        check(zimgasol_send_worker(multi, &channels[j].worker), "send_worker");
         if (pthread_create(&channels[j].thread, NULL, work_on, &channels[j]) != 0)
             give_up("a thread can't be started");
     }
     for (size_t j = 0; j < to->count; j++) {
         if (pthread_join(channels[j].thread, NULL) != 0) give_up("a thread can't be joined");
-        check(zimgasol_multi_give_back(multi, &channels[j].worker), "multi_give_back");
+        check(zimgasol_send_give_back(multi, &channels[j].worker), "give_back");
         if (channels[j].made > made) made = channels[j].made;
     }
-    check(zimgasol_multi_end_round(multi), "multi_end_round");
+    check(zimgasol_send_end_round(multi), "end_round");
     drain_main(multi, &to->main);
     to->packing = made - began;
 }
 
 void send_multi(guest *of, streams *to) {
-    zimgasol_multi multi = multi_of(of, to->count);
+    zimgasol_send multi = multi_of(of, to->count);
     send_round(&multi, of, to);
-    check(zimgasol_multi_finish(&multi), "multi_finish");
+    check(zimgasol_send_finish(&multi, false), "finish");
     drain_main(&multi, &to->main);
-    zimgasol_multi_free(&multi);
+    zimgasol_send_free(&multi);
 }
 
 uint64_t channels_len(const streams *of) {

@@ -138,9 +138,12 @@ static zimgasol_status write_head(channel *c, const zimgasol_batch *batch) {
 
 /* Writes the next packet by a copy of its pages. */
 static zimgasol_status write_copy(channel *c, const zimgasol_batch *batch, uint8_t *copy) {
-    for (size_t i = 0; i < batch->count; i++)
+    zimgasol_lent contents[PACKET];
+    for (size_t i = 0; i < batch->count; i++) {
+        contents[i] = (zimgasol_lent){copy + i * PAGE, PAGE};
         memcpy(copy + i * PAGE, c->of->guest->bytes + batch->pages[i] * PAGE, PAGE);
-    zimgasol_status status = zimgasol_worker_pack(&c->worker, copy, batch->count * PAGE);
+    }
+    zimgasol_status status = zimgasol_worker_pack(&c->worker, contents, batch->count);
     if (status == ZIMGASOL_RUNNING) drain(c, copy);
     return status;
 }
@@ -197,7 +200,7 @@ void start_channel(channel *c, writing *of, size_t number, void *(*read)(void *)
     c->of = of;
     c->number = number;
     c->into = into;
-    if (of->by >= HEADS) check(zimgasol_multi_worker(&of->multi, &c->worker), "multi_worker");
+    if (of->by >= HEADS) check(zimgasol_send_worker(&of->multi, &c->worker), "send_worker");
     if (socketpair(AF_UNIX, SOCK_STREAM, 0, c->ends) != 0) give_up("no sockets");
     if (pthread_create(&c->reader, NULL, read, c) != 0 ||
         pthread_create(&c->writer, NULL, write_channel, c) != 0)
@@ -207,8 +210,7 @@ void start_channel(channel *c, writing *of, size_t number, void *(*read)(void *)
 void end_channel(channel *c, cost *all) {
     if (pthread_join(c->writer, NULL) != 0 || pthread_join(c->reader, NULL) != 0)
         give_up("a thread can't be joined");
-    if (c->of->by >= HEADS)
-        check(zimgasol_multi_give_back(&c->of->multi, &c->worker), "multi_give_back");
+    if (c->of->by >= HEADS) check(zimgasol_send_give_back(&c->of->multi, &c->worker), "give_back");
     all->writing += c->writing;
     all->reading += c->reading;
     all->bytes += c->bytes;
@@ -221,13 +223,13 @@ static cost write_round(writing *of, size_t count) {
     uint64_t began = now();
     of->next = 0;
     if (of->by != PLAIN)
-        check(zimgasol_multi_begin_round(&of->multi, of->guest->places, of->guest->pages),
-            "multi_begin_round");
+        check(zimgasol_send_begin_round_pages(&of->multi, of->guest->places, of->guest->pages),
+            "begin_round");
     for (size_t j = 0; j < count; j++) start_channel(&channels[j], of, j, read_channel, NULL);
     for (size_t j = 0; j < count; j++) end_channel(&channels[j], &all);
     if (of->by != PLAIN) {
-        check(zimgasol_multi_end_round(&of->multi), "multi_end_round");
-        while (zimgasol_multi_drain(&of->multi, out, sizeof out) > 0) continue;
+        check(zimgasol_send_end_round(&of->multi), "end_round");
+        while (zimgasol_send_drain(&of->multi, ZIMGASOL_MAIN, out, sizeof out) > 0) continue;
     }
     all.nanos = now() - began;
     return all;
@@ -242,7 +244,7 @@ static cost least_cost(guest *of, unsigned zero_tenths, way by, size_t count) {
         cost one = write_round(&w, count);
         if (one.nanos < least.nanos) least = one;
     }
-    zimgasol_multi_free(&w.multi);
+    zimgasol_send_free(&w.multi);
     return least;
 }
 

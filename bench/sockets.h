@@ -37,7 +37,7 @@ typedef struct writing {
     const guest *guest;
     unsigned zero_tenths;
     way by;
-    zimgasol_multi multi;
+    zimgasol_send multi;
     _Atomic uint64_t next;
 } writing;
 

@@ -179,10 +179,10 @@ static void end_load(loading *to) {
 
 /* ---- a transfer */
 
-static void feed_main(loading *to, zimgasol_multi *multi) {
+static void feed_main(loading *to, zimgasol_send *multi) {
     uint8_t out[1000];
     size_t len;
-    while ((len = zimgasol_multi_drain(multi, out, sizeof out)) > 0)
+    while ((len = zimgasol_send_drain(multi, ZIMGASOL_MAIN, out, sizeof out)) > 0)
         feed(to, ZIMGASOL_MAIN, out, len);
 }
 
@@ -198,14 +198,14 @@ static void move_loaded(guest *from, size_t count, loading *to, cost *all) {
     writing w = {.guest = from, .by = HEADS, .multi = multi_of(from, count)};
     begin_load(to, from, count);
     feed_main(to, &w.multi);
-    check(zimgasol_multi_begin_round(&w.multi, from->places, from->pages), "multi_begin_round");
+    check(zimgasol_send_begin_round_pages(&w.multi, from->places, from->pages), "begin_round");
     move_channels(&w, count, to, all);
-    check(zimgasol_multi_end_round(&w.multi), "multi_end_round");
-    check(zimgasol_multi_finish(&w.multi), "multi_finish");
+    check(zimgasol_send_end_round(&w.multi), "end_round");
+    check(zimgasol_send_finish(&w.multi, false), "finish");
     feed_main(to, &w.multi);
     end(to, ZIMGASOL_MAIN);
     end_load(to);
-    zimgasol_multi_free(&w.multi);
+    zimgasol_send_free(&w.multi);
 }
 
 /* Moves the guest, and returns what it took. */
@@ -236,9 +236,9 @@ static int new_file(void) {
     return file;
 }
 
-static void keep_main(round_kept *to, zimgasol_multi *multi) {
+static void keep_main(round_kept *to, zimgasol_send *multi) {
     size_t len;
-    while ((len = zimgasol_multi_drain(multi, room_for(&to->main, PAGE), PAGE)) > 0)
+    while ((len = zimgasol_send_drain(multi, ZIMGASOL_MAIN, room_for(&to->main, PAGE), PAGE)) > 0)
         to->main.len += len;
 }
 
@@ -249,10 +249,10 @@ static void keep_packets(round_kept *to, guest *from) {
     bool goes_on[MOST] = {false};
     uint8_t *room = taken(malloc(ROOM), "a packet");
     keep_main(to, &w.multi);
-    check(zimgasol_multi_begin_round(&w.multi, from->places, from->pages), "multi_begin_round");
+    check(zimgasol_send_begin_round_pages(&w.multi, from->places, from->pages), "begin_round");
     for (size_t j = 0; j < to->count; j++) {
         channels[j] = (channel){.of = &w, .number = j, .ends = {to->packets[j], -1}};
-        check(zimgasol_multi_worker(&w.multi, &channels[j].worker), "multi_worker");
+        check(zimgasol_send_worker(&w.multi, &channels[j].worker), "send_worker");
         goes_on[j] = true;
     }
     for (size_t j = 0, left = to->count; left > 0; j = (j + 1) % to->count) {
@@ -261,11 +261,11 @@ static void keep_packets(round_kept *to, guest *from) {
         if (!goes_on[j]) left--;
     }
     for (size_t j = 0; j < to->count; j++)
-        check(zimgasol_multi_give_back(&w.multi, &channels[j].worker), "multi_give_back");
-    check(zimgasol_multi_end_round(&w.multi), "multi_end_round");
-    check(zimgasol_multi_finish(&w.multi), "multi_finish");
+        check(zimgasol_send_give_back(&w.multi, &channels[j].worker), "give_back");
+    check(zimgasol_send_end_round(&w.multi), "end_round");
+    check(zimgasol_send_finish(&w.multi, false), "finish");
     keep_main(to, &w.multi);
-    zimgasol_multi_free(&w.multi);
+    zimgasol_send_free(&w.multi);
     free(room);
 }
 

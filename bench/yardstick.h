@@ -127,10 +127,10 @@ typedef struct streams {
     uint64_t packing;
 } streams;
 
-zimgasol_multi multi_of(guest *of, size_t channels);
+zimgasol_send multi_of(guest *of, size_t channels);
 
 /* Sends all pages in one round, a thread for each channel, and appends the bytes. */
-void send_round(zimgasol_multi *multi, const guest *of, streams *to);
+void send_round(zimgasol_send *multi, const guest *of, streams *to);
 
 /* Sends all pages in one round by a new sender, to the end of its streams. */
 void send_multi(guest *of, streams *to);

@@ -1,5 +1,5 @@
 /*
- * zimgasol.h: senders and loaders of guest memory, in two layouts of QEMU's live migration.
+ * zimgasol.h: sends and loads of guest memory, in two layouts of QEMU's live migration.
  *
  * The RAM section of the migration stream (stream version 3, RAM section version 4) is written and
  * read whole, page by page and in pieces of any length. Streams of several channels (multifd,
@@ -14,7 +14,7 @@
  *    more. `_new` gets one that is empty, which is one of zeros, or as `_free` or a refused `_new`
  *    left it. `_free` gets any handle of its kind, and does nothing to an empty one. Each other
  *    call gets one whose `_new` returned ZIMGASOL_DONE and that wasn't freed since. A worker's
- *    `_new` is zimgasol_multi_worker, and a zimgasol_multi_give_back that returns ZIMGASOL_DONE
+ *    `_new` is zimgasol_send_worker, and a zimgasol_send_give_back that returns ZIMGASOL_DONE
  *    empties it.
  *  - Threads. One call at a time works on a handle. A handle may pass to another thread, if the
  *    calls before happen before those after, as by a lock, the start or the join of a thread, or an
@@ -232,7 +232,7 @@ typedef enum zimgasol_status {
     /* ---- */
     /* an allocation was refused. What stands after it each call says */
     ZIMGASOL_NO_MEMORY = 60,
-    /* a sender of no channel, or of more than 255 */
+    /* a send on more than 255 channels */
     ZIMGASOL_CHANNELS = 61,
     /* a batch limit of 0, or above the pages of a packet */
     ZIMGASOL_BATCH_LIMIT = 62,
@@ -249,7 +249,7 @@ typedef enum zimgasol_status {
     ZIMGASOL_RUNNING = 100,
     /* a page size other than 4096 and 8192 */
     ZIMGASOL_BAD_PAGE_SIZE = 101,
-    /* more than 255 channels */
+    /* a load of more than 255 channels */
     ZIMGASOL_BAD_CHANNELS = 103,
     /* no such source */
     ZIMGASOL_BAD_SOURCE = 104,
@@ -261,9 +261,10 @@ typedef enum zimgasol_status {
     ZIMGASOL_NO_PAGE = 107,
     /* a buffer of another length than is needed */
     ZIMGASOL_BAD_LENGTH = 108,
-    /* a call out of turn: a round is open, or none is, or the stream is ended; a worker isn't the
-     * next one, hasn't ended, has drawn no batch, or has bytes to be drained; no page comes next
-     * (zimgasol_load_page_read); pages are claimed, or none of this packet (zimgasol_load_take) */
+    /* a call out of turn: a round is open, or none is, or the stream is ended, or the call is for a
+     * send of the other kind; a worker isn't the next one, hasn't ended, has drawn no batch, or has
+     * bytes to be drained; no page comes next (zimgasol_load_page_read); pages are claimed, or none
+     * of this packet (zimgasol_load_take) */
     ZIMGASOL_OUT_OF_TURN = 109,
     /* more pages than a packet has: 128 of 4096 bytes, 64 of 8192 */
     ZIMGASOL_TOO_MANY_PAGES = 110,
@@ -288,7 +289,7 @@ ZIMGASOL_ASSERT(sizeof(zimgasol_status) == sizeof(uint32_t), "an enum has the si
 #define ZIMGASOL_ROUND UINT64_MAX
 
 /* What a stream is read as. RAM: RAM's section alone, up to the end byte after its END, as the
- * senders of this library write it. MACHINE: a whole machine's stream, as QEMU writes it, up to the
+ * sends of this library write it. MACHINE: a whole machine's stream, as QEMU writes it, up to the
  * footer of RAM's END; COMMANDs and subsections that leave RAM alone are passed over, and the
  * sections of devices that follow aren't read (the _closed_at calls say where they begin). */
 typedef enum zimgasol_frame {
@@ -351,6 +352,25 @@ typedef struct zimgasol_settings {
     uint64_t reserved[4];
 } zimgasol_settings;
 
+/* What a send is passed beside its table. All zeros are a single stream without a name.
+ *  - `channels`: how many channels there are, at most 255, beside the main stream. 0 asks for a
+ *    single stream, where neither `limit` nor `uuid` is looked at.
+ *  - `limit`: the most pages of a packet, 1 to 128 of 4096 bytes, 1 to 64 of 8192.
+ *  - `uuid`: the UUID of the channels' hellos.
+ *  - `named`: any number but 0 says that the stream, or the main stream, is a machine's: a
+ *    configuration with the machine's name, the first `name_len` bytes of `name`, follows the file
+ *    header. QEMU refuses a stream with another name than its own machine's.
+ *  - `reserved`: zeros, as room for what may come. */
+typedef struct zimgasol_send_settings {
+    size_t channels;
+    size_t limit;
+    uint8_t uuid[16];
+    uint64_t named;
+    size_t name_len;
+    uint8_t name[1024];
+    uint64_t reserved[4];
+} zimgasol_send_settings;
+
 /* A RAM block: its id, which a byte 0 ends, as in QEMU's idstr, and how many pages it has. */
 typedef struct zimgasol_block {
     uint8_t id[256];
@@ -399,7 +419,7 @@ typedef struct zimgasol_batch {
     uint64_t pages[128];
 } zimgasol_batch;
 
-/* A block's bytes, lent for reading: its pages one after another. */
+/* A page's bytes, lent for reading. */
 typedef struct zimgasol_lent {
     const uint8_t *bytes;
     size_t len;
@@ -441,8 +461,7 @@ typedef struct zimgasol_next {
 /* The handles. `full` is 0 if a handle is empty. Its other values, and `at`, are the library's. */
 typedef struct zimgasol_table { void *at; uint64_t full; } zimgasol_table;
 typedef struct zimgasol_load { void *at; uint64_t full; } zimgasol_load;
-typedef struct zimgasol_sender { void *at; uint64_t full; } zimgasol_sender;
-typedef struct zimgasol_multi { void *at; uint64_t full; } zimgasol_multi;
+typedef struct zimgasol_send { void *at; uint64_t full; } zimgasol_send;
 typedef struct zimgasol_worker { void *at; uint64_t full; } zimgasol_worker;
 
 /* ---- versions and texts */
@@ -514,7 +533,7 @@ ZIMGASOL_API size_t zimgasol_table_blocks(zimgasol_table *table);
 ZIMGASOL_CHECKED zimgasol_status zimgasol_table_block(zimgasol_table *table, size_t i,
     zimgasol_block *out);
 
-/* Frees it. Senders and loads that were made of it keep their own copy. */
+/* Frees it. Sends and loads that were made of it keep their own copy. */
 ZIMGASOL_API void zimgasol_table_free(zimgasol_table *table);
 
 /* ---- a load into the caller's own blocks, as the memory of a machine that is to run the guest:
@@ -783,214 +802,167 @@ ZIMGASOL_CHECKED zimgasol_status zimgasol_load_take(zimgasol_load *load, size_t 
 /* Returns how many pages are claimed: 0 with whole_rounds. */
 ZIMGASOL_API uint64_t zimgasol_load_claimed(zimgasol_load *load);
 
-/* ---- a sender of one stream, whose rounds are put page by page, as they are read of a guest that
- *      runs on
+/* ---- a send: of one stream, or of a main stream and its channels
+ *
+ * One stream. Its rounds are put page by page, as they are read of a guest that runs on:
+ *
+ *     zimgasol_send_begin_round(&send);
+ *     for each page: zimgasol_send_put_page(&send, block, number, bytes, page_size);
+ *     zimgasol_send_end_round(&send);
+ *     while ((len = zimgasol_send_drain(&send, ZIMGASOL_MAIN, out, sizeof out)) > 0) send them
  *
  * The pages of a round wait in memory until it is ended and drained, so a round of few pages takes
  * little: 64 to 256 pages a round cost the least time and memory. A round that is begun before
- * those ended were drained adds to them. */
-
-/* Makes a sender of a table, of which it keeps a copy. Returns DONE or NO_MEMORY. */
-ZIMGASOL_CHECKED zimgasol_status zimgasol_sender_new(zimgasol_sender *sender,
-    zimgasol_table *table);
-
-/* Makes a sender of a machine's stream: a configuration with the machine's name, of at most 1,024
- * bytes, follows the file header. QEMU refuses a stream with another name than its own machine's.
- * Returns DONE, BAD_LENGTH (of the name) or NO_MEMORY. */
-ZIMGASOL_CHECKED zimgasol_status zimgasol_sender_new_named(zimgasol_sender *sender,
-    zimgasol_table *table, const uint8_t *name, size_t name_len);
-
-/* Begins a round. Returns DONE, NO_MEMORY, or OUT_OF_TURN where one is open or the stream is
- * ended. */
-ZIMGASOL_CHECKED zimgasol_status zimgasol_sender_begin_round(zimgasol_sender *sender);
-
-/* Sends a page of a block, of `len` bytes, the page size. Pages come in any order; of several at
- * one place the last one counts. Returns DONE, NO_MEMORY (the round is open as before, without the
- * page), NO_PAGE, BAD_LENGTH, or OUT_OF_TURN where no round is open. */
-ZIMGASOL_CHECKED zimgasol_status zimgasol_sender_put_page(zimgasol_sender *sender, size_t block,
-    uint64_t number, const uint8_t *bytes, size_t len);
-
-/* Ends the round, which becomes a section of the stream. Returns DONE, NO_MEMORY (the round is open
- * as before) or OUT_OF_TURN. */
-ZIMGASOL_CHECKED zimgasol_status zimgasol_sender_end_round(zimgasol_sender *sender);
-
-/* Leaves the round out, with all its pages. Returns DONE or OUT_OF_TURN. */
-ZIMGASOL_CHECKED zimgasol_status zimgasol_sender_cancel_round(zimgasol_sender *sender);
-
-/* Ends the stream. What waits of it is still to be drained. Returns DONE, NO_MEMORY, or OUT_OF_TURN
- * where a round is open or it is ended. */
-ZIMGASOL_CHECKED zimgasol_status zimgasol_sender_finish(zimgasol_sender *sender);
-
-/* Ends the stream with the footer of RAM's END, and leaves out the end byte: the caller goes on
- * with the sections of devices and the end byte, once all was drained. Returns as
- * zimgasol_sender_finish. */
-ZIMGASOL_CHECKED zimgasol_status zimgasol_sender_finish_open(zimgasol_sender *sender);
-
-/* Copies the next bytes of the stream to `out`, at most `len`, and returns how many; 0 if none
- * waits. What it gives, piece after piece, is the stream. If it returns 0 to a buffer with room,
- * all was given: between two rounds the opening section and all rounds that were ended, and after
- * zimgasol_sender_finish or _finish_open the complete stream, with its end byte or without. While a
- * round is open it may return 0 though bytes of the rounds before wait, which come once that one is
- * ended or cancelled. */
-ZIMGASOL_API size_t zimgasol_sender_drain(zimgasol_sender *sender, uint8_t *out, size_t len);
-
-/* The two halves of zimgasol_sender_drain, for an output that may take fewer bytes than it is
- * offered, as a socket that doesn't block. _peek copies the next bytes to `out` and returns how
- * many, as _drain does, but they go on waiting: the next call gives the same again. _skip lets the
- * first `len` of those go, or all where there are fewer, and returns how many. It comes after a
- * _peek, since it gets no bytes from the stream itself. */
-ZIMGASOL_API size_t zimgasol_sender_peek(zimgasol_sender *sender, uint8_t *out, size_t len);
-ZIMGASOL_API size_t zimgasol_sender_skip(zimgasol_sender *sender, size_t len);
-
-/* Returns how many bytes a _peek gives to a buffer with room for all; 0 exactly if it gives none.
- * More may follow once these have gone, and while a round is open once that one has ended. */
-ZIMGASOL_API size_t zimgasol_sender_waiting(zimgasol_sender *sender);
-
-/* Frees it, with what wasn't drained. */
-ZIMGASOL_API void zimgasol_sender_free(zimgasol_sender *sender);
-
-/* ---- a sender on several channels, whose rounds are packed by workers on threads of the
- *      caller's
+ * those ended were drained adds to them.
  *
- * A round is begun with the dirty pages, as a list or as bitmaps. They are sent in packets of at
- * most `limit` pages. Each channel has a worker, with a handle of its own, which any thread may
- * step: workers of one round run at once, each on its own thread, and draw packet after packet
- * until none is left. No handle is shared between threads, and no call waits for another thread. A
- * handle passes to another thread as above: by a thread's start and join, or a lock. One round, of
- * which the table comes before the first one, since a load takes no packet without it:
+ * Several channels. A round is begun with the dirty pages, as a list or as bitmaps. They are sent
+ * in packets of at most `limit` pages. Each channel has a worker, with a handle of its own, which
+ * runs on any thread: workers of one round run at once, each on its own thread, and draw packet
+ * after packet until none is left. No handle is shared between threads, and no call waits for
+ * another thread. A handle passes to another thread as above: by a thread's start and join, or a
+ * lock. One round, of which the table comes before the first one, since a load takes no packet
+ * without it:
  *
- *     while ((len = zimgasol_multi_drain(&multi, out, sizeof out)) > 0) send on the main stream
- *     zimgasol_multi_begin_round(&multi, dirty, count);
- *     for each channel: zimgasol_multi_worker(&multi, &workers[j]);
+ *     while ((len = zimgasol_send_drain(&send, ZIMGASOL_MAIN, out, sizeof out)) > 0)
+ *         send them on the main stream
+ *     zimgasol_send_begin_round_pages(&send, dirty, count);
+ *     for each channel: zimgasol_send_worker(&send, &workers[j]);
  *     on a thread for each worker:
- *         while ((status = zimgasol_worker_step(&workers[j], blocks, n)) == ZIMGASOL_RUNNING)
- *             while ((len = zimgasol_worker_drain(&workers[j], out, sizeof out)) > 0) send them
- *         and drained once more
- *     for each channel, in order: zimgasol_multi_give_back(&multi, &workers[j]);
- *     zimgasol_multi_end_round(&multi);
- *     while ((len = zimgasol_multi_drain(&multi, out, sizeof out)) > 0) send on the main stream
+ *         what zimgasol_worker_drain gives is sent, until 0: at first the hello
+ *         while ((status = zimgasol_worker_next(&workers[j], &batch)) == ZIMGASOL_RUNNING) {
+ *             the marks of the batch's pages are cleared; then zeros[i]: whether page i is zeros
+ *             zimgasol_worker_head(&workers[j], zeros, batch.count, head, sizeof head, &len);
+ *             the head and the pages that aren't zeros are sent, by writev or sendmsg
+ *         }
+ *         what zimgasol_worker_drain gives is sent, until 0: the SYNC packet
+ *     for each channel, in order: zimgasol_send_give_back(&send, &workers[j]);
+ *     zimgasol_send_end_round(&send);
+ *     while ((len = zimgasol_send_drain(&send, ZIMGASOL_MAIN, out, sizeof out)) > 0)
+ *         send them on the main stream
  *
- * All steps of a round are passed the same blocks, of the same bytes: nobody writes to them from
- * the first step to the last. So it is for a guest that is stopped, for a snapshot, or for pages
- * that are write-protected meanwhile. Of a guest that runs on each packet's pages are sent from
- * where they lie, or copied. On a thread for each worker, in place of the steps above:
+ * In place of zimgasol_worker_head and the pages, zimgasol_worker_pack writes a whole packet, which
+ * zimgasol_worker_drain gives. It is passed the contents of the batch's pages and finds those of
+ * zeros itself. Of a guest that is stopped, of a snapshot, or of pages that are write-protected it
+ * reads the pages where they lie; of a guest that runs on it is passed copies.
  *
- *     what zimgasol_worker_drain gives is sent, until 0: at first the hello
- *     while ((status = zimgasol_worker_next(&workers[j], &batch)) == ZIMGASOL_RUNNING) {
- *         the marks of the batch's pages are cleared; then zeros[i]: whether page i is zeros
- *         zimgasol_worker_head(&workers[j], zeros, batch.count, head, sizeof head, &len);
- *         the head and the pages that aren't zeros are sent, by writev or sendmsg
- *     }
- *     what zimgasol_worker_drain gives is sent, until 0: the SYNC packet
+ * A worker is given back to the send that made it, and to no other one. Nothing checks that:
+ * another send may take it, and its streams are wrong then. A load finds packets that are missing
+ * or come twice, but not another guest's pages.
  *
- * A worker is given back to the sender that made it, and to no other one. Nothing checks that:
- * another sender may take it, and its streams are wrong then. A load finds packets that are missing
- * or come twice, but not another guest's pages. */
+ * A call that is for one kind of send alone returns OUT_OF_TURN for the other kind. */
 
-/* Makes a sender of a table, of which it keeps a copy, on 1 to 255 channels under a UUID of 16
- * bytes, with at most `limit` pages to a packet (1 to 128 of 4096 bytes, 1 to 64 of 8192). Returns
- * DONE, BAD_LENGTH (of the UUID), CHANNELS, BATCH_LIMIT or NO_MEMORY. */
-ZIMGASOL_CHECKED zimgasol_status zimgasol_multi_new(zimgasol_multi *multi, zimgasol_table *table,
-    const uint8_t *uuid, size_t uuid_len, size_t channels, size_t limit);
+/* Makes a send of a table, of which it keeps a copy, with settings: of one stream, if `channels` is
+ * 0, or on as many channels. Returns DONE, or the first of these that applies: BAD_LENGTH (of the
+ * name), CHANNELS, BATCH_LIMIT, NO_MEMORY. */
+ZIMGASOL_CHECKED zimgasol_status zimgasol_send_new(zimgasol_send *send, zimgasol_table *table,
+    const zimgasol_send_settings *settings);
 
-/* Makes a sender as zimgasol_multi_new does, whose main stream is a machine's: a configuration with
- * the machine's name, of at most 1,024 bytes, follows the file header. The channels are the same.
- * QEMU refuses a stream with another name than its own machine's. Returns DONE, BAD_LENGTH (of the
- * UUID or the name), CHANNELS, BATCH_LIMIT or NO_MEMORY. */
-ZIMGASOL_CHECKED zimgasol_status zimgasol_multi_new_named(zimgasol_multi *multi,
-    zimgasol_table *table, const uint8_t *uuid, size_t uuid_len, size_t channels, size_t limit,
-    const uint8_t *name, size_t name_len);
+/* Begins a round: of one stream, whose pages are put, or on channels without pages. Returns DONE,
+ * NO_MEMORY, or OUT_OF_TURN where a round is open or the streams are ended. */
+ZIMGASOL_CHECKED zimgasol_status zimgasol_send_begin_round(zimgasol_send *send);
 
-/* Begins a round of `count` dirty pages, 0 too, in any order, of which each counts once. Returns
- * DONE, OUT_OF_TURN if a round is open or the streams are ended, NO_PAGE if the table lacks one of
- * them, or NO_MEMORY. */
-ZIMGASOL_CHECKED zimgasol_status zimgasol_multi_begin_round(zimgasol_multi *multi,
+/* Begins a round on channels, of `count` dirty pages, 0 too, in any order, of which each counts
+ * once. Returns DONE; OUT_OF_TURN, of one stream, or if a round is open or the streams are ended;
+ * NO_PAGE, if the table lacks one of them; or NO_MEMORY. */
+ZIMGASOL_CHECKED zimgasol_status zimgasol_send_begin_round_pages(zimgasol_send *send,
     const zimgasol_place *dirty, size_t count);
 
-/* Begins a round as zimgasol_multi_begin_round does, of the pages whose bit is set in the bitmap of
- * their block: `count` bitmaps, one for each block of the table, in its order. A bitmap has a bit
- * for each page of its block, and may be longer: bits after the last page aren't read. The round
- * keeps one copy of the bitmaps and no list of pages, so they may change once the call returns.
- * Returns DONE, OUT_OF_TURN if a round is open or the streams are ended, BAD_LENGTH if there are
- * more or fewer bitmaps than blocks or one of them is too short, or NO_MEMORY. */
-ZIMGASOL_CHECKED zimgasol_status zimgasol_multi_begin_round_bitmaps(zimgasol_multi *multi,
+/* Begins a round on channels, of the pages whose bit is set in the bitmap of their block: `count`
+ * bitmaps, one for each block of the table, in its order. A bitmap has a bit for each page of its
+ * block, and may be longer: bits after the last page aren't read. The round keeps one copy of the
+ * bitmaps and no list of pages, so they may change once the call returns. Returns DONE;
+ * OUT_OF_TURN, of one stream, or if a round is open or the streams are ended; BAD_LENGTH, if there
+ * are more or fewer bitmaps than blocks or one of them is too short; or NO_MEMORY. */
+ZIMGASOL_CHECKED zimgasol_status zimgasol_send_begin_round_bitmaps(zimgasol_send *send,
     const zimgasol_bitmap *bitmaps, size_t count);
 
-/* Takes the open round back, of which no worker was made: it sends nothing, and the sender is as it
- * was before the round was begun. Returns DONE, or OUT_OF_TURN if no round is open or a worker of
- * it was made. */
-ZIMGASOL_CHECKED zimgasol_status zimgasol_multi_take_back_round(zimgasol_multi *multi);
+/* Sends a page of a block in the open round of one stream: its bytes, of which there are `len`, the
+ * page size. Pages come in any order; of several at one place the last one counts. Returns DONE, or
+ * the first of these that applies: OUT_OF_TURN, on channels, or where no round is open; NO_PAGE;
+ * BAD_LENGTH; NO_MEMORY (the round is open as before, without the page). */
+ZIMGASOL_CHECKED zimgasol_status zimgasol_send_put_page(zimgasol_send *send, size_t block,
+    uint64_t number, const uint8_t *bytes, size_t len);
 
-/* Makes the worker of the next channel, from channel 0 on, in an empty handle. Its bytes
- * begin with those of its channel that weren't drained before, at first the hello. Returns DONE,
- * NO_MEMORY, or OUT_OF_TURN if no round is open or each channel's worker was made. */
-ZIMGASOL_CHECKED zimgasol_status zimgasol_multi_worker(zimgasol_multi *multi,
-    zimgasol_worker *worker);
+/* Makes the worker of the next channel, from channel 0 on, in an empty handle. Its bytes begin with
+ * those of its channel that weren't drained before, at first the hello. Returns DONE, NO_MEMORY, or
+ * OUT_OF_TURN of one stream, if no round is open, or if each channel's worker was made. */
+ZIMGASOL_CHECKED zimgasol_status zimgasol_send_worker(zimgasol_send *send, zimgasol_worker *worker);
 
 /* Takes back the worker of the next channel, from channel 0 on, once it has ended; its handle is
  * empty then. What wasn't drained of it is its channel's in the next round. Returns DONE,
  * NO_MEMORY, or OUT_OF_TURN where no round is open, where the worker isn't the next one or
  * hasn't ended, or where a drain gave a part of its bytes: the others are drained first. After
  * anything but DONE the handle has the worker as before. */
-ZIMGASOL_CHECKED zimgasol_status zimgasol_multi_give_back(zimgasol_multi *multi,
+ZIMGASOL_CHECKED zimgasol_status zimgasol_send_give_back(zimgasol_send *send,
     zimgasol_worker *worker);
 
-/* Ends the round with a FLUSH on the main stream. Returns DONE, NO_MEMORY (the round is open as
- * before), or OUT_OF_TURN where no round is open or not all workers are back. */
-ZIMGASOL_CHECKED zimgasol_status zimgasol_multi_end_round(zimgasol_multi *multi);
+/* Ends the round: of one stream it becomes a section, on channels a FLUSH ends it on the main
+ * stream. Returns DONE, NO_MEMORY (the round is open as before), or OUT_OF_TURN where no round is
+ * open, or where on channels not all workers are back. */
+ZIMGASOL_CHECKED zimgasol_status zimgasol_send_end_round(zimgasol_send *send);
 
-/* Gives up the streams in the middle of a round, as where a channel broke, or where the migration
- * is cancelled. Packets of the round may have been drained already, and no call takes them back
- * from the receiver, so no other round can follow. What the sender holds is freed. From then on
- * each call but _free does nothing, and returns OUT_OF_TURN, or 0 where it drains. What was drained
- * of the main stream lacks its END, without which no load is DONE. Workers that are out stay: each
- * may be stepped and drained as before, also by another thread meanwhile, and is freed on its own.
- * Returns DONE, or OUT_OF_TURN where no round is open. */
-ZIMGASOL_CHECKED zimgasol_status zimgasol_multi_cancel_round(zimgasol_multi *multi);
+/* Cancels the open round: it sends nothing, and the send is as it was before the round was begun.
+ * Returns DONE; or OUT_OF_TURN where no round is open, or where on channels a worker of it was
+ * made: packets of it may have been drained then, and no call takes them back from the receiver.
+ *
+ * With `give_up` the streams on channels are given up in its place, whether workers were made or
+ * not, as where a channel broke, or where the migration is cancelled. No other round can follow.
+ * What the send holds is freed. From then on each call but _free does nothing, and returns
+ * OUT_OF_TURN, or 0 bytes. What was drained of the main stream lacks its END, without which no load
+ * is DONE. Workers that are out stay: each goes on as before, also on another thread meanwhile, and
+ * is freed on its own. A round of one stream is cancelled as without `give_up`. */
+ZIMGASOL_CHECKED zimgasol_status zimgasol_send_cancel_round(zimgasol_send *send, bool give_up);
 
-/* Ends the streams. What waits of them is still to be drained. Returns DONE, NO_MEMORY, or
- * OUT_OF_TURN where a round is open or they are ended. */
-ZIMGASOL_CHECKED zimgasol_status zimgasol_multi_finish(zimgasol_multi *multi);
+/* Ends the streams. What waits of them is still to be drained. The only stream, or the main one,
+ * ends with its end byte. With `left_open` it ends with the footer of RAM's END, without that byte:
+ * the caller goes on with the sections of devices and the end byte, once all was drained. Returns
+ * DONE, NO_MEMORY, or OUT_OF_TURN where a round is open or the streams are ended. */
+ZIMGASOL_CHECKED zimgasol_status zimgasol_send_finish(zimgasol_send *send, bool left_open);
 
-/* Ends the streams, the main stream with the footer of RAM's END, and leaves out its end byte: the
- * caller goes on with the sections of devices and the end byte on the main stream, once all was
- * drained. Returns as zimgasol_multi_finish. */
-ZIMGASOL_CHECKED zimgasol_status zimgasol_multi_finish_open(zimgasol_multi *multi);
+/* Copies the next bytes of a source to `out`, at most `len`, and returns how many; 0 if none waits,
+ * or if there is no such source.
+ *
+ * ZIMGASOL_MAIN is the only stream, or the main one. What it gives, piece after piece, is the
+ * stream. If it returns 0 to a buffer with room, all was given: between two rounds what comes
+ * before them and all rounds that were ended, and after zimgasol_send_finish the complete stream.
+ * While a round is open it may return 0 though bytes of the rounds before wait, which come once
+ * that one is ended or cancelled.
+ *
+ * ZIMGASOL_CHANNEL(j) is channel j, once the streams are ended: what is left of it, which no
+ * worker's drain gave, as the hellos if no round was sent. Before the end it is 0. */
+ZIMGASOL_API size_t zimgasol_send_drain(zimgasol_send *send, size_t source, uint8_t *out,
+    size_t len);
 
-/* Copies the next bytes of the main stream to `out`, at most `len`, and returns how many, as
- * zimgasol_sender_drain does; 0 if none waits. There is no peek: the caller keeps what its socket
- * didn't take. */
-ZIMGASOL_API size_t zimgasol_multi_drain(zimgasol_multi *multi, uint8_t *out, size_t len);
+/* The two halves of zimgasol_send_drain, for an output that may take fewer bytes than it is
+ * offered, as a socket that doesn't block. _peek copies the next bytes to `out` and returns how
+ * many, as _drain does, but they go on waiting: the next call gives the same again. _skip lets the
+ * first `len` of those go, or all where there are fewer, and returns how many. It comes after a
+ * _peek, since it gets no bytes from the stream itself. */
+ZIMGASOL_API size_t zimgasol_send_peek(zimgasol_send *send, size_t source, uint8_t *out,
+    size_t len);
+ZIMGASOL_API size_t zimgasol_send_skip(zimgasol_send *send, size_t source, size_t len);
 
-/* Once the streams are ended, copies the next bytes that are left of a channel to `out`, and
- * returns how many; 0 if none is left. Left are those that no worker's drain gave, as the hellos if
- * no round was sent. Before the end it returns 0. */
-ZIMGASOL_API size_t zimgasol_multi_drain_channel(zimgasol_multi *multi, size_t channel,
-    uint8_t *out, size_t len);
+/* Returns how many bytes a _peek of the source gives to a buffer with room for all; 0 exactly if it
+ * gives none. More may follow once these have gone, and while a round is open once that one has
+ * ended. */
+ZIMGASOL_API size_t zimgasol_send_waiting(zimgasol_send *send, size_t source);
 
 /* Frees it, with what wasn't drained. Workers that are out stay, and are freed on their own. */
-ZIMGASOL_API void zimgasol_multi_free(zimgasol_multi *multi);
+ZIMGASOL_API void zimgasol_send_free(zimgasol_send *send);
 
-/* Writes one packet of the round into the worker's channel, from the pages of the blocks, of
- * which there are `count`, in the table's order; or its SYNC packet, if no other is left.
- * Returns RUNNING, where the channel goes on; DONE, where the worker has ended, and once more
- * changes nothing; NO_MEMORY, where nothing was written and the next call writes the packet; or
- * BAD_LENGTH, where the blocks aren't the table's. */
-ZIMGASOL_CHECKED zimgasol_status zimgasol_worker_step(zimgasol_worker *worker,
-    const zimgasol_lent *blocks, size_t count);
-
-/* The three calls below are zimgasol_worker_step in two halves, for a guest that runs on. _next
- * reports the pages of one packet. Then either _head writes the packet's head alone, and the caller
- * sends the pages after it from where they lie; or he copies them to a buffer of his own, and _pack
- * writes the packet of the copy. A page that is written meanwhile may be sent or copied torn, as
- * above: clear its mark before it is read, so that a write sets it again, and the page is sent
- * again. Each packet of a worker may be written another way. */
+/* ---- a worker of a round on channels
+ *
+ * The k-th worker of a round, from 0, is that of channel k. _next reports the pages of one packet.
+ * Then either _head writes the packet's head alone, and the caller sends the pages after it from
+ * where they lie; or _pack writes the packet from the contents of the pages. A page that is written
+ * meanwhile may be sent or copied torn, as above: clear its mark before it is read, so that a write
+ * sets it again, and the page is sent again. Each packet of a worker may be written another way. */
 
 /* Reports in *batch which pages the next packet of the worker has. The packet isn't written yet:
- * until a _head, a _pack or a _step has written it, each call reports the same pages. Where
- * no batch is left it writes the channel's SYNC packet. Returns RUNNING, with a batch; DONE, where
- * the worker has ended, and once more changes nothing; or NO_MEMORY, where nothing was written, and
- * the next call writes the SYNC packet. With DONE and NO_MEMORY *batch stays as it is. */
+ * until a _head or a _pack has written it, each call reports the same pages. Where no batch is left
+ * it writes the channel's SYNC packet. Returns RUNNING, with a batch; DONE, where the worker has
+ * ended, and once more changes nothing; or NO_MEMORY, where nothing was written, and the next call
+ * writes the SYNC packet. With DONE and NO_MEMORY *batch stays as it is. */
 ZIMGASOL_CHECKED zimgasol_status zimgasol_worker_next(zimgasol_worker *worker,
     zimgasol_batch *batch);
 
@@ -998,33 +970,32 @@ ZIMGASOL_CHECKED zimgasol_status zimgasol_worker_next(zimgasol_worker *worker,
  * `out`, and its length to *written: 1,344 bytes, or 832 where a page has 8192. `zeros` has a byte
  * for each page of the batch, in its order, which is 0 unless the page is zeros. On the channel the
  * caller sends the head, and after it the contents of the other pages, in the batch's order. That
- * is the packet which a _step writes of a memory that has these contents, and zeros where `zeros`
- * says so. If a page wasn't zeros when it was tested, and is when it is sent, it is loaded all the
- * same, but no contract covers such a stream.
+ * is the packet which a _pack writes of these contents, where `zeros` says which of them are zeros.
+ * If a page wasn't zeros when it was tested, and is when it is sent, it is loaded all the same, but
+ * no contract covers such a stream.
  *
  * Returns RUNNING; OUT_OF_TURN, where no batch is drawn, or its packet is written, or where bytes
  * of the channel wait for zimgasol_worker_drain, as the hello does at first; BAD_LENGTH, where
  * `zeros_len` isn't the batch's count, or `out` is shorter than the head; or NO_MEMORY. After
  * anything but RUNNING nothing was written, the batch still waits for its packet, and *written
  * stays. After RUNNING the pages have to be sent before the channel's next bytes: a caller who
- * can't send them gives the streams up (zimgasol_multi_cancel_round). */
+ * can't send them gives the streams up (zimgasol_send_cancel_round). */
 ZIMGASOL_CHECKED zimgasol_status zimgasol_worker_head(zimgasol_worker *worker, const uint8_t *zeros,
     size_t zeros_len, uint8_t *out, size_t len, size_t *written);
 
 /* Writes the packet of the batch that zimgasol_worker_next reported into the worker's channel.
- * `pages` has the contents of its pages, one after another, in the batch's order. Returns RUNNING;
- * NO_MEMORY, where nothing was written and the next call writes the packet; OUT_OF_TURN, where no
- * batch is drawn, or its packet is written (a _step that returned NO_MEMORY has drawn one); or
- * BAD_LENGTH, where `len` isn't that of as many pages. */
-ZIMGASOL_CHECKED zimgasol_status zimgasol_worker_pack(zimgasol_worker *worker, const uint8_t *pages,
-    size_t len);
+ * `contents` has the bytes of each of its pages, of which there are `count`, in the batch's order.
+ * They are read where they lie: in the guest's own memory, if nobody writes to it while the call
+ * runs, or in a copy. Returns RUNNING, or the first of these that applies: OUT_OF_TURN, where no
+ * batch is drawn, or its packet is written; BAD_LENGTH, where `count` isn't the batch's, or one of
+ * the contents isn't as long as a page; NO_MEMORY, where nothing was written and the next call
+ * writes the packet. */
+ZIMGASOL_CHECKED zimgasol_status zimgasol_worker_pack(zimgasol_worker *worker,
+    const zimgasol_lent *contents, size_t count);
 
 /* Copies the next bytes of the worker's channel to `out`, at most `len`, and returns how many; 0 if
  * none waits. There is no peek: the caller keeps what its socket didn't take. */
 ZIMGASOL_API size_t zimgasol_worker_drain(zimgasol_worker *worker, uint8_t *out, size_t len);
-
-/* Returns the number of the worker's channel, from 0. */
-ZIMGASOL_API size_t zimgasol_worker_channel(zimgasol_worker *worker);
 
 /* Frees a worker that isn't given back. Its round can't be ended then. */
 ZIMGASOL_API void zimgasol_worker_free(zimgasol_worker *worker);

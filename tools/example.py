@@ -94,6 +94,11 @@ class Settings(ctypes.Structure):
                 ("whole_rounds", ctypes.c_uint64), ("reserved", ctypes.c_uint64 * 4)]
 
 
+class SendSettings(ctypes.Structure):
+    _fields_ = [("channels", ctypes.c_size_t), ("limit", ctypes.c_size_t), ("uuid", ctypes.c_uint8 * 16), ("named", ctypes.c_uint64),
+                ("name_len", ctypes.c_size_t), ("name", ctypes.c_uint8 * 1024), ("reserved", ctypes.c_uint64 * 4)]
+
+
 class Buffer(ctypes.Structure):
     _fields_ = [("bytes", ctypes.c_void_p), ("len", ctypes.c_size_t)]
 
@@ -111,11 +116,11 @@ class Library:
 
     def __init__(self):
         self.calls = ctypes.CDLL(str(TOP / "out/libzimgasol.so"))
-        for name in ("sender_drain", "table_blocks"):
+        for name in ("send_drain", "table_blocks"):
             getattr(self.calls, "zimgasol_" + name).restype = ctypes.c_size_t
         for name in ("load_rounds", "read_fault_text"):
             getattr(self.calls, "zimgasol_" + name).restype = ctypes.c_uint64
-        for name in ("table_new", "table_of_stream", "table_block", "sender_new", "load_new", "load_feed", "load_end", "load_page_read", "hello",
+        for name in ("table_new", "table_of_stream", "table_block", "send_new", "load_new", "load_feed", "load_end", "load_page_read", "hello",
                      "put_packet"):
             getattr(self.calls, "zimgasol_" + name).restype = ctypes.c_uint32
         for name in ("load_wanted", "load_takes"):
@@ -198,26 +203,26 @@ class Texts:
     def sent(self, guest):
         """A single stream of the guest's rounds, by the sender."""
         library = self.library
-        table, sender, text = library.table(guest.page, guest.blocks), Handle(), b""
-        library.done("sender_new", ctypes.byref(sender), ctypes.byref(table))
+        table, send, text = library.table(guest.page, guest.blocks), Handle(), b""
+        library.done("send_new", ctypes.byref(send), ctypes.byref(table), ctypes.byref(SendSettings()))
         buffer = ctypes.create_string_buffer(1000)
 
         def drained():
             text = b""
-            while length := library.call("sender_drain", ctypes.byref(sender), buffer, size(1000)):
+            while length := library.call("send_drain", ctypes.byref(send), size(0), buffer, size(1000)):
                 text += buffer.raw[:length]
             return text
 
         for pages in guest.rounds:
-            library.done("sender_begin_round", ctypes.byref(sender))
+            library.done("send_begin_round", ctypes.byref(send))
             for (block, number), content in pages:
-                library.done("sender_put_page", ctypes.byref(sender), size(block), u64(number), content, size(len(content)))
-            library.done("sender_end_round", ctypes.byref(sender))
+                library.done("send_put_page", ctypes.byref(send), size(block), u64(number), content, size(len(content)))
+            library.done("send_end_round", ctypes.byref(send))
             text += drained()
-        library.done("sender_finish", ctypes.byref(sender))
+        library.done("send_finish", ctypes.byref(send), ctypes.c_bool(False))
         text += drained()
         library.call("table_free", ctypes.byref(table))
-        library.call("sender_free", ctypes.byref(sender))
+        library.call("send_free", ctypes.byref(send))
         return text
 
     def hello(self, channel):

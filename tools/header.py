@@ -18,8 +18,7 @@ PLAIN = {"u8": "uint8_t", "u32": "uint32_t", "u64": "uint64_t", "usize": "size_t
 STRUCTS = {
     "TableHandle": "zimgasol_table",
     "LoadHandle": "zimgasol_load",
-    "SenderHandle": "zimgasol_sender",
-    "MultiHandle": "zimgasol_multi",
+    "SendHandle": "zimgasol_send",
     "WorkerHandle": "zimgasol_worker",
     "ClaimedPages": "zimgasol_pages",
     "NamedPlace": "zimgasol_place",
@@ -28,6 +27,7 @@ STRUCTS = {
     "NamedBlock": "zimgasol_block",
     "FoundFault": "zimgasol_fault",
     "AskedSettings": "zimgasol_settings",
+    "AskedSend": "zimgasol_send_settings",
     "StatusText": "zimgasol_text",
 }
 # slices of numbers, in a slice: each is a pointer and a length to C

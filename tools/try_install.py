@@ -168,12 +168,12 @@ def in_cpp(compiler, out, include):
 def ignored(out, words):
     """A status that is ignored has a warning, unless the program defines the macro itself."""
     source = out / "ignored.c"
-    source.write_text("#include <zimgasol.h>\nvoid end(zimgasol_sender *sender);\n"
-                      "void end(zimgasol_sender *sender) { zimgasol_sender_end_round(sender); }\n")
+    source.write_text("#include <zimgasol.h>\nvoid end(zimgasol_send *send);\n"
+                      "void end(zimgasol_send *send) { zimgasol_send_end_round(send); }\n")
     command = [*words, f"-I{TOP}/include", "-Wall", "-c", "-o", out / "ignored.o", source]
     run(*command, "-DZIMGASOL_CHECKED=ZIMGASOL_API", "-Werror")
     done = subprocess.run([str(word) for word in [*command, "-Werror=unused-result"]], env=ENVIRONMENT, capture_output=True, text=True)
-    if done.returncode == 0 or "zimgasol_sender_end_round" not in done.stderr:
+    if done.returncode == 0 or "zimgasol_send_end_round" not in done.stderr:
         sys.exit(f"{shlex.join(words)}: a status that is ignored has no warning\n{done.stderr}")
 
 

@@ -16,8 +16,8 @@
  * step each time: it sleeps 20 percent of the time, then 30, and so on up to 99. (QEMU's
  * auto-converge has these steps; it takes one at every second such round.) Rounds go on until what
  * is dirty would be sent within MICROSECONDS (1000) at the last round's rate, but for ROUNDS (30)
- * at the most. Then the writer stops, and the last round is sent, with -k by steps, from the
- * guest's own memory.
+ * at the most. Then the writer stops, and the last round is sent, with -k too from the guest's own
+ * memory.
  *
  * With -p one thread reads all connections, by `poll`, and feeds what it reads to a load that
  * copies the pages. With -x a connection is lost in the middle of a round, at the sender's end (s)
@@ -247,25 +247,22 @@ static zimgasol_status send_packet(zimgasol_worker *worker, int to) {
     return status;
 }
 
-/* Packs the next packet of a guest that runs on, from a copy of its pages. */
-static zimgasol_status pack_copied(zimgasol_worker *worker, uint64_t *copy) {
+/* Packs the next packet: of a guest that runs on from a copy of its pages, and of one that is
+ * stopped from its own memory, without a copy. */
+static zimgasol_status pack_packet(zimgasol_worker *worker, uint64_t *copy) {
+    zimgasol_lent contents[PACKET];
     zimgasol_batch batch;
     zimgasol_status status = zimgasol_worker_next(worker, &batch);
     if (status != ZIMGASOL_RUNNING) return status;
     for (size_t i = 0; i < batch.count; i++) {
         _Atomic uint64_t *page = rams[batch.block].guest + batch.pages[i] * WORDS;
+        contents[i] = (zimgasol_lent){(uint8_t *)page, PAGE};
+        if (copy == NULL) continue;
+        contents[i].bytes = (uint8_t *)(copy + i * WORDS);
         for (size_t w = 0; w < WORDS; w++)
             copy[i * WORDS + w] = atomic_load_explicit(&page[w], memory_order_relaxed);
     }
-    return zimgasol_worker_pack(worker, (uint8_t *)copy, batch.count * PAGE);
-}
-
-/* Packs the next packet of a guest that is stopped, from its own memory. */
-static zimgasol_status pack_stopped(zimgasol_worker *worker) {
-    zimgasol_lent lent[BLOCKS];
-    for (size_t b = 0; b < BLOCKS; b++)
-        lent[b] = (zimgasol_lent){(uint8_t *)rams[b].guest, rams[b].pages * PAGE};
-    return zimgasol_worker_step(worker, lent, BLOCKS);
+    return zimgasol_worker_pack(worker, contents, batch.count);
 }
 
 static void drain_worker(zimgasol_worker *worker, int to) {
@@ -274,11 +271,19 @@ static void drain_worker(zimgasol_worker *worker, int to) {
     while ((len = zimgasol_worker_drain(worker, out, sizeof out)) > 0) send_all(to, out, len);
 }
 
+/* A channel's worker, with its thread and its source. */
+struct part {
+    zimgasol_worker worker;
+    pthread_t thread;
+    size_t source;
+};
+
 /* One channel's part of a round, on a thread of its own. */
 static void *work(void *arg) {
-    zimgasol_worker *worker = arg;
+    struct part *part = arg;
+    zimgasol_worker *worker = &part->worker;
     uint64_t *copy = taken(malloc(limit * PAGE), "malloc");
-    size_t source = ZIMGASOL_CHANNEL(zimgasol_worker_channel(worker));
+    size_t source = part->source;
     int to = sockets[source][SENDER];
     bool stopped = !atomic_load(&is_running);
     zimgasol_status status;
@@ -286,7 +291,7 @@ static void *work(void *arg) {
     do {
         may_lose(SENDER, source);
         if (!copies) status = send_packet(worker, to);
-        else status = stopped ? pack_stopped(worker) : pack_copied(worker, copy);
+        else status = pack_packet(worker, stopped ? NULL : copy);
         if (status != ZIMGASOL_RUNNING) check(status, "worker");
         if (copies || status == ZIMGASOL_DONE) drain_worker(worker, to);
     } while (status == ZIMGASOL_RUNNING && !atomic_load(&is_lost));
@@ -294,51 +299,51 @@ static void *work(void *arg) {
     return NULL;
 }
 
-static void drain_main(zimgasol_multi *multi) {
+static void drain_main(zimgasol_send *sender) {
     uint8_t out[4096];
     size_t len;
     may_lose(SENDER, ZIMGASOL_MAIN);
-    while ((len = zimgasol_multi_drain(multi, out, sizeof out)) > 0)
+    while ((len = zimgasol_send_drain(sender, ZIMGASOL_MAIN, out, sizeof out)) > 0)
         send_all(sockets[ZIMGASOL_MAIN][SENDER], out, len);
 }
 
-static void begin_round(zimgasol_multi *multi) {
+static void begin_round(zimgasol_send *sender) {
     zimgasol_bitmap bitmaps[BLOCKS];
     for (size_t b = 0; b < BLOCKS; b++)
         bitmaps[b] = (zimgasol_bitmap){rams[b].round, rams[b].words};
-    check(zimgasol_multi_begin_round_bitmaps(multi, bitmaps, BLOCKS), "begin_round");
+    check(zimgasol_send_begin_round_bitmaps(sender, bitmaps, BLOCKS), "begin_round");
     for (size_t b = 0; b < BLOCKS; b++) memset(rams[b].round, 0, rams[b].words * 8);
 }
 
 /* Sends the next round. Returns false where a connection is lost: then the streams are given up. */
-static bool send_round(zimgasol_multi *multi) {
-    zimgasol_worker workers[MOST] = {{0}};
-    pthread_t threads[MOST];
-    begin_round(multi);
+static bool send_round(zimgasol_send *sender) {
+    struct part parts[MOST] = {0};
+    begin_round(sender);
     for (size_t j = 0; j < channels; j++) {
-        check(zimgasol_multi_worker(multi, &workers[j]), "worker");
-        start(&threads[j], work, &workers[j]);
+        parts[j].source = ZIMGASOL_CHANNEL(j);
+        check(zimgasol_send_worker(sender, &parts[j].worker), "worker");
+        start(&parts[j].thread, work, &parts[j]);
     }
-    for (size_t j = 0; j < channels; j++) pthread_join(threads[j], NULL);
+    for (size_t j = 0; j < channels; j++) pthread_join(parts[j].thread, NULL);
     if (atomic_load(&is_lost)) {
-        check(zimgasol_multi_cancel_round(multi), "cancel_round");
-        for (size_t j = 0; j < channels; j++) zimgasol_worker_free(&workers[j]);
+        check(zimgasol_send_cancel_round(sender, true), "cancel_round");
+        for (size_t j = 0; j < channels; j++) zimgasol_worker_free(&parts[j].worker);
         return false;
     }
     for (size_t j = 0; j < channels; j++)
-        check(zimgasol_multi_give_back(multi, &workers[j]), "give_back");
-    check(zimgasol_multi_end_round(multi), "end_round");
-    drain_main(multi);
+        check(zimgasol_send_give_back(sender, &parts[j].worker), "give_back");
+    check(zimgasol_send_end_round(sender), "end_round");
+    drain_main(sender);
     return !atomic_load(&is_lost);
 }
 
 /* Sends rounds of a guest that runs on, until the next one fits the downtime. */
-static bool send_running(zimgasol_multi *multi) {
+static bool send_running(zimgasol_send *sender) {
     uint64_t dirty = take_log();
     for (size_t round = 1; round <= rounds; round++) {
         uint64_t sent = dirty;
         double began = now();
-        if (!send_round(multi)) return false;
+        if (!send_round(sender)) return false;
         double took = now() - began;
         dirty = take_log();
         if (shows)
@@ -351,14 +356,14 @@ static bool send_running(zimgasol_multi *multi) {
 }
 
 /* Stops the guest, and sends what is left of it. */
-static bool send_stopped(zimgasol_multi *multi, pthread_t *guest) {
+static bool send_stopped(zimgasol_send *sender, pthread_t *guest) {
     double began = now();
     atomic_store(&is_running, false);
     if (guest != NULL) pthread_join(*guest, NULL);
     uint64_t sent = take_log();
-    if (!send_round(multi)) return false;
-    check(zimgasol_multi_finish(multi), "finish");
-    drain_main(multi);
+    if (!send_round(sender)) return false;
+    check(zimgasol_send_finish(sender, false), "finish");
+    drain_main(sender);
     if (shows && guest != NULL)
         fprintf(stderr, "stopped: %llu pages, %.1f ms\n", (unsigned long long)sent, now() - began);
     for (size_t s = 0; s <= channels; s++) shutdown(sockets[s][SENDER], SHUT_WR);
@@ -691,22 +696,24 @@ static void close_all(void) {
  * whether all of it was sent and loaded. */
 static bool migrate(bool runs) {
     zimgasol_table table = {0}, other = {0};
-    zimgasol_multi multi = {0};
+    zimgasol_send sender = {0};
+    zimgasol_send_settings settings = {.channels = channels, .limit = limit};
     pthread_t guest, loading;
     size_t entry;
+    memcpy(settings.uuid, uuid, sizeof uuid);
     connect_all();
     check(zimgasol_table_new(&table, PAGE, blocks, BLOCKS, &entry), "table_new");
     check(zimgasol_table_new(&other, PAGE, blocks, BLOCKS, &entry), "table_new");
-    check(zimgasol_multi_new(&multi, &table, uuid, 16, channels, limit), "multi_new");
+    check(zimgasol_send_new(&sender, &table, &settings), "send_new");
     start(&loading, polls ? load_by_turns : load_apart, &other);
     atomic_store(&is_running, runs);
     if (runs) start(&guest, run_guest, NULL);
-    drain_main(&multi); /* the table, before which no packet is taken */
-    bool sent = (!runs || send_running(&multi)) && send_stopped(&multi, runs ? &guest : NULL);
+    drain_main(&sender); /* the table, before which no packet is taken */
+    bool sent = (!runs || send_running(&sender)) && send_stopped(&sender, runs ? &guest : NULL);
     pthread_join(loading, NULL);
     if (runs && atomic_exchange(&is_running, false)) pthread_join(guest, NULL);
     close_all();
-    zimgasol_multi_free(&multi);
+    zimgasol_send_free(&sender);
     zimgasol_table_free(&table);
     zimgasol_table_free(&other);
     return sent && is_loaded;

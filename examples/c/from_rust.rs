@@ -28,7 +28,7 @@ struct Fault {
     reserved: [u64; 3],
 }
 
-/// All zeros are a stream of RAM's section alone, as the senders of the library write it.
+/// All zeros are a stream of RAM's section alone, as the sends of the library write it.
 #[repr(C)]
 #[derive(Default)]
 struct Settings {
@@ -39,6 +39,28 @@ struct Settings {
     whole_rounds: u64,
     reserved: [u64; 4],
 }
+
+/// All zeros are one stream without a name.
+#[repr(C)]
+struct SendSettings {
+    channels: usize,
+    limit: usize,
+    uuid: [u8; 16],
+    named: u64,
+    name_len: usize,
+    name: [u8; 1024],
+    reserved: [u64; 4],
+}
+
+const ONE_STREAM: SendSettings = SendSettings {
+    channels: 0,
+    limit: 0,
+    uuid: [0; 16],
+    named: 0,
+    name_len: 0,
+    name: [0; 1024],
+    reserved: [0; 4],
+};
 
 #[repr(C)]
 struct Buffer {
@@ -60,19 +82,23 @@ extern "C" {
         entry: &mut usize,
     ) -> Status;
     fn zimgasol_table_free(table: &mut Handle);
-    fn zimgasol_sender_new(sender: &mut Handle, table: &mut Handle) -> Status;
-    fn zimgasol_sender_begin_round(sender: &mut Handle) -> Status;
-    fn zimgasol_sender_put_page(
-        sender: &mut Handle,
+    fn zimgasol_send_new(
+        send: &mut Handle,
+        table: &mut Handle,
+        settings: &SendSettings,
+    ) -> Status;
+    fn zimgasol_send_begin_round(send: &mut Handle) -> Status;
+    fn zimgasol_send_put_page(
+        send: &mut Handle,
         block: usize,
         number: u64,
         bytes: *const u8,
         len: usize,
     ) -> Status;
-    fn zimgasol_sender_end_round(sender: &mut Handle) -> Status;
-    fn zimgasol_sender_finish(sender: &mut Handle) -> Status;
-    fn zimgasol_sender_drain(sender: &mut Handle, out: *mut u8, len: usize) -> usize;
-    fn zimgasol_sender_free(sender: &mut Handle);
+    fn zimgasol_send_end_round(send: &mut Handle) -> Status;
+    fn zimgasol_send_finish(send: &mut Handle, left_open: bool) -> Status;
+    fn zimgasol_send_drain(send: &mut Handle, source: usize, out: *mut u8, len: usize) -> usize;
+    fn zimgasol_send_free(send: &mut Handle);
     fn zimgasol_load_new(
         load: &mut Handle,
         table: &mut Handle,
@@ -100,12 +126,12 @@ fn done(status: Status) -> Result<(), Status> {
     if status == 0 { Ok(()) } else { Err(status) }
 }
 
-/// A sender, which is freed when it is dropped.
-struct Sender(Handle);
+/// A send, which is freed when it is dropped.
+struct Sending(Handle);
 
-impl Drop for Sender {
+impl Drop for Sending {
     fn drop(&mut self) {
-        unsafe { zimgasol_sender_free(&mut self.0) }
+        unsafe { zimgasol_send_free(&mut self.0) }
     }
 }
 
@@ -141,14 +167,14 @@ fn sent(page: &[u8; 4096]) -> Result<Vec<u8>, Status> {
     let (mut table, mut handle) = (table()?, EMPTY);
     let (mut stream, mut piece) = (Vec::new(), [0; 1000]);
     unsafe {
-        done(zimgasol_sender_new(&mut handle, &mut table.0))?;
-        let Sender(handle) = &mut Sender(handle);
-        done(zimgasol_sender_begin_round(handle))?;
-        done(zimgasol_sender_put_page(handle, 0, 1, page.as_ptr(), page.len()))?;
-        done(zimgasol_sender_end_round(handle))?;
-        done(zimgasol_sender_finish(handle))?;
+        done(zimgasol_send_new(&mut handle, &mut table.0, &ONE_STREAM))?;
+        let Sending(handle) = &mut Sending(handle);
+        done(zimgasol_send_begin_round(handle))?;
+        done(zimgasol_send_put_page(handle, 0, 1, page.as_ptr(), page.len()))?;
+        done(zimgasol_send_end_round(handle))?;
+        done(zimgasol_send_finish(handle, false))?;
         loop {
-            match zimgasol_sender_drain(handle, piece.as_mut_ptr(), piece.len()) {
+            match zimgasol_send_drain(handle, MAIN, piece.as_mut_ptr(), piece.len()) {
                 0 => return Ok(stream),
                 len => stream.extend_from_slice(&piece[..len]),
             }

@@ -148,14 +148,14 @@ static int write_all(int socket, const uint8_t *bytes, size_t len) {
     return 1;
 }
 
-static int drain(zimgasol_sender *sender, int socket) {
+static int drain(zimgasol_send *sender, int socket) {
     uint8_t out[PIECE];
     size_t len;
-    while ((len = zimgasol_sender_peek(sender, out, sizeof out)) > 0) {
+    while ((len = zimgasol_send_peek(sender, ZIMGASOL_MAIN, out, sizeof out)) > 0) {
         ssize_t count = write_some(socket, out, len);
         if (count < 0) return 0;
         /* as many as were taken; the others come again */
-        zimgasol_sender_skip(sender, (size_t)count);
+        zimgasol_send_skip(sender, ZIMGASOL_MAIN, (size_t)count);
     }
     return 1;
 }
@@ -167,29 +167,28 @@ static void copy_page(const ram *r, uint64_t page, uint64_t *copy) {
 }
 
 /* Sends one section: the next dirty pages from a place on, `most` at most. Returns how many. */
-static long send_section(zimgasol_sender *sender, machine *m, size_t *b, uint64_t *page,
-    long most) {
+static long send_section(zimgasol_send *sender, machine *m, size_t *b, uint64_t *page, long most) {
     uint64_t copy[WORDS];
     long sent = 0;
-    if (zimgasol_sender_begin_round(sender) != ZIMGASOL_DONE) return -1;
+    if (zimgasol_send_begin_round(sender) != ZIMGASOL_DONE) return -1;
     for (; *b < BLOCKS; ++*b, *page = 0) {
         ram *r = &m->rams[*b];
         for (; *page < r->pages; ++*page) {
-            if (sent == most) return zimgasol_sender_end_round(sender) == ZIMGASOL_DONE ? sent : -1;
+            if (sent == most) return zimgasol_send_end_round(sender) == ZIMGASOL_DONE ? sent : -1;
             if (!atomic_load_explicit(&r->dirty[*page], memory_order_relaxed)) continue;
             /* cleared before the copy begins: what is written from here on sets it again */
             if (!atomic_exchange(&r->dirty[*page], 0)) continue;
             copy_page(r, *page, copy);
-            if (zimgasol_sender_put_page(sender, *b, *page, (uint8_t *)copy, PAGE) != ZIMGASOL_DONE)
+            if (zimgasol_send_put_page(sender, *b, *page, (uint8_t *)copy, PAGE) != ZIMGASOL_DONE)
                 return -1;
             sent++;
         }
     }
-    return zimgasol_sender_end_round(sender) == ZIMGASOL_DONE ? sent : -1;
+    return zimgasol_send_end_round(sender) == ZIMGASOL_DONE ? sent : -1;
 }
 
 /* Sends all pages that are dirty. Returns how many, or -1. */
-static long send_dirty(zimgasol_sender *sender, machine *m, int socket, long most) {
+static long send_dirty(zimgasol_send *sender, machine *m, int socket, long most) {
     size_t b = 0;
     uint64_t page = 0;
     long all = 0;
@@ -202,7 +201,7 @@ static long send_dirty(zimgasol_sender *sender, machine *m, int socket, long mos
 }
 
 /* Sends the guest, in rounds, and stops it for the last one. Returns how many pages, or -1. */
-static long send_guest(machine *m, zimgasol_sender *sender, int socket, long most, pthread_t guest,
+static long send_guest(machine *m, zimgasol_send *sender, int socket, long most, pthread_t guest,
     double *stopped) {
     long all = 0, sent = FEW;
     for (int round = 0; round < MOST_ROUNDS && sent >= FEW; round++, all += sent)
@@ -211,7 +210,7 @@ static long send_guest(machine *m, zimgasol_sender *sender, int socket, long mos
     pthread_join(guest, NULL);
     *stopped = now();
     if (sent < 0 || (sent = send_dirty(sender, m, socket, most)) < 0) return -1;
-    if (zimgasol_sender_finish(sender) != ZIMGASOL_DONE || !drain(sender, socket)) return -1;
+    if (zimgasol_send_finish(sender, false) != ZIMGASOL_DONE || !drain(sender, socket)) return -1;
     return all + sent;
 }
 
@@ -298,8 +297,9 @@ static int migrate(machine *m, receiver *r, zimgasol_table *sent_table, zimgasol
     long most, bool times) {
     int sockets[2];
     pthread_t guest, loader;
-    zimgasol_sender sender = {0};
-    if (zimgasol_sender_new(&sender, sent_table) != ZIMGASOL_DONE) return 3;
+    zimgasol_send sender = {0};
+    if (zimgasol_send_new(&sender, sent_table, &(zimgasol_send_settings){0}) != ZIMGASOL_DONE)
+        return 3;
     if (socketpair(AF_UNIX, SOCK_STREAM, 0, sockets) != 0) give_up("socketpair");
     if (fcntl(sockets[0], F_SETFL, O_NONBLOCK) != 0) give_up("fcntl");
     r->socket = sockets[1];
@@ -312,7 +312,7 @@ static int migrate(machine *m, receiver *r, zimgasol_table *sent_table, zimgasol
     close(sockets[0]);
     pthread_join(loader, NULL);
     double ended = now();
-    zimgasol_sender_free(&sender);
+    zimgasol_send_free(&sender);
     if (sent < 0 || r->status != ZIMGASOL_DONE || r->missing != 0) {
         fprintf(stderr, "sent %ld, status %d, %llu pages missing\n", sent, (int)r->status,
             (unsigned long long)r->missing);
@@ -347,12 +347,12 @@ static int write_plain(machine *m, int socket) {
 }
 
 static int write_by_library(machine *m, zimgasol_table *table, int socket, long most) {
-    zimgasol_sender sender = {0};
-    if (zimgasol_sender_new(&sender, table) != ZIMGASOL_DONE) return 0;
+    zimgasol_send sender = {0};
+    if (zimgasol_send_new(&sender, table, &(zimgasol_send_settings){0}) != ZIMGASOL_DONE) return 0;
     for (size_t b = 0; b < BLOCKS; b++) memset((void *)m->rams[b].dirty, 1, m->rams[b].pages);
     int done = send_dirty(&sender, m, socket, most) >= 0;
-    done = done && zimgasol_sender_finish(&sender) == ZIMGASOL_DONE && drain(&sender, socket);
-    zimgasol_sender_free(&sender);
+    done = done && zimgasol_send_finish(&sender, false) == ZIMGASOL_DONE && drain(&sender, socket);
+    zimgasol_send_free(&sender);
     return done;
 }
 

@@ -14,10 +14,10 @@
 #include <string.h>
 
 /* Writes what waits of the stream. */
-static int drain(zimgasol_sender *sender) {
+static int drain(zimgasol_send *sender) {
     uint8_t out[65536];
     size_t len;
-    while ((len = zimgasol_sender_drain(sender, out, sizeof out)) > 0)
+    while ((len = zimgasol_send_drain(sender, ZIMGASOL_MAIN, out, sizeof out)) > 0)
         if (fwrite(out, 1, len, stdout) != len) return 0;
     return 1;
 }
@@ -46,18 +46,18 @@ static int read_page(const source *from, uint64_t number) {
 }
 
 /* Sends a round of the file's next pages. */
-static int send_round(zimgasol_sender *sender, const source *from, uint64_t first, uint64_t end) {
-    if (zimgasol_sender_begin_round(sender) != ZIMGASOL_DONE) return 0;
+static int send_round(zimgasol_send *sender, const source *from, uint64_t first, uint64_t end) {
+    if (zimgasol_send_begin_round(sender) != ZIMGASOL_DONE) return 0;
     for (uint64_t number = first; number < end; number++) {
         if (!read_page(from, number)) return 0;
         zimgasol_status status =
-            zimgasol_sender_put_page(sender, 0, number, from->page, from->page_size);
+            zimgasol_send_put_page(sender, 0, number, from->page, from->page_size);
         if (status != ZIMGASOL_DONE) return 0;
     }
-    return zimgasol_sender_end_round(sender) == ZIMGASOL_DONE && drain(sender);
+    return zimgasol_send_end_round(sender) == ZIMGASOL_DONE && drain(sender);
 }
 
-static int send_all(zimgasol_sender *sender, source *from, uint64_t pages, uint64_t most) {
+static int send_all(zimgasol_send *sender, source *from, uint64_t pages, uint64_t most) {
     from->page = malloc(from->page_size);
     int done = from->page != NULL;
     for (uint64_t first = 0; done && first < pages; first += most) {
@@ -66,9 +66,7 @@ static int send_all(zimgasol_sender *sender, source *from, uint64_t pages, uint6
     }
     free(from->page);
     if (!done) return 0;
-    zimgasol_status status = from->machine == NULL ? zimgasol_sender_finish(sender)
-                                                   : zimgasol_sender_finish_open(sender);
-    return status == ZIMGASOL_DONE && drain(sender);
+    return zimgasol_send_finish(sender, from->machine != NULL) == ZIMGASOL_DONE && drain(sender);
 }
 
 static int send_file(FILE *file, size_t page_size, const char *id, uint64_t most,
@@ -82,22 +80,24 @@ static int send_file(FILE *file, size_t page_size, const char *id, uint64_t most
     /* an id without a byte 0 is too long, and the table says so */
     memcpy(block.id, id, strlen(id) < sizeof block.id ? strlen(id) : sizeof block.id);
     zimgasol_table table = {0};
-    zimgasol_sender sender = {0};
+    zimgasol_send sender = {0};
+    zimgasol_send_settings settings = {.named = machine != NULL};
     size_t entry = 0;
+    if (machine != NULL) {
+        settings.name_len = strlen(machine);
+        memcpy(settings.name, machine, settings.name_len < 1024 ? settings.name_len : 1024);
+    }
     zimgasol_status status = zimgasol_table_new(&table, page_size, &block, 1, &entry);
     if (status != ZIMGASOL_DONE) {
         fprintf(stderr, "no table: %d\n", (int)status);
         return 3;
     }
-    if (machine == NULL) status = zimgasol_sender_new(&sender, &table);
-    else
-        status =
-            zimgasol_sender_new_named(&sender, &table, (const uint8_t *)machine, strlen(machine));
+    status = zimgasol_send_new(&sender, &table, &settings);
     zimgasol_table_free(&table);
     if (status != ZIMGASOL_DONE) return 3;
     source from = {.file = file, .len = (uint64_t)len, .page_size = page_size, .machine = machine};
     int done = send_all(&sender, &from, block.pages, most);
-    zimgasol_sender_free(&sender);
+    zimgasol_send_free(&sender);
     return done && fflush(stdout) == 0 ? 0 : 3;
 }
 

@@ -27,7 +27,7 @@ static _Atomic uint64_t ram[BLOCKS][PAGES * WORDS];
 static _Atomic uint64_t dirty[BLOCKS][PAGES / 64]; /* a bit for each page, as KVM's dirty log */
 static uint64_t next[BLOCKS][PAGES / 64]; /* the pages of the next round */
 static _Atomic bool is_running = true;
-static zimgasol_multi multi;
+static zimgasol_send sender;
 static int connections[MOST];
 static size_t channels;
 
@@ -75,58 +75,71 @@ static void send_all(size_t source, const uint8_t *bytes, size_t len) {
 static void drain_main(void) {
     uint8_t out[PAGE];
     size_t len;
-    while ((len = zimgasol_multi_drain(&multi, out, sizeof out)) > 0)
+    while ((len = zimgasol_send_drain(&sender, ZIMGASOL_MAIN, out, sizeof out)) > 0)
         send_all(ZIMGASOL_MAIN, out, len);
 }
 
-static void drain_worker(zimgasol_worker *worker) {
+/* A channel's worker, with the connection that its bytes go to. */
+typedef struct channel {
+    zimgasol_worker worker;
+    size_t source;
+    pthread_t thread;
+} channel;
+
+static void drain_worker(channel *c) {
     uint8_t out[16 * PAGE];
-    size_t len, source = ZIMGASOL_CHANNEL(zimgasol_worker_channel(worker));
-    while ((len = zimgasol_worker_drain(worker, out, sizeof out)) > 0) send_all(source, out, len);
+    size_t len;
+    while ((len = zimgasol_worker_drain(&c->worker, out, sizeof out)) > 0)
+        send_all(c->source, out, len);
 }
 
 /* Sends one channel's part of a round, on a thread of its own. A packet is made of a copy of its
  * pages. Such a copy may be torn: the page is marked then, and comes again. */
-static void *send_channel(void *worker) {
+static void *send_channel(void *of) {
+    channel *c = of;
     uint64_t copy[PACKET * WORDS];
+    zimgasol_lent contents[PACKET];
     zimgasol_batch batch;
     zimgasol_status status;
-    while ((status = zimgasol_worker_next(worker, &batch)) == ZIMGASOL_RUNNING) {
+    for (size_t i = 0; i < PACKET; i++)
+        contents[i] = (zimgasol_lent){(uint8_t *)(copy + i * WORDS), PAGE};
+    while ((status = zimgasol_worker_next(&c->worker, &batch)) == ZIMGASOL_RUNNING) {
         for (size_t i = 0; i < batch.count * WORDS; i++)
             copy[i] = ram[batch.block][batch.pages[i / WORDS] * WORDS + i % WORDS];
-        status = zimgasol_worker_pack(worker, (uint8_t *)copy, batch.count * PAGE);
+        status = zimgasol_worker_pack(&c->worker, contents, batch.count);
         if (status != ZIMGASOL_RUNNING) check(status);
-        drain_worker(worker);
+        drain_worker(c);
     }
     check(status);
-    drain_worker(worker); /* the SYNC packet */
+    drain_worker(c); /* the SYNC packet */
     return NULL;
 }
 
 static void send_round(void) {
     zimgasol_bitmap bitmaps[BLOCKS] = {{next[0], PAGES / 64}, {next[1], PAGES / 64}};
-    zimgasol_worker workers[MOST] = {{0}};
-    pthread_t threads[MOST];
-    check(zimgasol_multi_begin_round_bitmaps(&multi, bitmaps, BLOCKS));
+    channel parts[MOST] = {0};
+    check(zimgasol_send_begin_round_bitmaps(&sender, bitmaps, BLOCKS));
     memset(next, 0, sizeof next);
     for (size_t j = 0; j < channels; j++) {
-        check(zimgasol_multi_worker(&multi, &workers[j]));
-        if (pthread_create(&threads[j], NULL, send_channel, &workers[j]) != 0) die("no thread");
+        channel *c = &parts[j];
+        c->source = ZIMGASOL_CHANNEL(j);
+        check(zimgasol_send_worker(&sender, &c->worker));
+        if (pthread_create(&c->thread, NULL, send_channel, c) != 0) die("no thread");
     }
-    for (size_t j = 0; j < channels; j++) pthread_join(threads[j], NULL);
-    for (size_t j = 0; j < channels; j++) check(zimgasol_multi_give_back(&multi, &workers[j]));
-    check(zimgasol_multi_end_round(&multi));
+    for (size_t j = 0; j < channels; j++) pthread_join(parts[j].thread, NULL);
+    for (size_t j = 0; j < channels; j++) check(zimgasol_send_give_back(&sender, &parts[j].worker));
+    check(zimgasol_send_end_round(&sender));
     drain_main();
 }
 
 /* Makes the sender, and sends its first bytes: the table, without which no packet is taken. */
 static void begin(void) {
     const zimgasol_block blocks[BLOCKS] = {{"mem0", PAGES}, {"mem1", PAGES}};
-    const uint8_t uuid[16] = {0};
+    zimgasol_send_settings settings = {.channels = channels, .limit = PACKET};
     zimgasol_table table = {0};
     size_t entry;
     check(zimgasol_table_new(&table, PAGE, blocks, BLOCKS, &entry));
-    check(zimgasol_multi_new(&multi, &table, uuid, sizeof uuid, channels, PACKET));
+    check(zimgasol_send_new(&sender, &table, &settings));
     zimgasol_table_free(&table);
     drain_main();
 }
@@ -157,9 +170,9 @@ int main(int argc, char **argv) {
     pthread_join(guest, NULL);
     take_marks();
     send_round();
-    check(zimgasol_multi_finish(&multi));
+    check(zimgasol_send_finish(&sender, false));
     drain_main();
-    zimgasol_multi_free(&multi);
+    zimgasol_send_free(&sender);
     bool loaded = is_loaded(); /* if not, the guest runs on here */
     for (size_t source = channels + 1; source-- > 0;) close(connections[source]); /* main last */
     fwrite((const void *)ram, 1, sizeof ram, stdout);

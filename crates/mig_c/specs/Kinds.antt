@@ -2,8 +2,7 @@
 use Rattle.std.specs.Prelude.{ℕ, List, Option, None, Some, ⊤}
 use Rattle.mig_mem.specs.RamTable.{RamTable}
 use Rattle.mig_mem.specs.PlaceSet.{PlaceSet}
-use Rattle.mig_c_calls.specs.declared.sender.Sender.{Sender}
-use Rattle.mig_c_calls.specs.declared.sending.Multi.{Multi}
+use Rattle.mig_c_calls.specs.declared.send.GuestSend.{GuestSend}
 use Rattle.mig_c_calls.specs.declared.sending.HeldWorker.{HeldWorker}
 use Rattle.mig_c_loads.specs.declared.settings.AskedSettings.{AskedSettings}
 use Rattle.mig_c_loads.specs.declared.load.Load.{Load}
@@ -16,8 +15,7 @@ abbrev pub table_in : Option Object → Option RamTable
 table_in None = None
 table_in (Some (object.Table x)) = Some x
 table_in (Some (object.Load x)) = None
-table_in (Some (object.Sender x)) = None
-table_in (Some (object.Multi x)) = None
+table_in (Some (object.Send x)) = None
 table_in (Some (object.Worker x)) = None
 table_in (Some object.Empty) = None
 
@@ -25,35 +23,23 @@ abbrev pub load_in : Option Object → Option Load
 load_in None = None
 load_in (Some (object.Table x)) = None
 load_in (Some (object.Load x)) = Some x
-load_in (Some (object.Sender x)) = None
-load_in (Some (object.Multi x)) = None
+load_in (Some (object.Send x)) = None
 load_in (Some (object.Worker x)) = None
 load_in (Some object.Empty) = None
 
-abbrev pub sender_in : Option Object → Option Sender
-sender_in None = None
-sender_in (Some (object.Table x)) = None
-sender_in (Some (object.Load x)) = None
-sender_in (Some (object.Sender x)) = Some x
-sender_in (Some (object.Multi x)) = None
-sender_in (Some (object.Worker x)) = None
-sender_in (Some object.Empty) = None
-
-abbrev pub multi_in : Option Object → Option Multi
-multi_in None = None
-multi_in (Some (object.Table x)) = None
-multi_in (Some (object.Load x)) = None
-multi_in (Some (object.Sender x)) = None
-multi_in (Some (object.Multi x)) = Some x
-multi_in (Some (object.Worker x)) = None
-multi_in (Some object.Empty) = None
+abbrev pub send_in : Option Object → Option GuestSend
+send_in None = None
+send_in (Some (object.Table x)) = None
+send_in (Some (object.Load x)) = None
+send_in (Some (object.Send x)) = Some x
+send_in (Some (object.Worker x)) = None
+send_in (Some object.Empty) = None
 
 abbrev pub worker_in : Option Object → Option HeldWorker
 worker_in None = None
 worker_in (Some (object.Table x)) = None
 worker_in (Some (object.Load x)) = None
-worker_in (Some (object.Sender x)) = None
-worker_in (Some (object.Multi x)) = None
+worker_in (Some (object.Send x)) = None
 worker_in (Some (object.Worker x)) = Some x
 worker_in (Some object.Empty) = None
 

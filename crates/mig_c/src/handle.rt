@@ -6,9 +6,11 @@
 
 ghost use Rattle.std.specs.Prelude.{◌≡◌, ◌↔◌, Option, None, Some, IsSome};
 ghost use Rattle.mig_c.specs.declared.object.Object.{Object};
+ghost use Rattle.mig_c.specs.Kinds.{send_in, worker_in};
 
 use crate::loose::Loose;
-use crate::object::Object;
+use crate::object::{Object, put_send, put_worker, take_send, take_worker};
+use mig_c_calls::{GuestSend, HeldWorker};
 use std::alloc::Global;
 use std::marker::Model;
 use std::ptr::null_mut;
@@ -114,21 +116,10 @@ pub struct LoadHandle {
     ghost says: { full ≡ 0 ↔ handle.value ≡ None },
 }
 
-/// A sender of one stream, or none.
+/// A send of a guest's memory, or none.
 #[repr(C)]
 #[derive(Drop)]
-pub struct SenderHandle {
-    /// The handle of the object.
-    pub handle: Handle,
-    /// 0 if there is no object, else 1.
-    pub full: u64,
-    ghost says: { full ≡ 0 ↔ handle.value ≡ None },
-}
-
-/// A sender on several channels, or none.
-#[repr(C)]
-#[derive(Drop)]
-pub struct MultiHandle {
+pub struct SendHandle {
     /// The handle of the object.
     pub handle: Handle,
     /// 0 if there is no object, else 1.
@@ -147,6 +138,52 @@ pub struct WorkerHandle {
     ghost says: { full ≡ 0 ↔ handle.value ≡ None },
 }
 
+impl SendHandle {
+    /// Takes the send out of the handle, with the box that it was in.
+    pub(crate) fn take_out(&mut self, alloc: Global) -> (Box<Object>, GuestSend)
+        requires { IsSome (send_in self.old.handle.value) }
+        ensures taken { send_in self.old.handle.value ≡ Some result.1 }
+        ensures none { self.new.handle.value ≡ None }
+    {
+        let mut object = self.handle.take().into_box(alloc);
+        self.full = 0;
+        let send = take_send(&mut object);
+        (object, send)
+    }
+
+    /// Puts a send into a box, and the box into the handle.
+    pub(crate) fn put_back(&mut self, mut object: Box<Object>, send: GuestSend)
+        ensures { send_in self.new.handle.value ≡ Some send }
+    {
+        put_send(&mut object, send);
+        self.handle = Handle::of(object);
+        self.full = 1;
+    }
+}
+
+impl WorkerHandle {
+    /// Takes the worker out of the handle, with the box that it was in.
+    pub(crate) fn take_out(&mut self, alloc: Global) -> (Box<Object>, HeldWorker)
+        requires { IsSome (worker_in self.old.handle.value) }
+        ensures taken { worker_in self.old.handle.value ≡ Some result.1 }
+        ensures none { self.new.handle.value ≡ None }
+    {
+        let mut object = self.handle.take().into_box(alloc);
+        self.full = 0;
+        let worker = take_worker(&mut object);
+        (object, worker)
+    }
+
+    /// Puts a worker into a box, and the box into the handle.
+    pub(crate) fn put_back(&mut self, mut object: Box<Object>, worker: HeldWorker)
+        ensures { worker_in self.new.handle.value ≡ Some worker }
+    {
+        put_worker(&mut object, worker);
+        self.handle = Handle::of(object);
+        self.full = 1;
+    }
+}
+
 // Asks the prover for the proof that values of the type may go to another thread. The line `unsafe
 // impl Send` doesn't ask for one.
 fn crosses<T: Send>(_: &T) {}
@@ -157,13 +194,11 @@ fn crosses<T: Send>(_: &T) {}
 pub(crate) fn all_cross(
     table: &TableHandle,
     load: &LoadHandle,
-    sender: &SenderHandle,
-    multi: &MultiHandle,
+    send: &SendHandle,
     worker: &WorkerHandle,
 ) {
     crosses(table);
     crosses(load);
-    crosses(sender);
-    crosses(multi);
+    crosses(send);
     crosses(worker);
 }

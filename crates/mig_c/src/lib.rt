@@ -1,5 +1,6 @@
-//! The library for callers in C: senders and loads of one stream and of several channels, into
-//! blocks of C; hellos and packets. Its header is `include/zimgasol.h`, which describes each call.
+//! The library for callers in C: sends of one stream and of several channels, and loads of them
+//! into blocks of C; hellos and packets. Its header is `include/zimgasol.h`, which describes each
+//! call.
 //!
 //! C has a handle (`handle`) for each object that it works on, and passes it to each call. The
 //! handle owns the object in a box (`object`). A call requires of its handle that it has an object
@@ -12,10 +13,9 @@
 mod handle;
 mod load;
 mod loose;
-mod multi;
 mod object;
 mod packet;
-mod sender;
+mod send;
 mod table;
 mod text;
 mod worker;

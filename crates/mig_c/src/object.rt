@@ -1,13 +1,14 @@
-//! The objects of handles. A call that reports on an object gets the value of its kind by one of the
-//! functions here.
+//! The objects of handles. A call that reports on an object gets the value of its kind by one of
+//! the functions here. One that works on a send or a worker takes it out, and puts it back.
 
 ghost use Rattle.std.specs.Prelude.{◌≡◌, IsSome, Some};
-ghost use Rattle.mig_c.specs.Kinds.{table_in, load_in, multi_in, worker_in};
+ghost use Rattle.mig_c.specs.Kinds.{table_in, load_in, send_in, worker_in};
 
-use mig_c_calls::{HeldWorker, Multi, Sender};
+use mig_c_calls::{GuestSend, HeldWorker};
 use mig_c_loads::Load;
 use mig_mem::Table;
 use std::alloc::Global;
+use std::mem;
 
 /// The object of a handle, of each kind that C works on.
 #[derive(Drop)]
@@ -16,13 +17,11 @@ pub enum Object {
     Table(Table<Global>),
     /// A load into blocks of C, of one stream or of several channels.
     Load(Load),
-    /// A sender of one stream.
-    Sender(Sender),
-    /// A sender on several channels.
-    Multi(Multi),
+    /// A send of a guest's memory, of one stream or on several channels.
+    Send(GuestSend),
     /// A worker of a round on several channels.
     Worker(HeldWorker),
-    /// No worker yet: room for one.
+    /// None yet, or none any more: room for one.
     Empty,
 }
 
@@ -48,23 +47,37 @@ pub(crate) fn load_of(object: &Object) -> &Load
     }
 }
 
-/// Returns the value of an object that is a sender on several channels.
-pub(crate) fn multi_of(object: &Object) -> &Multi
-    requires { IsSome (multi_in (Some object.now)) }
-    ensures { multi_in (Some object.now) ≡ Some result.now }
+/// Puts a send into an object's place.
+pub(crate) fn put_send(object: &mut Object, send: GuestSend)
+    ensures { send_in (Some object.new) ≡ Some send }
 {
-    match object {
-        Object::Multi(multi) => multi,
+    *object = Object::Send(send);
+}
+
+/// Takes the send out of its object, which is empty then.
+pub(crate) fn take_send(object: &mut Object) -> GuestSend
+    requires { IsSome (send_in (Some object.old)) }
+    ensures { send_in (Some object.old) ≡ Some result }
+{
+    match mem::replace(object, Object::Empty) {
+        Object::Send(send) => send,
         _ => unreachable!(),
     }
 }
 
-/// Returns the value of an object that is a worker.
-pub(crate) fn worker_of(object: &Object) -> &HeldWorker
-    requires { IsSome (worker_in (Some object.now)) }
-    ensures { worker_in (Some object.now) ≡ Some result.now }
+/// Puts a worker into an object's place.
+pub(crate) fn put_worker(object: &mut Object, worker: HeldWorker)
+    ensures { worker_in (Some object.new) ≡ Some worker }
 {
-    match object {
+    *object = Object::Worker(worker);
+}
+
+/// Takes the worker out of its object, which is empty then.
+pub(crate) fn take_worker(object: &mut Object) -> HeldWorker
+    requires { IsSome (worker_in (Some object.old)) }
+    ensures { worker_in (Some object.old) ≡ Some result }
+{
+    match mem::replace(object, Object::Empty) {
         Object::Worker(worker) => worker,
         _ => unreachable!(),
     }

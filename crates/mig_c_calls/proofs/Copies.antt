@@ -1,11 +1,11 @@
--- The packet of a batch, of a buffer that has its pages.
-use Rattle.std.proofs.Common.{ℕ, ◌≡◌, ◌≢◌, ◌+◌, ◌-◌, ◌*◌, ◌<◌, ◌≤◌, ◌∙◌, ◌==◌, List, [], ◌++◌, length, drop, get_or, Bool, true, false, refl, sym, ap, subst}
-use Rattle.std.proofs.Common.{arith, inl, inr, Option, Some, None}
+-- The packet of a batch, of contents that C passes for its pages.
+use Rattle.std.proofs.Common.{ℕ, ◌≡◌, ◌≢◌, ◌-◌, ◌<◌, ◌≤◌, ◌∙◌, ◌==◌, List, [], ◌++◌, length, get_or, Bool, true, false, refl, sym, ap, subst}
+use Rattle.std.proofs.Common.{arith, inl, inr, Option, Some, None, Bor}
 use Rattle.std.specs.Prelude.{Result, Ok, Err, IsOk, IsTrue, ◌||◌, ◌∷◌, nat_lt}
 use Rattle.std.specs.List.{All, position, position_or_len}
 use Rattle.std.specs.Option.{unwrap_or}
 use Rattle.std.proofs.lemmas.Bool.{cases_lt, cond-true, cond-false, lt-ltb, le-ltb, eqb-true, eq-eqb}
-use Rattle.std.proofs.lemmas.List.{length-drop, length-take-le, length-map, get_or-map}
+use Rattle.std.proofs.lemmas.List.{length-map, get_or-map}
 use Rattle.std.proofs.lemmas.List.Elements.{All-get_or, All-from_get_or}
 use Rattle.std.proofs.lemmas.List.Sums.{passes_at_first, fails_before_first}
 use Rattle.mig_mem.specs.declared.place.Place.{Place}
@@ -13,10 +13,9 @@ use Rattle.mig_mem.specs.declared.fault.NoMemory.{NoMemory}
 use Rattle.mig_mem.specs.RamTable.{RamTable}
 use Rattle.mig_mem.specs.Place.{IsPlace, place_at}
 use Rattle.mig_mem.specs.Image.{Image, IsImage, content_at}
-use Rattle.mig_mem.specs.Parts.{part_at}
 use Rattle.mig_mem.proofs.Images.{image_from, content_at-image_of}
-use Rattle.mig_mem.proofs.PageSizes.{page_before}
 use Rattle.mig_mem.specs.PageSize.{IsPageSize}
+use Rattle.mig_mem.specs.Lent.{lent_bytes}
 use Rattle.mig_packet.specs.PageSize.{page_limit}
 use Rattle.mig_send.specs.declared.channel_worker.Hand.{Hand}
 use Rattle.mig_send.specs.declared.channel_worker.Hand.TheVariants.{Drawing, Claimed, Ending, Ended, Moving}
@@ -28,7 +27,7 @@ use Rattle.mig_send.specs.ChannelWork.{RoundTerms, ChannelWork, HasClaimed, HasP
 use Rattle.mig_send.proofs.Stepping.{step_packed}
 use Rattle.mig_send.proofs.Copies.{same_packet}
 use Rattle.mig_c_calls.specs.Status.{IsOneOf, done, running, no_memory, bad_length, out_of_turn}
-use Rattle.mig_c_calls.specs.Copied.{HasCopied, HasPages, HasBatch, OfClaim, index_in, copied_image}
+use Rattle.mig_c_calls.specs.Copied.{HasCopied, HasPages, HasBatch, OfClaim, content_of, index_in, copied_image}
 
 -- ---- where a page stands
 
@@ -83,37 +82,36 @@ few_pages size is = elim is [
   | inr e ↦ subst (λ (n : ℕ). page_limit n ≤ 128) (sym e) (omega arith)
 ]
 
--- ---- the memory that a buffer makes
+-- ---- the memory that contents make
 
--- a buffer as long as its pages has a page's bytes at the index of each page
-pub room_of_part : (table : RamTable) (pages bytes : List ℕ) (page : ℕ) → HasPages table pages bytes
-    → index_in pages page * table.page_size + table.page_size ≤ length bytes
-room_of_part table pages bytes page has =
-    omega (arith, has.has_bytes, page_before table.page_size (length pages) (index_in pages page) (index_within pages page has.has_some))
+-- a content that C passes
+pub lent_content : (contents : List (Bor (List ℕ))) (i : ℕ) (d : Bor (List ℕ)) → i < length contents
+    → content_of (lent_bytes contents) i ≡ (get_or contents i d).now
+lent_content contents i d lt = get_or-map (λ (b : Bor (List ℕ)). b.now) contents i d [] lt
 
-part_len : (table : RamTable) (pages bytes : List ℕ) (page : ℕ) → HasPages table pages bytes
-    → length (part_at table.page_size bytes (index_in pages page)) ≡ table.page_size
-part_len table pages bytes page has =
-    let at : ℕ = index_in pages page * table.page_size in
-    length-take-le table.page_size (drop at bytes) (omega (arith, length-drop at bytes, room_of_part table pages bytes page has))
+-- there is a content of a page for each page of the table
+pub content_len : (table : RamTable) (pages : List ℕ) (contents : List (List ℕ)) (page : ℕ) → HasPages table pages contents
+    → length (content_of contents (index_in pages page)) ≡ table.page_size
+content_len table pages contents page has = has.fits.are_whole (index_in pages page) (index_within pages page has.has_some)
 
--- the memory that such a buffer makes has a page's bytes at each place of the table
-pub copied_is_image : (table : RamTable) (pages bytes : List ℕ) → HasPages table pages bytes → IsImage (copied_image table pages bytes)
-copied_is_image table pages bytes has =
-    image_from table (λ place. part_at table.page_size bytes (index_in pages place.page)) (λ p is. part_len table pages bytes p.page has)
+-- the memory that such contents make has a page's bytes at each place of the table
+pub copied_is_image : (table : RamTable) (pages : List ℕ) (contents : List (List ℕ)) → HasPages table pages contents
+    → IsImage (copied_image table pages contents)
+copied_is_image table pages contents has =
+    image_from table (λ place. content_of contents (index_in pages place.page)) (λ p is. content_len table pages contents p.page has)
 
--- at each place that memory has the buffer's bytes at the index of the place's page
-pub copied_content : (table : RamTable) (pages bytes : List ℕ) (p : Place) → IsPlace table p
-    → content_at (copied_image table pages bytes) p ≡ part_at table.page_size bytes (index_in pages p.page)
-copied_content table pages bytes p is =
-    content_at-image_of table (λ place. part_at table.page_size bytes (index_in pages place.page)) p is
+-- at each place that memory has the content with the index of the place's page
+pub copied_content : (table : RamTable) (pages : List ℕ) (contents : List (List ℕ)) (p : Place) → IsPlace table p
+    → content_at (copied_image table pages contents) p ≡ content_of contents (index_in pages p.page)
+copied_content table pages contents p is =
+    content_at-image_of table (λ place. content_of contents (index_in pages place.page)) p is
 
 -- at the pages of the batch it agrees with each memory that has them
-pub copied_agrees : (image : Image) (table : RamTable) (batch : BatchOfPages) (bytes : List ℕ) → image.table ≡ table
-    → All (IsPlace table) (batch_places batch) → HasCopied image batch bytes
-    → All (λ p. content_at (copied_image table batch.pages bytes) p ≡ content_at image p) (batch_places batch)
-copied_agrees image table batch bytes same are copied =
-    All-from_get_or (λ p. content_at (copied_image table batch.pages bytes) p ≡ content_at image p) (batch_places batch) (place_at batch.block 0) (λ i lt.
+pub copied_agrees : (image : Image) (table : RamTable) (batch : BatchOfPages) (contents : List (List ℕ))
+    → All (IsPlace table) (batch_places batch) → HasCopied image batch contents
+    → All (λ p. content_at (copied_image table batch.pages contents) p ≡ content_at image p) (batch_places batch)
+copied_agrees image table batch contents are copied =
+    All-from_get_or (λ p. content_at (copied_image table batch.pages contents) p ≡ content_at image p) (batch_places batch) (place_at batch.block 0) (λ i lt.
     let within : i < length batch.pages = omega (arith, lt, length-map batch.pages (place_at batch.block)) in
     let page : ℕ = get_or batch.pages i 0 in
     let at : get_or (batch_places batch) i (place_at batch.block 0) ≡ place_at batch.block page =
@@ -122,10 +120,10 @@ copied_agrees image table batch bytes same are copied =
     subst (IsPlace table) at (All-get_or (IsPlace table) (batch_places batch) i (place_at batch.block 0) lt are) in
     let index = index_at batch.pages i within in
     let j : ℕ = index_in batch.pages page in
-    let has : content_at image (place_at batch.block page) ≡ part_at table.page_size bytes j =
-    ap (λ (n : ℕ). content_at image (place_at batch.block n)) (sym index.1) ∙ copied j index.0 ∙ ap (λ (t : RamTable). part_at t.page_size bytes j) same in
-    subst (λ (p : Place). content_at (copied_image table batch.pages bytes) p ≡ content_at image p) (sym at)
-    (copied_content table batch.pages bytes (place_at batch.block page) is ∙ sym has))
+    let has : content_at image (place_at batch.block page) ≡ content_of contents j =
+    ap (λ (n : ℕ). content_at image (place_at batch.block n)) (sym index.1) ∙ copied j index.0 in
+    subst (λ (p : Place). content_at (copied_image table batch.pages contents) p ≡ content_at image p) (sym at)
+    (copied_content table batch.pages contents (place_at batch.block page) is ∙ sym has))
 
 -- ---- the worker's number
 
@@ -203,56 +201,56 @@ claimed_stays terms (Ended spent) of = absurd of
 claimed_stays terms Moving of = absurd of
 
 -- the packet of the copy is that of each memory that has the pages
-copied_packet : (image : Image) (table : RamTable) (pages bytes : List ℕ) (batch : BatchOfPages) (number : ℕ)
-    → image.table ≡ table → HasBatch table pages bytes batch
-    → HasCopied image batch bytes → packed_of (copied_image table pages bytes) batch number ≡ packed_of image batch number
-copied_packet image table pages bytes batch number same has copied =
-    ap (λ (l : List ℕ). packed_of (copied_image table l bytes) batch number) has.same_pages
-    ∙ same_packet (copied_image table batch.pages bytes) image batch number (sym same)
-    (copied_agrees image table batch bytes same has.is_batch.has_places copied)
+copied_packet : (image : Image) (table : RamTable) (pages : List ℕ) (contents : List (List ℕ)) (batch : BatchOfPages) (number : ℕ)
+    → image.table ≡ table → HasBatch table pages contents batch
+    → HasCopied image batch contents → packed_of (copied_image table pages contents) batch number ≡ packed_of image batch number
+copied_packet image table pages contents batch number same has copied =
+    ap (λ (l : List ℕ). packed_of (copied_image table l contents) batch number) has.same_pages
+    ∙ same_packet (copied_image table batch.pages contents) image batch number (sym same)
+    (copied_agrees image table batch contents has.is_batch.has_places copied)
 
-copied_bytes : (image : Image) (terms : RoundTerms) (pages bytes : List ℕ) (hand : Hand) → image.table ≡ terms.table
-    → OfClaim (λ batch number. HasBatch terms.table pages bytes batch) terms hand → OfClaim (λ batch number. HasCopied image batch bytes) terms hand
-    → hand_bytes (copied_image terms.table pages bytes) terms hand ≡ hand_bytes image terms hand
-copied_bytes image terms pages bytes (Drawing seat) same has copied = absurd has
-copied_bytes image terms pages bytes (Claimed seat number) same has copied =
+copied_bytes : (image : Image) (terms : RoundTerms) (pages : List ℕ) (contents : List (List ℕ)) (hand : Hand) → image.table ≡ terms.table
+    → OfClaim (λ batch number. HasBatch terms.table pages contents batch) terms hand → OfClaim (λ batch number. HasCopied image batch contents) terms hand
+    → hand_bytes (copied_image terms.table pages contents) terms hand ≡ hand_bytes image terms hand
+copied_bytes image terms pages contents (Drawing seat) same has copied = absurd has
+copied_bytes image terms pages contents (Claimed seat number) same has copied =
     ap (λ (p : PackedBatch). p.bytes)
-    (copied_packet image terms.table pages bytes (get_or terms.batches (number - terms.deal.base) no_batch) number same has copied)
-copied_bytes image terms pages bytes (Ending spent last) same has copied = absurd has
-copied_bytes image terms pages bytes (Ended spent) same has copied = absurd has
-copied_bytes image terms pages bytes Moving same has copied = absurd has
+    (copied_packet image terms.table pages contents (get_or terms.batches (number - terms.deal.base) no_batch) number same has copied)
+copied_bytes image terms pages contents (Ending spent last) same has copied = absurd has
+copied_bytes image terms pages contents (Ended spent) same has copied = absurd has
+copied_bytes image terms pages contents Moving same has copied = absurd has
 
--- a step on a claimed batch from a buffer's memory leaves the channel packed as from a memory that
--- has the buffer's bytes at the batch's pages
-pub copied_packed : (image : Image) (terms : RoundTerms) (pages bytes : List ℕ) (made : Result (Unit {0}) NoMemory)
+-- a step on a claimed batch from the memory of these contents leaves the channel packed as from a
+-- memory that has them at the batch's pages
+pub copied_packed : (image : Image) (terms : RoundTerms) (pages : List ℕ) (contents : List (List ℕ)) (made : Result (Unit {0}) NoMemory)
     (old new : Hand) (old_text new_text before drained : List ℕ)
-    → image.table ≡ terms.table → OfClaim (λ batch number. HasBatch terms.table pages bytes batch) terms old
-    → OfClaim (λ batch number. HasCopied image batch bytes) terms old
-    → IsStep (copied_image terms.table pages bytes) terms made old new old_text new_text → HasPackedTo image terms before (drained ++ old_text) old
+    → image.table ≡ terms.table → OfClaim (λ batch number. HasBatch terms.table pages contents batch) terms old
+    → OfClaim (λ batch number. HasCopied image batch contents) terms old
+    → IsStep (copied_image terms.table pages contents) terms made old new old_text new_text → HasPackedTo image terms before (drained ++ old_text) old
     → HasPackedTo image terms before (drained ++ new_text) new
-copied_packed image terms pages bytes made old new old_text new_text before drained same has copied step packed =
+copied_packed image terms pages contents made old new old_text new_text before drained same has copied step packed =
     let drawn : HasClaimed terms.deal old old =
-    claimed_stays terms old (map_claim (λ batch number. HasCopied image batch bytes) (λ batch number. Unit {0}) terms old (λ _ _ _. tt) copied) in
+    claimed_stays terms old (map_claim (λ batch number. HasCopied image batch contents) (λ batch number. Unit {0}) terms old (λ _ _ _. tt) copied) in
     step_packed image terms made old new old_text new_text before drained
-    (step_of (copied_image terms.table pages bytes) image terms made old new old_text new_text drawn
-    (copied_bytes image terms pages bytes old same has copied) step) packed
+    (step_of (copied_image terms.table pages contents) image terms made old new old_text new_text drawn
+    (copied_bytes image terms pages contents old same has copied) step) packed
 
 -- what a step that isn't refused writes
-pub copied_writes : (image : Image) (terms : RoundTerms) (pages bytes : List ℕ) (made : Result (Unit {0}) NoMemory)
+pub copied_writes : (image : Image) (terms : RoundTerms) (pages : List ℕ) (contents : List (List ℕ)) (made : Result (Unit {0}) NoMemory)
     (old new : Hand) (old_text new_text : List ℕ)
-    → image.table ≡ terms.table → IsOk made → OfClaim (λ batch number. HasBatch terms.table pages bytes batch) terms old
-    → IsStep (copied_image terms.table pages bytes) terms made old new old_text new_text
-    → OfClaim (λ batch number. HasCopied image batch bytes → new_text ≡ old_text ++ (packed_of image batch number).bytes) terms old
-copied_writes image terms pages bytes (Err e) old new old_text new_text same ok has step = absurd cc
-copied_writes image terms pages bytes (Ok u) (Drawing seat) new old_text new_text same ok has step = has
-copied_writes image terms pages bytes (Ok u) (Claimed seat number) new old_text new_text same ok has step = λ copied.
+    → image.table ≡ terms.table → IsOk made → OfClaim (λ batch number. HasBatch terms.table pages contents batch) terms old
+    → IsStep (copied_image terms.table pages contents) terms made old new old_text new_text
+    → OfClaim (λ batch number. HasCopied image batch contents → new_text ≡ old_text ++ (packed_of image batch number).bytes) terms old
+copied_writes image terms pages contents (Err e) old new old_text new_text same ok has step = absurd cc
+copied_writes image terms pages contents (Ok u) (Drawing seat) new old_text new_text same ok has step = has
+copied_writes image terms pages contents (Ok u) (Claimed seat number) new old_text new_text same ok has step = λ copied.
     let batch : BatchOfPages = get_or terms.batches (number - terms.deal.base) no_batch in
     step.writes.1
-    ∙ ap (λ (h : Hand). old_text ++ hand_bytes (copied_image terms.table pages bytes) terms h) step.has_claimed
-    ∙ ap (λ (p : PackedBatch). old_text ++ p.bytes) (copied_packet image terms.table pages bytes batch number same has copied)
-copied_writes image terms pages bytes (Ok u) (Ending spent last) new old_text new_text same ok has step = has
-copied_writes image terms pages bytes (Ok u) (Ended spent) new old_text new_text same ok has step = has
-copied_writes image terms pages bytes (Ok u) Moving new old_text new_text same ok has step = has
+    ∙ ap (λ (h : Hand). old_text ++ hand_bytes (copied_image terms.table pages contents) terms h) step.has_claimed
+    ∙ ap (λ (p : PackedBatch). old_text ++ p.bytes) (copied_packet image terms.table pages contents batch number same has copied)
+copied_writes image terms pages contents (Ok u) (Ending spent last) new old_text new_text same ok has step = has
+copied_writes image terms pages contents (Ok u) (Ended spent) new old_text new_text same ok has step = has
+copied_writes image terms pages contents (Ok u) Moving new old_text new_text same ok has step = has
 
 -- the worker's number after a step: its packet is written, or it is the same
 pub step_hand : (image : Image) (terms : RoundTerms) (made : Result (Unit {0}) NoMemory) (old new : Hand)

@@ -1,6 +1,6 @@
 -- What a sender on several channels copies out of its main stream, and of channels that are ended.
-use Rattle.std.proofs.Common.{ℕ, ◌≡◌, ◌+◌, ◌≤◌, ◌∙◌, List, [], ◌++◌, length, replicate, take, drop, get_or, Option, None, sym, ap, subst, arith}
-use Rattle.std.proofs.lemmas.List.{append-nil, append_assoc, nil_from_length, length-append, length-take-le}
+use Rattle.std.proofs.Common.{ℕ, ◌≡◌, ◌+◌, ◌≤◌, ◌∙◌, List, [], ◌++◌, length, replicate, take, drop, min, get_or, Option, None, sym, ap, subst, arith}
+use Rattle.std.proofs.lemmas.List.{append-nil, append_assoc, take-append-drop, nil_from_length, length-append, length-take-le}
 use Rattle.mig_mem.specs.RamTable.{RamTable}
 use Rattle.mig_mem.specs.Image.{Image}
 use Rattle.mig_mem.specs.declared.place.Place.{Place}
@@ -13,7 +13,7 @@ use Rattle.mig_c_calls.specs.declared.sending.MultiState.TheVariants.{Idle, Roun
 use Rattle.mig_c_calls.specs.declared.sending.Multi.{Multi}
 use Rattle.mig_c_calls.specs.Named.{IsNamed}
 use Rattle.mig_c_calls.specs.Multi.{MultiSetting, SendsTo, InRoundTo, InRound, IsIdle, IsOpen, IsOver, HasNothingLeft, HasGivenUp, HandsOutOf, DrainsMain}
-use Rattle.mig_c_calls.specs.Multi.{RefillsMain, waiting_in, with_plain, left_of, is_left_open, ended_main}
+use Rattle.mig_c_calls.specs.Multi.{RefillsMain, SkipsMain, waiting_in, with_plain, left_of, is_left_open, ended_main}
 use Rattle.mig_c_calls.proofs.Named.{named_more, named_ended, ended_is}
 use Rattle.mig_c_calls.proofs.Sends.{still_of}
 use Rattle.mig_c_calls.proofs.Ends.{same_streams}
@@ -68,6 +68,30 @@ drains_main count out old mid new refills hands same = record {
   written = λ is zero room. refills.written is (hands.none zero room);
   all = λ is zero room. refills.all is (hands.none zero room);
 }
+
+-- if the first bytes that wait of the main stream count as copied out, in the same state, they are
+-- skipped
+pub skips_main : (len count : ℕ) (old new : Multi) → count ≡ min len (length (waiting_in old.main))
+    → waiting_in new.main ≡ drop count (waiting_in old.main) → new.state ≡ old.state → SkipsMain len count old new
+skips_main len count old new counts still same =
+    let front : List ℕ = take count (waiting_in old.main) in
+    let has_front : front ++ waiting_in new.main ≡ waiting_in old.main =
+    ap (λ (l : List ℕ). front ++ l) still ∙ take-append-drop count (waiting_in old.main) in
+    record {
+      counts = counts;
+      still = still;
+      same_state = same;
+      hands = λ setting given rounds sends. (
+        sends.0,
+        subst (λ (l : List ℕ). IsNamed setting.name l sends.0) (and_front given.main front old new has_front) sends.1,
+        subst (λ (s : MultiState). SendsTo setting (with_plain given sends.0) rounds s) (sym same) sends.2,
+      );
+      hands_in_round = λ setting image dirty given rounds here. (
+        here.0,
+        subst (λ (l : List ℕ). IsNamed setting.name l here.0) (and_front given.main front old new has_front) here.1,
+        subst (λ (s : MultiState). InRoundTo setting image dirty (with_plain given here.0) rounds s) (sym same) here.2,
+      );
+    }
 
 -- ---- a round is given up
 

@@ -1,11 +1,13 @@
 -- Streams on several channels that are ended: what is left of the channels.
-use Rattle.std.proofs.Common.{ℕ, ◌≡◌, ◌≢◌, ◌+◌, ◌<◌, ◌≤◌, ◌∙◌, ◌==◌, List, [], ◌++◌, length, map, replicate, take, drop, get_or, set, Bool, refl, sym, ap}
+use Rattle.std.proofs.Common.{ℕ, ◌≡◌, ◌≢◌, ◌+◌, ◌<◌, ◌≤◌, ◌∙◌, ◌==◌, List, [], ◌++◌, length, map, replicate, take, drop, min, get_or, set, Bool, refl, sym, ap}
 use Rattle.std.proofs.Common.{subst, arith, inl, inr}
 use Rattle.std.specs.Prelude.{Vec}
 use Rattle.std.specs.List.{range_with_len}
 use Rattle.std.specs.declared.alloc.Global.{Global}
+use Rattle.std.proofs.Math.Nat.{min-le_right}
 use Rattle.std.proofs.lemmas.Bool.{cases_lt, cases_eq, cond-true, cond-false, eq-eqb, ne_eqb}
-use Rattle.std.proofs.lemmas.List.{length-map, drop_all, get_or-replicate, get_or_past, get_or-set_other, get_or-set_same, length-replicate, length-set}
+use Rattle.std.proofs.lemmas.List.{length-map, length-take-le, take_all, drop_all, get_or-replicate}
+use Rattle.std.proofs.lemmas.List.{get_or_past, get_or-set_other, get_or-set_same, length-replicate, length-set}
 use Rattle.std.proofs.lemmas.List.{drop-drop, take-append-drop, append_assoc, append-nil, nil_from_length}
 use Rattle.std.proofs.lemmas.List.FromFn.{length-map-range_with_len, get_or-map-range_with_len}
 use mathlib.Core.Path.{fun_ext}
@@ -15,7 +17,7 @@ use Rattle.mig_send.specs.DealtRounds.{DealtRound, channel_text, channel_texts}
 use Rattle.mig_send.specs.MultiSending.{MultiSending, Drained, texts_of, whole_texts, with_channel}
 use Rattle.mig_c_calls.specs.declared.sending.EndedStreams.{EndedStreams}
 use Rattle.mig_c_calls.specs.declared.sending.MultiState.TheVariants.{Over}
-use Rattle.mig_c_calls.specs.Multi.{MultiSetting, IsSenderOf, AreEnded, SendsTo, DrainsChannel, left_of, all_channels}
+use Rattle.mig_c_calls.specs.Multi.{MultiSetting, IsSenderOf, AreEnded, SendsTo, DrainsChannel, SkipsChannel, left_of, all_channels}
 use Rattle.mig_c_calls.proofs.Named.{texts_are}
 
 -- of one number, and of none, it is that number
@@ -166,5 +168,47 @@ drains_left e e' at count out lt within ends moved same_main same_texts fits fro
           absurd (omega (arith, within, length-map e.sent.channels.items (λ (v : Vec ℕ Global). v.items), ap (λ (ts : List (List ℕ)). length ts) is.1));
       all = λ _ zero room setting drained rounds sends is_channel. left_done setting drained rounds e at sends
           (nil_from_length (left_of e at) (none zero room)) is_channel;
+      same = λ not. absurd (not tt);
+    }
+
+-- ---- what is left is skipped
+
+-- where there is no such channel, or nothing is left of it, none is skipped
+pub skips_none : (e : EndedStreams) (at len : ℕ) → ((setting : MultiSetting) → length e.given.items ≡ setting.channels
+    → at < setting.channels → left_of e at ≡ []) → SkipsChannel at len 0 (Over e) (Over e)
+skips_none e at len none = record {
+  counts = λ _ setting drained rounds sends lt.
+      let empty : length (left_of e at) ≡ 0 = ap (λ (l : List ℕ). length l) (none setting sends.0 lt) in
+      omega (arith, empty, min-le_right len (length (left_of e at)));
+  hands = λ _ setting drained rounds sends.
+      same_streams setting drained (with_channel drained at []) rounds e e refl refl refl (handed drained at [] e e refl (λ channel not. refl)) sends;
+  ended = λ _. (tt, refl);
+  given_up = λ is. (refl, is);
+  same = λ not. absurd (not tt);
+}
+
+-- if the first bytes that are left of a channel are counted, with everything else of the ended
+-- streams as it was, they are skipped
+pub skips_left : (e e' : EndedStreams) (at len count : ℕ) → at < length e.given.items → at < length e.sent.channels.items
+    → e'.left_open ≡ e.left_open
+    → e'.given.items ≡ set e.given.items at (get_or e.given.items at 0 + count) → e'.sent.main.items ≡ e.sent.main.items
+    → texts_of e'.sent.channels.items ≡ texts_of e.sent.channels.items → count ≡ min len (length (left_of e at))
+    → SkipsChannel at len count (Over e) (Over e')
+skips_left e e' at len count lt within ends moved same_main same_texts counts =
+    let left : List ℕ = left_of e at in
+    let front : List ℕ = take count left in
+    let within_left : count ≤ length left = omega (arith, counts, min-le_right len (length left)) in
+    let all : length front ≡ count = length-take-le count left within_left in
+    let drained : DrainsChannel at count front (Over e) (Over e') =
+    drains_left e e' at count front lt within ends moved same_main same_texts (omega (arith, all))
+    (take_all count front (omega (arith, all)))
+    (λ zero room. absurd (omega (arith, zero, room, all))) in
+    record {
+      counts = λ _ setting given rounds sends is_channel. counts;
+      hands = λ is setting given rounds sends.
+          subst (λ (l : List ℕ). SendsTo setting (with_channel given at l) rounds (Over e')) (take_all count front (omega (arith, all)))
+          (drained.hands is setting given rounds sends);
+      ended = drained.ended;
+      given_up = drained.given_up;
       same = λ not. absurd (not tt);
     }

@@ -1,7 +1,7 @@
 -- A sender on several channels, as C holds it: its rounds, their workers, and what is copied out.
-use Rattle.std.proofs.Common.{ℕ, ◌≡◌, ◌≢◌, ◌+◌, ◌<◌, ◌≤◌, ◌∙◌, ◌==◌, List, [], ◌∷◌, ◌++◌, length, replicate, take, get_or, Bool, true, false, if◌then◌else◌}
+use Rattle.std.proofs.Common.{ℕ, ◌≡◌, ◌≢◌, ◌+◌, ◌<◌, ◌≤◌, ◌∙◌, ◌==◌, List, [], ◌∷◌, ◌++◌, length, replicate, take, get_or, if◌then◌else◌}
 use Rattle.std.proofs.Common.{refl, sym, ap, subst, arith, inl, inr}
-use Rattle.std.specs.Prelude.{Result, Err, IsOk, is_ok, IsTrue, ◌||◌}
+use Rattle.std.specs.Prelude.{Result, Err, IsOk, is_ok}
 use Rattle.std.proofs.lemmas.Bool.{cases_lt, cond-true, cond-false, eq-eqb, ne_eqb}
 use Rattle.std.proofs.lemmas.List.{append-nil, append_assoc, append_cancel_left, length-append}
 use Rattle.mig_mem.specs.declared.place.Place.{Place}
@@ -19,7 +19,6 @@ use Rattle.mig_send.specs.MultiRound as round
 use Rattle.mig_send.specs.MultiRound.{OpenMulti, IsRoundSoFar, HasBegun, TakesBack, dirty_of, with_channels}
 use Rattle.mig_c_calls.specs.declared.waiting.Waiting.{Waiting}
 use Rattle.mig_c_calls.specs.declared.sending.HeldWorker.{HeldWorker}
-use Rattle.mig_c_calls.specs.Status.{IsOneOf, done, running, no_memory, bad_length}
 use Rattle.mig_c_calls.specs.Multi.{MultiSetting, IsSenderOf, IsInRound, Packs, GivesNext, CanComeBack, waiting_in}
 
 -- ---- what was drained
@@ -282,23 +281,8 @@ worker_steps image sent given more old new same packed packs = record {
 pub nothing_left : (count : ℕ) (out left waiting : List ℕ) → count ≡ 0 → take count out ++ left ≡ waiting → waiting ≡ [] → left ≡ []
 nothing_left count out left waiting zero front none = ap (λ (n : ℕ). take n out ++ left) (sym zero) ∙ front ∙ none
 
--- ---- statuses
+-- ---- results
 
 -- a result that is an error isn't Ok
 pub err_not_ok : {R E : Type 0} (r : Result R E) (e : E) → r ≡ Err e → IsOk r → ⊥
 err_not_ok {R} {E} r e is ok = absurd (let other = ap (λ (x : Result R E). is_ok x) is in cc)
-
-or_more : (a b d e : Bool) → IsTrue (a || (b || (d || false))) → IsTrue (a || (b || (d || (e || false))))
-or_more true b d e is = refl
-or_more false true d e is = refl
-or_more false false true e is = refl
-or_more false false false e is = absurd cc
-
--- a step's statuses are those of a call, but for one
-pub step_named : (status : ℕ) → IsOneOf (done ∷ running ∷ no_memory ∷ []) status → IsOneOf (done ∷ running ∷ no_memory ∷ bad_length ∷ []) status
-step_named status is = or_more (done == status) (running == status) (no_memory == status) (bad_length == status) is
-
--- done, running or no_memory isn't bad_length
-pub step_fits : (status : ℕ) → IsOneOf (done ∷ running ∷ no_memory ∷ []) status → status ≢ bad_length
-step_fits status is same = absurd (let other : IsOneOf (done ∷ running ∷ no_memory ∷ []) bad_length =
-    subst (λ (n : ℕ). IsOneOf (done ∷ running ∷ no_memory ∷ []) n) same is in cc)

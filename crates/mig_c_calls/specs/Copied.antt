@@ -1,12 +1,10 @@
--- The pages of one batch, copied into a buffer one after another, and the packet that is made of
--- them.
-use Rattle.std.specs.Prelude.{◌≡◌, ◌≢◌, ◌-◌, ◌<◌, ◌*◌, ◌++◌, ◌==◌, ℕ, List, [], ◌∷◌, length, take, get_or, Result, IsOk, ◌↔◌, ⊤}
+-- The pages of one batch, each in a buffer of C, and the packet that is made of them.
+use Rattle.std.specs.Prelude.{◌≡◌, ◌≢◌, ◌-◌, ◌<◌, ◌++◌, ◌==◌, ℕ, List, [], ◌∷◌, length, take, get_or, slice_index_or, Result, IsOk, ◌↔◌, ⊤}
 use Rattle.std.specs.List.{position}
 use Rattle.std.specs.Option.{unwrap_or}
 use Rattle.mig_mem.specs.RamTable.{RamTable}
 use Rattle.mig_mem.specs.declared.fault.NoMemory.{NoMemory}
 use Rattle.mig_mem.specs.Image.{Image, image_of}
-use Rattle.mig_mem.specs.Parts.{part_at}
 use Rattle.mig_send.specs.Batches.{BatchOfPages, IsBatch}
 use Rattle.mig_send.specs.Packing.{packed_of}
 use Rattle.mig_send.specs.Copies.{HasContents}
@@ -19,9 +17,18 @@ use Rattle.mig_c_calls.specs.declared.sending.HeldWorker.{HeldWorker}
 use Rattle.mig_c_calls.specs.Status.{IsOneOf, done, running, no_memory, bad_length, out_of_turn}
 use Rattle.mig_c_calls.specs.Multi.{Packs}
 
--- At the pages of a batch a memory has the content of a buffer, one page after another.
-abbrev pub HasCopied : Image → BatchOfPages → List ℕ → Type 0
-HasCopied image batch bytes = HasContents image batch (part_at image.table.page_size bytes)
+-- the content with an index
+abbrev pub content_of : List (List ℕ) → ℕ → List ℕ
+content_of contents i = slice_index_or contents i []
+
+-- There is one content for each of so many pages, of the page size.
+pub record AreContents (page_size count : ℕ) (contents : List (List ℕ)) : Type 0 where
+  pub as_many : length contents ≡ count
+  pub are_whole : (i : ℕ) → i < count → length (content_of contents i) ≡ page_size
+
+-- At the pages of a batch a memory has these contents, one at each page, in their order.
+abbrev pub HasCopied : Image → BatchOfPages → List (List ℕ) → Type 0
+HasCopied image batch contents = HasContents image batch (content_of contents)
 
 -- ---- such a memory
 
@@ -29,19 +36,19 @@ HasCopied image batch bytes = HasContents image batch (part_at image.table.page_
 abbrev pub index_in : List ℕ → ℕ → ℕ
 index_in pages page = unwrap_or (position (λ other. other == page) pages) 0
 
-abbrev pub copied_image : RamTable → List ℕ → List ℕ → Image
-copied_image table pages bytes = image_of table (λ place. part_at table.page_size bytes (index_in pages place.page))
+abbrev pub copied_image : RamTable → List ℕ → List (List ℕ) → Image
+copied_image table pages contents = image_of table (λ place. content_of contents (index_in pages place.page))
 
--- The buffer is as long as the pages, and there is one at least.
-pub record HasPages (table : RamTable) (pages bytes : List ℕ) : Type 0 where
+-- There is one page at least, and a content for each.
+pub record HasPages (table : RamTable) (pages : List ℕ) (contents : List (List ℕ)) : Type 0 where
   pub has_some : 0 < length pages
-  pub has_bytes : length bytes ≡ length pages * table.page_size
+  pub fits : AreContents table.page_size (length pages) contents
 
--- The pages are those of a batch of the table, and the buffer is as long.
-pub record HasBatch (table : RamTable) (pages bytes : List ℕ) (batch : BatchOfPages) : Type 0 where
+-- The pages are those of a batch of the table, and there is a content for each.
+pub record HasBatch (table : RamTable) (pages : List ℕ) (contents : List (List ℕ)) (batch : BatchOfPages) : Type 0 where
   pub is_batch : IsBatch table batch
   pub same_pages : pages ≡ batch.pages
-  pub has_bytes : length bytes ≡ length batch.pages * table.page_size
+  pub fits : AreContents table.page_size (length batch.pages) contents
 
 -- ---- the calls
 
@@ -74,16 +81,16 @@ pub record NamesBatch (status : ℕ) (before after : NamedBatch) (old new : Held
   pub same_named : status ≢ running → after ≡ before
   pub same_work : (new.worker.terms ≡ old.worker.terms) × (new.worker.channel ≡ old.worker.channel) × (new.drained ≡ old.drained)
 
--- The effect of `pack` with a buffer: it writes the packet of the claimed batch, whose pages the
--- buffer has. That is the packet of every memory that has those pages.
-pub record PacksCopied (bytes : List ℕ) (status : ℕ) (old new : HeldWorker) : Type 0 where
+-- The effect of `pack` with the contents of the claimed batch's pages: it writes the batch's
+-- packet. That is the packet of every memory that has these contents at those pages.
+pub record PacksCopied (contents : List (List ℕ)) (status : ℕ) (old new : HeldWorker) : Type 0 where
   pub is_named : IsOneOf (running ∷ no_memory ∷ bad_length ∷ out_of_turn ∷ []) status
   pub wrong : status ≡ out_of_turn → OfBatch (λ batch number. ⊤) old → ⊥
-  pub unfit : status ≡ bad_length → OfBatch (λ batch number. length bytes ≢ length batch.pages * old.worker.terms.table.page_size) old
-  pub fits : status ≢ out_of_turn → status ≢ bad_length → OfBatch (λ batch number. length bytes ≡ length batch.pages * old.worker.terms.table.page_size) old
+  pub unfit : status ≡ bad_length → OfBatch (λ batch number. AreContents old.worker.terms.table.page_size (length batch.pages) contents → ⊥) old
+  pub fits : status ≢ out_of_turn → status ≢ bad_length → OfBatch (λ batch number. AreContents old.worker.terms.table.page_size (length batch.pages) contents) old
   pub writes : status ≡ running → (image : Image) → image.table ≡ old.worker.terms.table
-      → OfBatch (λ batch number. HasCopied image batch bytes → new.worker.text ≡ old.worker.text ++ (packed_of image batch number).bytes) old
-  pub packs : (image : Image) (sent given more : List ℕ) → image.table ≡ old.worker.terms.table → OfBatch (λ batch number. HasCopied image batch bytes) old
+      → OfBatch (λ batch number. HasCopied image batch contents → new.worker.text ≡ old.worker.text ++ (packed_of image batch number).bytes) old
+  pub packs : (image : Image) (sent given more : List ℕ) → image.table ≡ old.worker.terms.table → OfBatch (λ batch number. HasCopied image batch contents) old
       → Packs image sent given more old → Packs image sent given more new
   pub over : status ≡ running → new.worker.hand ≡ after_packet old.worker.hand
   pub same : status ≢ running → new.worker ≡ old.worker
@@ -91,12 +98,12 @@ pub record PacksCopied (bytes : List ℕ) (status : ℕ) (old new : HeldWorker) 
 
 -- ---- the effects on a worker alone
 
--- why the claimed batch isn't packed from a buffer: the first reason that applies
-pub record RefusesPages (bytes : List ℕ) (status : ℕ) (work : ChannelWork) : Type 0 where
+-- why the claimed batch isn't packed from these contents: the first reason that applies
+pub record RefusesPages (contents : List (List ℕ)) (status : ℕ) (work : ChannelWork) : Type 0 where
   pub is_named : IsOneOf (no_memory ∷ bad_length ∷ out_of_turn ∷ []) status
   pub wrong : status ≡ out_of_turn → OfClaim (λ batch number. ⊤) work.terms work.hand → ⊥
-  pub unfit : status ≡ bad_length → OfClaim (λ batch number. length bytes ≢ length batch.pages * work.terms.table.page_size) work.terms work.hand
-  pub fits : status ≢ out_of_turn → status ≢ bad_length → OfClaim (λ batch number. length bytes ≡ length batch.pages * work.terms.table.page_size) work.terms work.hand
+  pub unfit : status ≡ bad_length → OfClaim (λ batch number. AreContents work.terms.table.page_size (length batch.pages) contents → ⊥) work.terms work.hand
+  pub fits : status ≢ out_of_turn → status ≢ bad_length → OfClaim (λ batch number. AreContents work.terms.table.page_size (length batch.pages) contents) work.terms work.hand
 
 -- a step from a memory
 pub record PacksOn (image : Image) (status : ℕ) (old new : ChannelWork) : Type 0 where

@@ -1,23 +1,20 @@
 -- A sender of C on several channels: what it has sent, what was copied out of its streams, and the
 -- workers of its rounds, each with a handle of its own.
-use Rattle.std.specs.Prelude.{◌≡◌, ◌≢◌, ◌⊎◌, ◌+◌, ◌≤◌, ◌<◌, ◌++◌, ℕ, Bool, true, false, List, [], ◌∷◌, drop, take, map, length, replicate, get_or, All, Option, None, Some, Result, IsOk, ◌↔◌, ⊤}
+use Rattle.std.specs.Prelude.{◌≡◌, ◌≢◌, ◌+◌, ◌≤◌, ◌<◌, ◌++◌, ℕ, Bool, true, false, List, [], ◌∷◌, drop, take, map, min, length, replicate, get_or, All, Option, None, Some, ⊤}
 use Rattle.std.specs.List.{fold, range_with_len}
 use Rattle.std.specs.declared.alloc.Global.{Global}
 use Rattle.mig_mem.specs.RamTable.{RamTable}
 use Rattle.mig_mem.specs.declared.place.Place.{Place}
-use Rattle.mig_mem.specs.declared.fault.NoMemory.{NoMemory}
 use Rattle.mig_mem.specs.Place.{IsPlace, place_at}
 use Rattle.mig_mem.specs.PlaceSet.{PlaceSet, with_place}
 use Rattle.mig_mem.specs.Image.{Image, IsImage}
-use Rattle.mig_mem.specs.Lent.{FitTable, lent_image}
 use Rattle.mig_mem.specs.Bitmaps.{AreBitmaps, bitmap_set}
 use Rattle.mig_stream.specs.Written.{FlushPart, written_so_far, main}
 use Rattle.mig_stream.specs.MachineWritten.{machine_written, machine_closed}
-use Rattle.mig_packet.specs.PageSize.{page_limit}
 use Rattle.mig_send.specs.DealtRounds.{DealtRound, IsSending, IsMachineSending, channel_text}
 use Rattle.mig_send.specs.MultiSending.{MultiSending, Drained, HasSentRounds, nothing_drained, texts_of, whole_texts, with_main, with_channel}
 use Rattle.mig_send.specs.declared.multi.Sent.{Sent}
-use Rattle.mig_send.specs.ChannelWork.{ChannelWork, HasPacked, HasStepped, HasEnded}
+use Rattle.mig_send.specs.ChannelWork.{ChannelWork, HasPacked, HasEnded}
 use Rattle.mig_send.specs.MultiRound.{OpenMulti, IsRoundSoFar, HandsOut, dirty_of, handed_out}
 use Rattle.mig_c_calls.specs.declared.waiting.Waiting.{Waiting}
 use Rattle.mig_c_calls.specs.declared.sending.NamedPlace.{NamedPlace}
@@ -26,8 +23,9 @@ use Rattle.mig_c_calls.specs.declared.sending.MultiState.{MultiState}
 use Rattle.mig_c_calls.specs.declared.sending.MultiState.TheVariants.{Idle, Round, Over}
 use Rattle.mig_c_calls.specs.declared.sending.Multi.{Multi}
 use Rattle.mig_c_calls.specs.declared.sending.HeldWorker.{HeldWorker}
-use Rattle.mig_c_calls.specs.Named.{IsNamed, IsLongName}
-use Rattle.mig_c_calls.specs.Status.{IsOneOf, channels as no_channels, batch_limit as bad_batch_limit, done, no_memory, running, bad_length, no_page, out_of_turn}
+use Rattle.mig_c_calls.specs.Front.{ShowsFront}
+use Rattle.mig_c_calls.specs.Named.{IsNamed}
+use Rattle.mig_c_calls.specs.Status.{IsOneOf, done, no_memory, bad_length, no_page, out_of_turn}
 
 -- ---- bytes that wait
 
@@ -194,36 +192,6 @@ left_in w = waiting_in w.drained ++ w.worker.text
 abbrev pub Starts : MultiSetting → Multi → Type 0
 Starts setting m = Sends setting nothing_drained [] m × IsIdle m.state
 
-abbrev pub StartsOf : Option RamTable → List ℕ → ℕ → ℕ → Option (List ℕ) → Option Multi → Type 0
-StartsOf None uuid channels limit name made = ⊤
-StartsOf (Some table) uuid channels limit name None = ⊥
-StartsOf (Some table) uuid channels limit name (Some m) = Starts (record { table = table; uuid = uuid; limit = limit; channels = channels; name = name }) m
-
--- this holds of the table
-abbrev pub OfTable : (RamTable → Type 0) → Option RamTable → Type 0
-OfTable IsSo None = ⊤
-OfTable IsSo (Some table) = IsSo table
-
--- What `new` does, with a table, and with a machine's name or none: the first thing that is wrong
--- with what it is given is returned.
-pub record OpensMulti (table : Option RamTable) (uuid : List ℕ) (channels limit : ℕ) (name : Option (List ℕ)) (status : ℕ) (made : Option Multi) : Type 0 where
-  pub is_named : IsOneOf (done ∷ no_memory ∷ bad_length ∷ no_channels ∷ bad_batch_limit ∷ []) status
-  pub starts : status ≡ done → StartsOf table uuid channels limit name made
-  pub unfit : status ≡ bad_length → length uuid ≡ 16 → IsLongName name
-  pub is_uuid : status ≢ bad_length → length uuid ≡ 16
-  pub has_room : status ≢ bad_length → IsLongName name → ⊥
-  pub none : status ≡ no_channels → (channels ≡ 0) ⊎ (255 < channels)
-  pub has_channels : status ≢ bad_length → status ≢ no_channels → (0 < channels) × (channels ≤ 255)
-  pub bad_limit : status ≡ bad_batch_limit → OfTable (λ t. (0 < limit) × (limit ≤ page_limit t.page_size) → ⊥) table
-  pub has_limit : status ≢ bad_length → status ≢ no_channels → status ≢ bad_batch_limit
-      → OfTable (λ t. (0 < limit) × (limit ≤ page_limit t.page_size)) table
-
--- why no sender can be created of a table with this limit
-pub record Refuses (table : Option RamTable) (limit status : ℕ) : Type 0 where
-  pub is_named : IsOneOf (no_memory ∷ bad_batch_limit ∷ []) status
-  pub bad_limit : status ≡ bad_batch_limit → OfTable (λ t. (0 < limit) × (limit ≤ page_limit t.page_size) → ⊥) table
-  pub has_limit : status ≢ bad_batch_limit → OfTable (λ t. (0 < limit) × (limit ≤ page_limit t.page_size)) table
-
 -- the place that C names, and the set of some places
 abbrev pub place_of : NamedPlace → Place
 place_of named = place_at named.block named.page
@@ -314,27 +282,6 @@ pub record HandsOutWorker (status : ℕ) (old new : MultiState) (made : Option H
   pub wrong : status ≡ out_of_turn → OfRound (λ r. 0 < length r.seats) old → ⊥
   pub in_turn : status ≢ out_of_turn → OfRound (λ r. 0 < length r.seats) old
 
--- One step of a worker, from the pages of an image.
-pub record StepsOn (image : Image) (status : ℕ) (old new : ChannelWork) : Type 0 where
-  pub is_named : IsOneOf (done ∷ running ∷ no_memory ∷ []) status
-  pub made : Result (Unit {0}) NoMemory
-  pub stepped : HasStepped image made old new
-  pub is_made : IsOk made ↔ (status ≢ no_memory)
-  pub ended : status ≡ done → HasEnded new.hand
-  pub goes_on : status ≡ running → HasEnded new.hand → ⊥
-  pub packed : (before drained : List ℕ) → HasPacked image before (drained ++ old.text) old → HasPacked image before (drained ++ new.text) new
-
--- The effect of `step` with blocks that hold these bytes.
-pub record Steps (blocks : List (List ℕ)) (status : ℕ) (old new : HeldWorker) : Type 0 where
-  pub is_named : IsOneOf (done ∷ running ∷ no_memory ∷ bad_length ∷ []) status
-  pub fits : status ≢ bad_length → FitTable old.worker.terms.table blocks
-  pub unfit : status ≡ bad_length → FitTable old.worker.terms.table blocks → ⊥
-  pub steps : status ≢ bad_length → StepsOn (lent_image old.worker.terms.table blocks) status old.worker new.worker
-  pub same : status ≡ bad_length → new ≡ old
-  pub packs : FitTable old.worker.terms.table blocks → (sent given more : List ℕ)
-      → Packs (lent_image old.worker.terms.table blocks) sent given more old → Packs (lent_image old.worker.terms.table blocks) sent given more new
-  pub same_waiting : new.drained ≡ old.drained
-
 -- The effect of `drain` of a worker: it copies out the next bytes of its channel. 0 says that none
 -- is left.
 pub record DrainsWorker (count : ℕ) (out : List ℕ) (old new : HeldWorker) : Type 0 where
@@ -376,20 +323,6 @@ pub record TakesBackWorker (status : ℕ) (w : HeldWorker) (old new : MultiState
   pub same : status ≢ done → IsSame new old × (left ≡ Some w)
   pub wrong : status ≡ out_of_turn → OfRound (CanComeBack w) old → ⊥
   pub in_turn : status ≢ out_of_turn → OfRound (CanComeBack w) old
-
--- the worker and the sender, where both are there
-abbrev pub AreOfRound : Option HeldWorker → Option Multi → Type 0
-AreOfRound None multi = ⊤
-AreOfRound (Some w) None = ⊤
-AreOfRound (Some w) (Some m) = IsOfRound w.worker m.state
-
--- The call is passed a sender and a worker, and leaves the sender, and the worker or none. This
--- holds of them.
-abbrev pub TurnsBoth : ℕ → Option HeldWorker → Option HeldWorker → Option Multi → Option Multi → Type 0
-TurnsBoth status None left old new = ⊤
-TurnsBoth status (Some w) left None new = ⊤
-TurnsBoth status (Some w) left (Some old) None = ⊥
-TurnsBoth status (Some w) left (Some old) (Some new) = ChangesMulti (λ was is. TakesBackWorker status w was is left) old new
 
 -- The effect of `end_round`, once all workers were given back: it sends a round of the dirty pages
 -- of the image.
@@ -471,4 +404,41 @@ pub record DrainsChannel (channel count : ℕ) (out : List ℕ) (old new : Multi
   pub given_up : HasNothingLeft old → (count ≡ 0) × HasNothingLeft new
   pub all : IsOver old → count ≡ 0 → 0 < length out → (setting : MultiSetting) (drained : Drained) (rounds : List DealtRound) → SendsTo setting drained rounds old
       → channel < setting.channels → drained.channel channel ≡ channel_text setting.uuid rounds channel
+  pub same : (IsOver old → ⊥) → (count ≡ 0) × (new ≡ old)
+
+-- ---- `drain` in two calls, for a caller whose output may take fewer bytes than it is offered
+
+-- The next bytes of the main stream are copied out, and still wait.
+abbrev pub PeeksMain : ℕ → List ℕ → Multi → Multi → Type 0
+PeeksMain count out old new = RefillsMain old new × ShowsFront count out (waiting_in new.main)
+
+-- The result of `waiting`: the number of bytes that can be copied out, until more is written.
+abbrev pub CountsMain : ℕ → Multi → Multi → Type 0
+CountsMain count old new = RefillsMain old new × (count ≡ length (waiting_in new.main))
+
+-- The first `len` bytes that wait of the main stream count as copied out, or all of them.
+pub record SkipsMain (len count : ℕ) (old new : Multi) : Type 0 where
+  pub counts : count ≡ min len (length (waiting_in old.main))
+  pub still : waiting_in new.main ≡ drop count (waiting_in old.main)
+  pub same_state : new.state ≡ old.state
+  pub hands : (setting : MultiSetting) (given : Drained) (rounds : List DealtRound) → Sends setting given rounds old
+      → Sends setting (with_main given (take count (waiting_in old.main))) rounds new
+  pub hands_in_round : (setting : MultiSetting) (image : Image) (dirty : List Place) (given : Drained) (rounds : List DealtRound)
+      → InRound setting image dirty given rounds old → InRound setting image dirty (with_main given (take count (waiting_in old.main))) rounds new
+
+-- what can be copied out of a channel: nothing before the streams are ended
+abbrev pub left_at : MultiState → ℕ → List ℕ
+left_at (Idle s) channel = []
+left_at (Round r) channel = []
+left_at (Over e) channel = left_of e channel
+
+-- Of streams that are ended the first `len` bytes that are left of a channel count as copied out,
+-- or all of them, and of streams that were given up none.
+pub record SkipsChannel (channel len count : ℕ) (old new : MultiState) : Type 0 where
+  pub counts : IsOver old → (setting : MultiSetting) (drained : Drained) (rounds : List DealtRound) → SendsTo setting drained rounds old
+      → channel < setting.channels → count ≡ min len (length (left_at old channel))
+  pub hands : IsOver old → (setting : MultiSetting) (drained : Drained) (rounds : List DealtRound) → SendsTo setting drained rounds old
+      → SendsTo setting (with_channel drained channel (take count (left_at old channel))) rounds new
+  pub ended : IsOver old → IsOver new × (is_left_open new ≡ is_left_open old)
+  pub given_up : HasNothingLeft old → (count ≡ 0) × HasNothingLeft new
   pub same : (IsOver old → ⊥) → (count ≡ 0) × (new ≡ old)

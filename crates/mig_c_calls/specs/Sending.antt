@@ -1,10 +1,9 @@
--- A sender of C: the stream that it writes, and the bytes that were copied out.
-use Rattle.std.specs.Prelude.{◌≡◌, ◌≢◌, ◌≤◌, ◌<◌, ◌++◌, ℕ, List, [], ◌∷◌, drop, map, min, take, length, Option, None, Some, ⊤}
+-- A sender of one stream: the stream that it writes, and the bytes that were copied out.
+use Rattle.std.specs.Prelude.{◌≡◌, ◌≢◌, ◌≤◌, ◌<◌, ◌++◌, ℕ, Bool, true, false, List, [], ◌∷◌, drop, map, min, take, length, Option, None, Some, ⊤}
 use Rattle.mig_mem.specs.RamTable.{RamTable}
 use Rattle.mig_mem.specs.declared.place.Place.{Place}
 use Rattle.mig_mem.specs.Place.{IsPlace}
 use Rattle.mig_mem.specs.Image.{Page}
-use Rattle.mig_stream.specs.Format.{most_name_bytes}
 use Rattle.mig_stream.specs.Written.{RoundPart, single, written_so_far}
 use Rattle.mig_stream.specs.MachineWritten.{machine_written, machine_closed}
 use Rattle.mig_stream.specs.Writer.{PartSoFar, HasPut}
@@ -12,6 +11,7 @@ use Rattle.mig_send.specs.Sending.{HasSentDrained}
 use Rattle.mig_c_calls.specs.declared.sender.Sender.{Sender}
 use Rattle.mig_c_calls.specs.declared.sender.Sending.{Sending}
 use Rattle.mig_c_calls.specs.declared.sender.Sending.TheVariants.{Idle, Round, Over, LeftOpen}
+use Rattle.mig_c_calls.specs.Front.{ShowsFront}
 use Rattle.mig_c_calls.specs.Named.{IsNamed}
 use Rattle.mig_c_calls.specs.Status.{IsOneOf, done, no_memory, no_page, bad_length, out_of_turn}
 
@@ -89,13 +89,6 @@ Starts name table None = ⊥
 Starts name None (Some s) = ⊥
 Starts name (Some table) (Some s) = Sends table name [] [] s × IsIdle s.state
 
--- The effect of `new_named` with a name.
-pub record StartsNamed (name : List ℕ) (table : Option RamTable) (status : ℕ) (made : Option Sender) : Type 0 where
-  pub is_named : IsOneOf (done ∷ no_memory ∷ bad_length ∷ []) status
-  pub starts : status ≡ done → Starts (Some name) table made
-  pub long : status ≡ bad_length → most_name_bytes < length name
-  pub short : status ≢ bad_length → length name ≤ most_name_bytes
-
 -- The effect of `begin_round`.
 pub record Begins (status : ℕ) (old new : Sending) : Type 0 where
   pub is_named : IsOneOf (done ∷ no_memory ∷ out_of_turn ∷ []) status
@@ -148,7 +141,7 @@ pub record Cancels (status : ℕ) (old new : Sending) : Type 0 where
   pub wrong : status ≡ out_of_turn → IsOpen old → ⊥
   pub in_turn : status ≢ out_of_turn → IsOpen old
 
--- The effect of `finish`.
+-- The stream is ended with its end byte.
 pub record Finishes (status : ℕ) (old new : Sending) : Type 0 where
   pub is_named : IsOneOf (done ∷ no_memory ∷ out_of_turn ∷ []) status
   pub ends : status ≡ done → IsEnded new
@@ -157,7 +150,7 @@ pub record Finishes (status : ℕ) (old new : Sending) : Type 0 where
   pub wrong : status ≡ out_of_turn → IsIdle old → ⊥
   pub in_turn : status ≢ out_of_turn → IsIdle old
 
--- The effect of `finish_open`.
+-- The stream is ended without it, after the footer of RAM's END.
 pub record FinishesOpen (status : ℕ) (old new : Sending) : Type 0 where
   pub is_named : IsOneOf (done ∷ no_memory ∷ out_of_turn ∷ []) status
   pub ends : status ≡ done → IsLeftOpen new
@@ -165,6 +158,11 @@ pub record FinishesOpen (status : ℕ) (old new : Sending) : Type 0 where
   pub same : status ≢ done → new ≡ old
   pub wrong : status ≡ out_of_turn → IsIdle old → ⊥
   pub in_turn : status ≢ out_of_turn → IsIdle old
+
+-- what `finish` does, which ends the stream with its end byte or leaves it open
+abbrev pub FinishesAs : Bool → ℕ → Sending → Sending → Type 0
+FinishesAs false status old new = Finishes status old new
+FinishesAs true status old new = FinishesOpen status old new
 
 -- the stream of these rounds, with its end byte
 abbrev pub whole_stream : Option (List ℕ) → RamTable → List (List Page) → List ℕ
@@ -179,9 +177,10 @@ open_stream name table rounds = machine_written name table (map RoundPart rounds
 abbrev pub text_so_far : RamTable → List (List Page) → List ℕ
 text_so_far table rounds = written_so_far table (map RoundPart rounds)
 
--- The effect of `drain`: it copies the next `count` bytes to the front of a buffer, which it fills if
--- that many bytes were drained of the stream's writer. If there are none between two rounds, all bytes written so far were copied out; if there are none after the
--- end of the stream, all of it was. An open round stays open, with its pages.
+-- The effect of `drain`: it copies the next `count` bytes to the front of a buffer, which it fills
+-- if that many bytes were drained of the stream's writer. If there are none between two rounds, all
+-- bytes written so far were copied out; if there are none after the end of the stream, all of it
+-- was. An open round stays open, with its pages.
 pub record Drains (count : ℕ) (out : List ℕ) (old new : Sender) : Type 0 where
   pub fits : count ≤ length out
   pub fills : count < length out → waiting new ≡ []
@@ -225,16 +224,9 @@ pub record Hands (count : ℕ) (out : List ℕ) (old new : Sender) : Type 0 wher
 
 -- ---- `drain` in two calls, for a caller whose output may take fewer bytes than it is offered
 
--- The first bytes that wait are copied to the front of a buffer, as many as there is room for. They
--- still wait.
-pub record Shows (count : ℕ) (out : List ℕ) (s : Sender) : Type 0 where
-  pub fits : count ≤ length out
-  pub within : count ≤ length (waiting s)
-  pub has_front : take count out ≡ take count (waiting s)
-  pub none : count ≡ 0 → 0 < length out → waiting s ≡ []
-
+-- The first bytes that wait are copied out, and still wait.
 abbrev pub Peeks : ℕ → List ℕ → Sender → Sender → Type 0
-Peeks count out old new = Refills old new × Shows count out new
+Peeks count out old new = Refills old new × ShowsFront count out (waiting new)
 
 -- The result of `waiting`: the number of bytes that can be copied out, until more is written.
 abbrev pub Counts : ℕ → Sender → Sender → Type 0

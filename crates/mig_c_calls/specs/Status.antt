@@ -10,8 +10,8 @@ done = 0
 abbrev pub no_memory : ℕ
 no_memory = 60
 
--- the numbers of a sender's faults: no channel or more than 255; a batch limit of 0 or above the
--- pages of a packet
+-- the numbers of a sender's faults: more than 255 channels; a batch limit of 0 or above the pages
+-- of a packet
 abbrev pub channels : ℕ
 channels = 61
 
@@ -32,7 +32,7 @@ stream_truncated = 34
 abbrev pub bad_page_size : ℕ
 bad_page_size = 101
 
--- no channel, or more than 255
+-- a load of more than 255 channels
 abbrev pub bad_channels : ℕ
 bad_channels = 103
 
@@ -56,7 +56,8 @@ no_page = 107
 abbrev pub bad_length : ℕ
 bad_length = 108
 
--- a call out of turn: a round is open, or none is, or the stream is ended
+-- a call out of turn: a round is open, or none is, or the stream is ended, or the call is for a
+-- send of the other kind
 abbrev pub out_of_turn : ℕ
 out_of_turn = 109
 

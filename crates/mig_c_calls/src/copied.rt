@@ -1,12 +1,12 @@
-//! The pages of one batch in a buffer that C lends, one after another, as the memory that a step of
-//! a worker reads.
+//! The pages of one batch, each in a buffer that C lends, as the memory that a step of a worker
+//! reads.
 
-ghost use Rattle.std.specs.Prelude.{◌≡◌, ◌+◌, ◌*◌, ◌<◌, ◌≤◌, ◌==◌, length};
+ghost use Rattle.std.specs.Prelude.{◌≡◌, ◌<◌, ◌≤◌, ◌==◌, length};
 ghost use Rattle.std.specs.List.{position};
 ghost use Rattle.mig_mem.specs.RamTable.{IsTable};
 ghost use Rattle.mig_mem.specs.Image.{content_at};
 ghost use Rattle.mig_mem.specs.Place.{IsPlace};
-ghost use Rattle.mig_mem.specs.Parts.{part_at};
+ghost use Rattle.mig_mem.specs.Lent.{lent_bytes};
 ghost use Rattle.mig_mem.specs.PageSize.{IsPageSize};
 ghost use Rattle.mig_c_calls.specs.Copied.{index_in, copied_image, HasPages};
 
@@ -14,24 +14,25 @@ use mig_mem::{GuestPages, Place, Table};
 use std::alloc::Global;
 use std::marker::Model;
 
-/// A memory of a table that has the pages of one batch in a buffer, one after another. Every other
-/// page has the content of the first: the step that packs the batch reads none of them.
+/// A memory of a table that has these contents at the pages of one batch. Every other page has the
+/// content of the first: the step that packs the batch reads none of them.
 #[derive(Drop)]
 pub(crate) struct CopiedPages<'a> {
     table: &'a Table<Global>,
     pages: &'a [u64],
-    bytes: &'a [u8],
+    contents: &'a [&'a [u8]],
 }
 
 impl<'a> Model for CopiedPages<'a> {
     ghost use Rattle.mig_mem.specs.Image.{Image};
+    ghost use Rattle.mig_mem.specs.Lent.{lent_bytes};
     ghost use Rattle.mig_c_calls.specs.Copied.{copied_image, HasPages};
 
     ghost Value = { Image };
 
-    ghost view = { λ m. copied_image m.table.now m.pages.now m.bytes.now };
+    ghost view = { λ m. copied_image m.table.now m.pages.now (lent_bytes m.contents.now) };
 
-    ghost invariant = { λ m. HasPages m.table.now m.pages.now m.bytes.now };
+    ghost invariant = { λ m. HasPages m.table.now m.pages.now (lent_bytes m.contents.now) };
 }
 
 // Returns the first index of a page in `pages`.
@@ -51,29 +52,20 @@ fn index_of(pages: &[u64], page: u64) -> usize
     }
 }
 
-// Returns one of the parts of `size` bytes.
-fn part_of(bytes: &[u8], size: u64, part: usize) -> &[u8]
-    requires { part * size + size ≤ length bytes.now }
-    ensures { result.now ≡ part_at size bytes.now part }
-{
-    let start = part * size as usize;
-    &bytes[start..start + size as usize]
-}
-
 impl<'a> CopiedPages<'a> {
-    /// Creates the memory of `table` whose `pages` are in `bytes`.
+    /// Creates the memory of `table` whose `pages` have these `contents`.
     pub(crate) fn new(
         table: &'a Table<Global>,
         pages: &'a [u64],
-        bytes: &'a [u8],
+        contents: &'a [&'a [u8]],
     ) -> CopiedPages<'a>
-        requires { HasPages table.now pages.now bytes.now }
-        ensures { result ≡ copied_image table.now pages.now bytes.now }
+        requires { HasPages table.now pages.now (lent_bytes contents.now) }
+        ensures { result ≡ copied_image table.now pages.now (lent_bytes contents.now) }
     {
         CopiedPages {
             table,
             pages,
-            bytes,
+            contents,
         }
     }
 
@@ -82,8 +74,8 @@ impl<'a> CopiedPages<'a> {
         requires { IsPlace self.now.table place }
         ensures { result.now ≡ content_at self.now place }
     {
-        let i = index_of(self.pages, place.page);
-        part_of(self.bytes, self.table.page_size(), i)
+        let contents = self.contents;
+        contents[index_of(self.pages, place.page)]
     }
 }
 

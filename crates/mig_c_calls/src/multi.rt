@@ -8,12 +8,14 @@ ghost use Rattle.mig_mem.specs.Bitmaps.{lent_words};
 ghost use Rattle.mig_stream.specs.Format.{most_name_bytes};
 ghost use Rattle.mig_packet.specs.PageSize.{page_limit as most_pages};
 ghost use Rattle.mig_send.specs.MultiRound.{TakesBack};
+ghost use Rattle.mig_c_calls.specs.Status.{done};
 ghost use Rattle.mig_c_calls.specs.declared.sending.MultiState.TheVariants.{Idle, Round, Over};
-ghost use Rattle.mig_c_calls.specs.Multi.{MultiSetting, Starts, place_of, set_of, ChangesMulti, BeginsRound, Deals, BeginsBitmaps, DealsBitmaps, TakesBackRound, GivesNext, HandsOutWorker, CanComeBack, TakesBackWorker, IsOfRound, EndsRound, CancelsRound, EndsStreams, Finishes, DrainsMain, RefillsMain, DrainsChannel, IsOpen, HasNothingLeft};
+ghost use Rattle.mig_c_calls.specs.Multi.{MultiSetting, Starts, place_of, set_of, ChangesMulti, BeginsRound, Deals, BeginsBitmaps, DealsBitmaps, TakesBackRound, GivesNext, HandsOutWorker, CanComeBack, TakesBackWorker, IsOfRound, EndsRound, CancelsRound, EndsStreams, Finishes, DrainsMain, PeeksMain, CountsMain, SkipsMain, RefillsMain, DrainsChannel, SkipsChannel, left_of, left_at, IsOpen, HasNothingLeft};
+ghost use Rattle.mig_c_calls.specs.Front.{ShowsFront};
 
 use crate::sending::{DealtRound, EndedStreams, HeldWorker, Multi, MultiState, NamedPlace};
 use crate::status::{BAD_LENGTH, DONE, NO_MEMORY, NO_PAGE, OUT_OF_TURN};
-use crate::waiting::{Waiting, copy_front, undrained};
+use crate::waiting::{Waiting, copy_front, show_front, undrained};
 use mig_mem::{Dirty, NoMemory, Place, Table};
 use mig_send::{MultiRound, MultiSender, Sent};
 use std::alloc::Global;
@@ -154,7 +156,8 @@ fn next_worker(alloc: Global, dealt: &mut DealtRound) -> Result<HeldWorker, NoMe
 
 // Gives out the worker of the next channel.
 fn hand_out_worker(alloc: Global, state: &mut MultiState) -> (u32, Option<HeldWorker>)
-    ensures { HandsOutWorker result.0 state.old state.new result.1 }
+    ensures hands { HandsOutWorker result.0 state.old state.new result.1 }
+    ensures made { result.0 ≡ done ↔ IsSome result.1 }
 {
     let MultiState::Round(dealt) = state else {
         return (OUT_OF_TURN, None);
@@ -205,7 +208,8 @@ fn given_back(dealt: &mut DealtRound, worker: HeldWorker) -> Result<(), HeldWork
 // Takes back a worker, or returns it if it isn't taken.
 fn give_back(state: &mut MultiState, worker: HeldWorker) -> (u32, Option<HeldWorker>)
     requires { IsOfRound worker.worker state.old }
-    ensures { TakesBackWorker result.0 worker state.old state.new result.1 }
+    ensures takes { TakesBackWorker result.0 worker state.old state.new result.1 }
+    ensures gone { result.0 ≡ done ↔ result.1 ≡ None }
 {
     let MultiState::Round(dealt) = state else {
         return (OUT_OF_TURN, Some(worker));
@@ -354,6 +358,71 @@ fn drain_main(multi: &mut Multi, out: &mut [u8]) -> usize
     multi.main.hand_out(out)
 }
 
+// Copies out the next bytes of the main stream, which still wait.
+fn peek_main(multi: &mut Multi, out: &mut [u8]) -> usize
+    ensures { PeeksMain result out.new multi.old multi.new }
+{
+    refill_main(multi);
+    show_front(multi.main.waiting(), out)
+}
+
+// Returns how many bytes of the main stream wait.
+fn count_main(multi: &mut Multi) -> usize
+    ensures { CountsMain result multi.old multi.new }
+{
+    refill_main(multi);
+    multi.main.waiting().len()
+}
+
+// Returns the bytes that are left of a channel of ended streams.
+fn left_of(streams: &EndedStreams, channel: usize) -> &[u8]
+    ensures { result.now ≡ left_of streams.now channel }
+{
+    if channel >= streams.sent.channels.len() {
+        return &[];
+    }
+    let bytes = &streams.sent.channels[channel];
+    if channel >= streams.given.len() {
+        return bytes;
+    }
+    undrained(bytes, streams.given[channel])
+}
+
+// Returns the bytes that are left of a channel: none before the end.
+fn left_at(state: &MultiState, channel: usize) -> &[u8]
+    ensures { result.now ≡ left_at state.now channel }
+{
+    match state {
+        MultiState::Over(streams) => left_of(streams, channel),
+        _ => &[],
+    }
+}
+
+// Counts the first bytes that are left of a channel of ended streams as copied out.
+fn skip_ended(streams: &mut EndedStreams, channel: usize, len: usize) -> usize
+    ensures { SkipsChannel channel len result (Over streams.old) (Over streams.new) }
+{
+    if channel >= streams.sent.channels.len() || channel >= streams.given.len() {
+        return 0;
+    }
+    let given = streams.given[channel];
+    let count = undrained(&streams.sent.channels[channel], given)
+        .len()
+        .min(len);
+    streams.given[channel] = given + count;
+    count
+}
+
+// Counts the first bytes that are left of a channel as copied out, if the streams are ended.
+fn skip_channel(state: &mut MultiState, channel: usize, len: usize) -> usize
+    ensures { SkipsChannel channel len result state.old state.new }
+{
+    match state {
+        MultiState::Over(streams) => skip_ended(streams, channel, len),
+        _ => 0,
+    }
+}
+
 // Copies out what is left of a channel of ended streams.
 fn drain_ended(streams: &mut EndedStreams, channel: usize, out: &mut [u8]) -> usize
     ensures { DrainsChannel channel result out.new (Over streams.old) (Over streams.new) }
@@ -467,7 +536,8 @@ impl Multi {
     /// Gives out the worker of the next channel. Returns the status, `DONE`, `NO_MEMORY` or
     /// `OUT_OF_TURN`, and with `DONE` the worker.
     pub fn worker(&mut self, alloc: Global) -> (u32, Option<HeldWorker>)
-        ensures { ChangesMulti (λ was is. HandsOutWorker result.0 was is result.1) self.old self.new }
+        ensures hands { ChangesMulti (λ was is. HandsOutWorker result.0 was is result.1) self.old self.new }
+        ensures made { result.0 ≡ done ↔ IsSome result.1 }
     {
         hand_out_worker(alloc, &mut self.state)
     }
@@ -490,7 +560,8 @@ impl Multi {
     /// `OUT_OF_TURN`, and the worker if it isn't taken.
     pub fn give_back(&mut self, worker: HeldWorker) -> (u32, Option<HeldWorker>)
         requires { IsOfRound worker.worker self.old.state }
-        ensures { ChangesMulti (λ was is. TakesBackWorker result.0 worker was is result.1) self.old self.new }
+        ensures takes { ChangesMulti (λ was is. TakesBackWorker result.0 worker was is result.1) self.old self.new }
+        ensures gone { result.0 ≡ done ↔ result.1 ≡ None }
     {
         give_back(&mut self.state, worker)
     }
@@ -520,23 +591,13 @@ impl Multi {
         DONE
     }
 
-    /// Ends the streams, where no round is open. Returns the status: `DONE`, `NO_MEMORY` or
-    /// `OUT_OF_TURN`.
-    pub fn finish(&mut self, alloc: Global) -> u32
-        ensures { ChangesMulti (Finishes false result) self.old self.new }
+    /// Ends the streams, where no round is open: the main stream with its end byte, or left open
+    /// after the footer of RAM's END, so that the caller goes on with the sections of devices and
+    /// the end byte. Returns the status: `DONE`, `NO_MEMORY` or `OUT_OF_TURN`.
+    pub fn finish(&mut self, alloc: Global, left_open: bool) -> u32
+        ensures { ChangesMulti (Finishes left_open result) self.old self.new }
     {
-        let (state, status) = finished(alloc, take_state(alloc, self), false);
-        self.state = state;
-        status
-    }
-
-    /// Ends the streams, where no round is open, and leaves the main stream open after the footer
-    /// of RAM's END: the caller goes on with the sections of devices and the end byte. Returns the
-    /// status: `DONE`, `NO_MEMORY` or `OUT_OF_TURN`.
-    pub fn finish_open(&mut self, alloc: Global) -> u32
-        ensures { ChangesMulti (Finishes true result) self.old self.new }
-    {
-        let (state, status) = finished(alloc, take_state(alloc, self), true);
+        let (state, status) = finished(alloc, take_state(alloc, self), left_open);
         self.state = state;
         status
     }
@@ -554,5 +615,50 @@ impl Multi {
         ensures { ChangesMulti (DrainsChannel channel result out.new) self.old self.new }
     {
         drain_channel(&mut self.state, channel, out)
+    }
+    /// Copies the next bytes of the main stream to the front of `out`, and they still wait. Returns
+    /// how many.
+    pub fn peek(&mut self, out: &mut [u8]) -> usize
+        ensures { PeeksMain result out.new self.old self.new }
+    {
+        peek_main(self, out)
+    }
+
+    /// Copies the next bytes that are left of a channel of ended streams to the front of `out`, and
+    /// they are still left. Returns how many, or 0 before the end.
+    pub fn peek_channel(&self, channel: usize, out: &mut [u8]) -> usize
+        ensures { ShowsFront result out.new (left_at self.now.state channel) }
+    {
+        show_front(left_at(&self.state, channel), out)
+    }
+
+    /// Counts the first bytes of the main stream that wait as copied out: `len` of them, or all.
+    /// Returns how many.
+    pub fn skip(&mut self, len: usize) -> usize
+        ensures { SkipsMain len result self.old self.new }
+    {
+        self.main.skip(len)
+    }
+
+    /// Counts the first bytes that are left of a channel of ended streams as copied out: `len` of
+    /// them, or all. Returns how many, or 0 before the end.
+    pub fn skip_channel(&mut self, channel: usize, len: usize) -> usize
+        ensures { ChangesMulti (SkipsChannel channel len result) self.old self.new }
+    {
+        skip_channel(&mut self.state, channel, len)
+    }
+
+    /// Returns how many bytes of the main stream wait to be copied out.
+    pub fn waiting(&mut self) -> usize
+        ensures { CountsMain result self.old self.new }
+    {
+        count_main(self)
+    }
+
+    /// Returns how many bytes are left of a channel of ended streams, or 0 before the end.
+    pub fn waiting_channel(&self, channel: usize) -> usize
+        ensures { result ≡ length (left_at self.now.state channel) }
+    {
+        left_at(&self.state, channel).len()
     }
 }

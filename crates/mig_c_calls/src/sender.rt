@@ -3,7 +3,7 @@
 
 ghost use Rattle.std.specs.Prelude.{[], ◌≡◌, ◌≤◌, IfOk, None, Some, length};
 ghost use Rattle.mig_stream.specs.Format.{most_name_bytes};
-ghost use Rattle.mig_c_calls.specs.Sending.{Starts, Begins, Puts, EndsRound, Cancels, Finishes, FinishesOpen, Changes, Adds, Drains, Refills, Hands, Peeks, Counts, Skips};
+ghost use Rattle.mig_c_calls.specs.Sending.{Starts, Begins, Puts, EndsRound, Cancels, Finishes, FinishesOpen, FinishesAs, Changes, Adds, Drains, Refills, Hands, Peeks, Counts, Skips};
 
 use crate::status::{BAD_LENGTH, DONE, NO_MEMORY, NO_PAGE, OUT_OF_TURN};
 use crate::waiting::{copy_front, undrained};
@@ -115,6 +115,16 @@ fn finished_open(state: Sending) -> (Sending, u32)
         Sending::Over(text) => (Sending::Over(text), OUT_OF_TURN),
         Sending::LeftOpen(text) => (Sending::LeftOpen(text), OUT_OF_TURN),
     }
+}
+
+// Ends the stream with its end byte, or leaves it open.
+fn finished_as(state: Sending, left_open: bool) -> (Sending, u32)
+    ensures { FinishesAs left_open result.1 state result.0 }
+{
+    if left_open {
+        return finished_open(state);
+    }
+    finished(state)
 }
 
 // Takes the state out of a sender, which must get one again.
@@ -283,21 +293,12 @@ impl Sender {
         status
     }
 
-    /// Ends the stream. Returns the status: `DONE`, `NO_MEMORY` or `OUT_OF_TURN`.
-    pub fn finish(&mut self, alloc: Global) -> u32
-        ensures { Changes (Finishes result) self.old self.new }
+    /// Ends the stream with its end byte, or leaves it open after the footer of RAM's END. Returns
+    /// the status: `DONE`, `NO_MEMORY` or `OUT_OF_TURN`.
+    pub fn finish(&mut self, alloc: Global, left_open: bool) -> u32
+        ensures { Changes (FinishesAs left_open result) self.old self.new }
     {
-        let (state, status) = finished(take_state(alloc, self));
-        self.state = state;
-        status
-    }
-
-    /// Ends RAM's sections, and leaves the stream open. Returns the status: `DONE`, `NO_MEMORY` or
-    /// `OUT_OF_TURN`.
-    pub fn finish_open(&mut self, alloc: Global) -> u32
-        ensures { Changes (FinishesOpen result) self.old self.new }
-    {
-        let (state, status) = finished_open(take_state(alloc, self));
+        let (state, status) = finished_as(take_state(alloc, self), left_open);
         self.state = state;
         status
     }

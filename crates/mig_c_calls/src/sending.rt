@@ -89,7 +89,7 @@ impl Drop for Multi {
 }
 
 /// A worker, and the bytes that were drained of its channel last. The table is kept next to it, for
-/// the memory that a call makes of C's blocks.
+/// the memory that a call makes of C's pages.
 #[derive(Drop)]
 pub struct HeldWorker {
     /// The worker.

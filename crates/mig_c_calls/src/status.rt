@@ -6,7 +6,7 @@ pub const DONE: u32 = 0;
 /// An allocation was refused.
 pub const NO_MEMORY: u32 = 60;
 
-/// A sender of no channel, or of more than 255.
+/// A send on more than 255 channels.
 pub const CHANNELS: u32 = 61;
 
 /// A batch limit of 0, or above the pages of a packet.
@@ -21,7 +21,7 @@ pub const STREAM_TRUNCATED: u32 = 34;
 /// A page size other than 4096 and 8192.
 pub const BAD_PAGE_SIZE: u32 = 101;
 
-/// No channel, or more than 255.
+/// A load of more than 255 channels.
 pub const BAD_CHANNELS: u32 = 103;
 
 /// No such source.
@@ -39,7 +39,8 @@ pub const NO_PAGE: u32 = 107;
 /// A buffer of another length than is needed.
 pub const BAD_LENGTH: u32 = 108;
 
-/// A call out of turn: a round is open, or none is, or the stream is ended.
+/// A call out of turn: a round is open, or none is, or the stream is ended, or the call is for a
+/// send of the other kind.
 pub const OUT_OF_TURN: u32 = 109;
 
 /// More pages than a packet has.

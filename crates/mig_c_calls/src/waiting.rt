@@ -1,6 +1,7 @@
 //! Bytes that were drained of a stream, some of which were copied out to C.
 
-ghost use Rattle.std.specs.Prelude.{◌≡◌, ◌↔◌, ◌<◌, ◌≤◌, [], IsTrue, drop, take, length};
+ghost use Rattle.std.specs.Prelude.{◌≡◌, ◌↔◌, ◌<◌, ◌≤◌, [], IsTrue, drop, take, length, min};
+ghost use Rattle.mig_c_calls.specs.Front.{ShowsFront};
 ghost use Rattle.mig_c_calls.specs.Multi.{HandsOutOf, waiting_in};
 
 use std::alloc::Global;
@@ -26,6 +27,14 @@ pub fn copy_front(bytes: &[u8], out: &mut [u8]) -> usize
     let count = bytes.len().min(out.len());
     out[..count].copy_from_slice(&bytes[..count]);
     count
+}
+
+/// Copies the first of some bytes that wait to the front of a buffer, as many as it has room for.
+/// Returns how many.
+pub(crate) fn show_front(bytes: &[u8], out: &mut [u8]) -> usize
+    ensures { ShowsFront result out.new bytes.now }
+{
+    copy_front(bytes, out)
 }
 
 /// Bytes that were drained of a stream: the first ones were copied out, and the others wait.
@@ -68,5 +77,21 @@ impl Waiting {
         let count = copy_front(undrained(&self.bytes, self.given), out);
         self.given += count;
         count
+    }
+    /// Returns the bytes that wait.
+    pub(crate) fn waiting(&self) -> &[u8]
+        ensures { result.now ≡ waiting_in self.now }
+    {
+        undrained(&self.bytes, self.given)
+    }
+
+    /// Counts the first bytes that wait as copied out: `len` of them, or all. Returns how many.
+    pub(crate) fn skip(&mut self, len: usize) -> usize
+        ensures count { result ≡ min len (length (waiting_in self.old)) }
+        ensures rest { waiting_in self.new ≡ drop result (waiting_in self.old) }
+    {
+        let skipped = undrained(&self.bytes, self.given).len().min(len);
+        self.given += skipped;
+        skipped
     }
 }

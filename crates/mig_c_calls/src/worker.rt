@@ -1,35 +1,22 @@
 //! The calls of a worker of a round on several channels. Each worker runs on a thread of the
 //! caller's.
 
-ghost use Rattle.std.specs.Prelude.{◌≡◌, ◌*◌, ◌≤◌, ◌++◌, IsTrue, IsFalse, IfOk, IfErr, IfSome, IfNone, None, List, [], ℕ, length, take, ◌↔◌};
-ghost use Rattle.mig_mem.specs.PageSize.{IsPageSize};
+ghost use Rattle.std.specs.Prelude.{◌≡◌, ◌≤◌, ◌++◌, IsTrue, IsFalse, IfOk, IfErr, IfSome, IfNone, None, List, [], ℕ, length, take, ◌↔◌};
 ghost use Rattle.mig_mem.specs.Image.{Image};
-ghost use Rattle.mig_mem.specs.Lent.{lent_bytes, lent_image, FitTable};
+ghost use Rattle.mig_mem.specs.Lent.{lent_bytes};
 ghost use Rattle.mig_send.specs.ChannelWork.{IsHand, HasClaimed, HasPacked, batch_in};
-ghost use Rattle.mig_c_calls.specs.Multi.{StepsOn, Steps, DrainsWorker, RefillsWorker, waiting_in};
-ghost use Rattle.mig_c_calls.specs.Copied.{HasBatch, OfClaim, ListsPages, NamesBatch, PacksCopied, PacksOn, RefusesPages, EndsChannel, OfBatch};
+ghost use Rattle.mig_c_calls.specs.Multi.{DrainsWorker, RefillsWorker, waiting_in};
+ghost use Rattle.mig_c_calls.specs.Copied.{AreContents, HasBatch, OfClaim, ListsPages, NamesBatch, PacksCopied, PacksOn, RefusesPages, EndsChannel, OfBatch};
 ghost use Rattle.mig_c_calls.specs.Heads.{GivesHead, TakesHead, RefusesHead, WritesOut, flags_of};
 
 use crate::copied::{CopiedPages, page_of_zeros};
 use crate::sending::{HeldWorker, NamedBatch};
 use crate::status::{BAD_LENGTH, DONE, NO_MEMORY, OUT_OF_TURN, RUNNING};
 use crate::waiting::{Waiting, copy_front};
-use mig_mem::{LentMemory, NoMemory};
+use mig_mem::NoMemory;
 use mig_packet::head_len;
 use mig_send::{Batch, ChannelWorker};
 use std::alloc::Global;
-
-// Writes one packet from a memory.
-fn step_on(worker: &mut ChannelWorker<Global>, memory: &LentMemory<'_, Global>) -> u32
-    requires { memory.now.table ≡ worker.old.terms.table }
-    ensures { StepsOn memory.now result worker.old worker.new }
-{
-    match worker.step(memory) {
-        Ok(()) if worker.has_ended() => DONE,
-        Ok(()) => RUNNING,
-        Err(NoMemory) => NO_MEMORY,
-    }
-}
 
 // Drains the bytes that were written to the channel, if no drained byte waits.
 fn refill(held: &mut HeldWorker)
@@ -95,31 +82,35 @@ fn pack_on(worker: &mut ChannelWorker<Global>, memory: &CopiedPages<'_>) -> u32
     }
 }
 
-// Returns whether a buffer is as long as `count` pages.
-fn is_of_pages(bytes: &[u8], size: u64, count: usize) -> bool
-    requires { IsPageSize size }
-    ensures { IsTrue result ↔ (length bytes.now ≡ count * size) }
+// Returns whether there are `count` contents, each of a page of `size` bytes.
+fn are_contents(contents: &[&[u8]], size: u64, count: usize) -> bool
+    ensures { IsTrue result ↔ AreContents size count (lent_bytes contents.now) }
 {
-    let len = bytes.len() as u64;
-    len % size == 0 && len / size == count as u64
+    if contents.len() != count {
+        return false;
+    }
+    for i in 0..count {
+        if contents[i].len() as u64 != size {
+            return false;
+        }
+    }
+    true
 }
 
-// Copies the numbers of the pages of the claimed batch, if the buffer is as long as these pages, or
+// Copies the numbers of the pages of the claimed batch, if there is a content for each of them, or
 // returns why not.
 fn claimed_pages(
     alloc: Global,
     worker: &ChannelWorker<Global>,
-    bytes: &[u8],
+    contents: &[&[u8]],
 ) -> Result<Vec<u64>, u32>
-    ensures ok { IfOk result (λ pages. OfClaim (λ batch number. HasBatch worker.now.terms.table pages.items bytes.now batch) worker.now.terms worker.now.hand) }
-    ensures err { IfErr result (λ status. RefusesPages bytes.now status worker.now) }
+    ensures ok { IfOk result (λ pages. OfClaim (λ batch number. HasBatch worker.now.terms.table pages.items (lent_bytes contents.now) batch) worker.now.terms worker.now.hand) }
+    ensures err { IfErr result (λ status. RefusesPages (lent_bytes contents.now) status worker.now) }
 {
     let Some(batch) = worker.batch() else {
         return Err(OUT_OF_TURN);
     };
-    let table = worker.table();
-    table.keeps_limits();
-    if !is_of_pages(bytes, table.page_size(), batch.pages.len()) {
+    if !are_contents(contents, worker.table().page_size(), batch.pages.len()) {
         return Err(BAD_LENGTH);
     }
     match Vec::from_slice(alloc, &batch.pages) {
@@ -211,20 +202,20 @@ impl HeldWorker {
             return RUNNING;
         }
         self.table.keeps_limits();
-        let zeros = page_of_zeros(self.table.page_size());
-        let memory = CopiedPages::new(&self.table, &[0], zeros);
+        let contents = [page_of_zeros(self.table.page_size())];
+        let memory = CopiedPages::new(&self.table, &[0], &contents);
         end_channel(&mut self.worker, &memory)
     }
 
-    /// Writes the packet of the batch that `next` named, whose pages are in `bytes` one after
-    /// another. Returns the status: `RUNNING`, `NO_MEMORY`, `BAD_LENGTH`, or `OUT_OF_TURN` if no
-    /// batch waits for its packet.
-    pub fn pack(&mut self, alloc: Global, bytes: &[u8]) -> u32
-        ensures { PacksCopied bytes.now result self.old self.new }
+    /// Writes the packet of the batch that `next` named, whose pages have these contents, one for
+    /// each, in the batch's order. Returns the status: `RUNNING`, or the first that applies of
+    /// `OUT_OF_TURN` if no batch waits for its packet, `BAD_LENGTH` and `NO_MEMORY`.
+    pub fn pack(&mut self, alloc: Global, contents: &[&[u8]]) -> u32
+        ensures { PacksCopied (lent_bytes contents.now) result self.old self.new }
     {
-        match claimed_pages(alloc, &self.worker, bytes) {
+        match claimed_pages(alloc, &self.worker, contents) {
             Ok(pages) => {
-                let memory = CopiedPages::new(&self.table, &pages, bytes);
+                let memory = CopiedPages::new(&self.table, &pages, contents);
                 pack_on(&mut self.worker, &memory)
             }
             Err(status) => status,
@@ -250,30 +241,11 @@ impl HeldWorker {
         }
     }
 
-    /// Writes one packet into the worker's channel, from the pages of blocks that are lent for the
-    /// call. Returns the status: `DONE` once the worker has ended, `RUNNING`, `NO_MEMORY` or
-    /// `BAD_LENGTH`.
-    pub fn step(&mut self, blocks: &[&[u8]]) -> u32
-        ensures { Steps (lent_bytes blocks.now) result self.old self.new }
-    {
-        let Some(memory) = LentMemory::new(&self.table, blocks) else {
-            return BAD_LENGTH;
-        };
-        step_on(&mut self.worker, &memory)
-    }
-
     /// Copies the next bytes of the channel to the front of `out`. Returns how many.
     pub fn drain(&mut self, out: &mut [u8]) -> usize
         ensures { DrainsWorker result out.new self.old self.new }
     {
         refill(self);
         self.drained.hand_out(out)
-    }
-
-    /// Returns the number of the worker's channel, from 0.
-    pub fn channel(&self) -> usize
-        ensures { result ≡ self.now.worker.channel }
-    {
-        self.worker.channel()
     }
 }

@@ -35,10 +35,11 @@ use Rattle.mig_in_place.specs.WholeRounds.{HasRoundsAlone}
 use Rattle.mig_in_place.proofs.Exact.{exact_law}
 use Rattle.mig_in_place.proofs.Sendings.{sent_law, machine_sent_law}
 use Rattle.mig_c_calls.specs.Named.{IsLongName}
-use Rattle.mig_c_calls.specs.declared.sending.Multi.{Multi}
+use Rattle.mig_c_calls.specs.declared.send.GuestSend.{GuestSend}
+use Rattle.mig_c_calls.specs.declared.send.GuestSend.TheVariants.{One, Several}
 use Rattle.mig_c_calls.specs.declared.sending.MultiState.{MultiState}
 use Rattle.mig_c_calls.specs.declared.sending.MultiState.TheVariants.{Idle, Round, Over}
-use Rattle.mig_c_calls.specs.Multi.{MultiSetting, AreEnded, all_channels, SendsTo, IsOver, is_left_open, ended_main, with_plain}
+use Rattle.mig_c_calls.specs.Multi.{MultiSetting, AreEnded, all_channels, SendsTo, IsOver, ended_main, with_plain}
 use Rattle.mig_c_loads.specs.Found.{seen_so_far, seen_of_verdict}
 use Rattle.mig_c_loads.specs.InPlace.{settings_into}
 use Rattle.mig_c_loads.specs.ByRounds.{opened}
@@ -178,19 +179,19 @@ counted setting rounds main_text given sending =
     subst (λ (n : ℕ). IsSending setting.table setting.uuid setting.limit n rounds main_text (channels_out setting.channels given))
     (sym (length-map-range_with_len given.channel 0 setting.channels)) sending
 
--- all bytes of an ended sender on several channels are the streams of its rounds
-channels_sent : (setting : MultiSetting) (given : Drained) (rounds : List DealtRound) (sender : Multi) → IsAllOf setting given rounds sender
-    → setting.name ≡ None → is_left_open sender.state ≡ false
+-- all bytes of an ended send on several channels are the streams of its rounds
+channels_sent : (setting : MultiSetting) (given : Drained) (rounds : List DealtRound) (send : GuestSend) → IsAllOf setting given rounds false send
+    → setting.name ≡ None
     → IsTable setting.table × IsSentInAnyOrder setting.table setting.uuid rounds given.main (channels_out setting.channels given)
-channels_sent setting given rounds sender all unnamed closed =
+channels_sent setting given rounds (One s) all unnamed = absurd all
+channels_sent setting given rounds (Several m) all unnamed =
     let table : RamTable = setting.table in
     let outs : List (List ℕ) = channels_out setting.channels given in
     let texts : outs ≡ channel_texts setting.uuid setting.channels rounds =
     same_map given.channel (channel_text setting.uuid rounds) 0 setting.channels (λ i below. all.all_of_channels i (omega (arith, below))) in
-    let sending = over_sending setting (with_plain given all.sends.0) rounds sender.state outs all.is_over all.sends.2 texts in
+    let sending = over_sending setting (with_plain given all.sends.0) rounds m.state outs all.is_over all.sends.2 texts in
     let main_is : given.main ≡ main table (length rounds) =
-    all.all_of_main ∙ ap (λ (b : Bool). ended_main b setting.name table (length rounds)) closed
-    ∙ ap (λ (o : Option (List ℕ)). ended_main false o table (length rounds)) unnamed in (
+    all.all_of_main ∙ ap (λ (o : Option (List ℕ)). ended_main false o table (length rounds)) unnamed in (
       sending.is_set.has_table,
       record {
         batch_limit = setting.limit;
@@ -204,9 +205,9 @@ channels_sent setting given rounds sender all unnamed closed =
 -- taken by a load into blocks of the same table, they leave its rounds on top of what the blocks
 -- held, and the load is done
 pub channels_law : DrainedChannelsAreLoaded
-channels_law = λ setting given rounds sender all unnamed closed before after load ended fit fit_after stands.
+channels_law = λ setting given rounds send all unnamed before after load ended fit fit_after stands.
     let table : RamTable = setting.table in
-    let sent = channels_sent setting given rounds sender all unnamed closed in
+    let sent = channels_sent setting given rounds send all unnamed in
     let law = sent_law setting.uuid (2 ^ 40) (lent_image table before) rounds given.main ended (channels_out setting.channels given)
     (lent_image table after) load.rounds load.verdict sent.0 (lent_is_image table before fit)
     (lent_is_image table after fit_after) sent.1 sent.0.has_room stands.is_answer in
@@ -214,7 +215,8 @@ channels_law = λ setting given rounds sender all unnamed closed before after lo
 
 -- ---- by whole rounds
 
--- If a load is done, a memory that has the rounds counted alone is the one that the load stands for.
+-- If a load is done, a memory that has the rounds counted alone is the one that the load stands
+-- for.
 alone_is : (given : LoadSettings) (uuid : List ℕ) (first memory kept : Image) (texts : Texts) (k : ℕ) (v : Verdict) → IsTable first.table → IsImage first
     → IsImage memory → v ≡ Done → IsInPlaceAnswer given uuid first texts memory k v → HasRoundsAlone (for_table first.table given) uuid first texts k kept
     → kept ≡ memory
@@ -228,9 +230,9 @@ alone_is given uuid first memory kept texts k v is_table is_image is_memory done
 
 -- so are the blocks of a load by whole rounds
 pub by_rounds_law : DrainedChannelsAreLoadedByRounds
-by_rounds_law = λ setting given rounds sender all unnamed closed before after load ended fit is_memory stands alone.
+by_rounds_law = λ setting given rounds send all unnamed before after load ended fit is_memory stands alone.
     let table : RamTable = setting.table in
-    let sent = channels_sent setting given rounds sender all unnamed closed in
+    let sent = channels_sent setting given rounds send all unnamed in
     let first : Image = lent_image table before in
     let outs : List (List ℕ) = channels_out setting.channels given in
     let is_first : IsImage first = lent_is_image table before fit in
@@ -254,30 +256,42 @@ goes_on false None table n behind = (
       ∙ append_assoc (machine_written None table (replicate n FlushPart)) (end_byte ∷ []) behind,
 )
 
--- all bytes of a sender on channels with a machine's name, or left open, whatever follows in the
--- main stream, leave its rounds on top of what the blocks held, and the load is done
-pub machine_law : DrainedMachineIsLoaded
-machine_law = λ setting given rounds sender all short behind before after load ended fit fit_after stands.
+-- all bytes of a send on channels with a machine's name, or left open, whatever follows in the main
+-- stream, are the streams of its rounds
+machine_sent : (setting : MultiSetting) (given : Drained) (rounds : List DealtRound) (left_open : Bool) (send : GuestSend) (behind : List ℕ)
+    → IsAllOf setting given rounds left_open send → (IsLongName setting.name → ⊥)
+    → IsTable setting.table × IsMachineSentInAnyOrder setting.table setting.uuid rounds (given.main ++ behind) (channels_out setting.channels given)
+machine_sent setting given rounds left_open (One s) behind all short = absurd all
+machine_sent setting given rounds left_open (Several m) behind all short =
     let table : RamTable = setting.table in
     let n : ℕ = length rounds in
     let outs : List (List ℕ) = channels_out setting.channels given in
     let texts : outs ≡ channel_texts setting.uuid setting.channels rounds =
     same_map given.channel (channel_text setting.uuid rounds) 0 setting.channels (λ i below. all.all_of_channels i (omega (arith, below))) in
-    let sending = over_sending setting (with_plain given all.sends.0) rounds sender.state outs all.is_over all.sends.2 texts in
-    let on = goes_on (is_left_open sender.state) setting.name table n behind in
-    let sent : IsMachineSentInAnyOrder table setting.uuid rounds (given.main ++ behind) outs = record {
-      batch_limit = setting.limit;
-      name = setting.name;
-      has_name = short_name setting.name short;
-      ram = machine_written setting.name table (replicate n FlushPart);
-      behind = on.0;
-      has_main = ap (λ (l : List ℕ). l ++ behind) all.all_of_main ∙ on.1;
-      in_order = outs;
-      is_sending = record { is_sending = counted setting rounds (main table n) given sending; has_main = refl };
-      is_permutation = IsPermutation-refl outs;
-    } in
-    let is_table : IsTable table = sending.is_set.has_table in
+    let sending = over_sending setting (with_plain given all.sends.0) rounds m.state outs all.is_over all.sends.2 texts in
+    let on = goes_on left_open setting.name table n behind in (
+      sending.is_set.has_table,
+      record {
+        batch_limit = setting.limit;
+        name = setting.name;
+        has_name = short_name setting.name short;
+        ram = machine_written setting.name table (replicate n FlushPart);
+        behind = on.0;
+        has_main = ap (λ (l : List ℕ). l ++ behind) all.all_of_main ∙ on.1;
+        in_order = outs;
+        is_sending = record { is_sending = counted setting rounds (main table n) given sending; has_main = refl };
+        is_permutation = IsPermutation-refl outs;
+      },
+    )
+
+-- taken by a load into blocks of the same table, they leave its rounds on top of what the blocks
+-- held, and the load is done
+pub machine_law : DrainedMachineIsLoaded
+machine_law = λ setting given rounds left_open send all short behind before after load ended fit fit_after stands.
+    let table : RamTable = setting.table in
+    let outs : List (List ℕ) = channels_out setting.channels given in
+    let sent = machine_sent setting given rounds left_open send behind all short in
     let law = machine_sent_law (settings_into table Machine None) setting.uuid (lent_image table before) rounds
-    (given.main ++ behind) ended outs (lent_image table after) load.rounds load.verdict is_table
-    (lent_is_image table before fit) (lent_is_image table after fit_after) refl (none_lets (length outs) rounds) refl sent is_table.has_room stands.is_answer in
+    (given.main ++ behind) ended outs (lent_image table after) load.rounds load.verdict sent.0
+    (lent_is_image table before fit) (lent_is_image table after fit_after) refl (none_lets (length outs) rounds) refl sent.1 sent.0.has_room stands.is_answer in
     ((ap (λ (v : Verdict). seen_of_verdict load.rounds v) law.0, law.1), law.2)

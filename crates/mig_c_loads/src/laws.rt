@@ -1,10 +1,10 @@
-//! The headline in C, as clauses of functions that do nothing: C's loads load what C's senders
+//! The headline in C, as clauses of functions that do nothing: C's loads load what C's sends
 //! sent. It joins the clauses of the calls of `mig_c_calls` and of this crate.
 
 ghost use Rattle.mig_c_loads.specs.Headline.{DrainedIsLoaded, DrainedMachineStreamIsLoaded, DrainedIsLoadedBySections, DrainedMachineStreamIsLoadedBySections, DrainedChannelsAreLoaded, DrainedChannelsAreLoadedByRounds, DrainedMachineIsLoaded};
 ghost use Rattle.mig_c_loads.specs.Filling.{PagesReadAreNoted};
 
-/// What was copied out of a sender of one stream is loaded into blocks, in whatever pieces it was
+/// What was copied out of a send of one stream is loaded into blocks, in whatever pieces it was
 /// fed.
 pub fn drained_is_loaded()
     ensures { DrainedIsLoaded }
@@ -15,7 +15,7 @@ pub fn drained_machine_stream_is_loaded()
     ensures { DrainedMachineStreamIsLoaded }
 {}
 
-/// What was copied out of a sender of one stream is loaded so by whole sections, too.
+/// What was copied out of a send of one stream is loaded so by whole sections, too.
 pub fn drained_is_loaded_by_sections()
     ensures { DrainedIsLoadedBySections }
 {}
@@ -25,7 +25,7 @@ pub fn drained_machine_stream_is_loaded_by_sections()
     ensures { DrainedMachineStreamIsLoadedBySections }
 {}
 
-/// What was copied out of a sender on several channels is loaded into blocks, in whatever pieces it
+/// What was copied out of a send on several channels is loaded into blocks, in whatever pieces it
 /// was fed, and in whatever order of the sources. Pages that were sent after the head of their
 /// packet, and not copied out, count among it.
 pub fn drained_channels_are_loaded()

@@ -5,12 +5,12 @@
 //! several channels, with each page as it comes (`held_apart`) or by whole rounds (`held_rounds`).
 //! The blocks are lent to a call (`lent`), which writes pages into their bytes (`putting`). Of
 //! several channels C may read the pages to their places itself: it sees which it claimed
-//! (`claimed_pages`), and which of them may hold something else than zeros (`filling`). C passes the
-//! numbers of a source, of a frame and of what ends rounds, and settings (`source`, `frame`,
-//! `round_end`, `settings`). It sees a load's fault (`fault`), how a load of several channels stands
-//! (`seen`), and what the next bytes are (`next_bytes`), and reads the blocks of a table, which may
-//! be that of a stream's first bytes (`first_table`).
-//! Statuses are those of `mig_c_calls`. What C's senders sent, these loads load (`laws`).
+//! (`claimed_pages`), and which of them may hold something else than zeros (`filling`). C passes
+//! the numbers of a source, of a frame and of what ends rounds, and settings (`source`, `frame`,
+//! `round_end`, `settings`). It sees a load's fault (`fault`), how a load of several channels
+//! stands (`seen`), and what the next bytes are (`next_bytes`), and reads the blocks of a table,
+//! which may be that of a stream's first bytes (`first_table`). Statuses are those of
+//! `mig_c_calls`. What C's sends sent, these loads load (`laws`).
 #![tactic(auto)]
 
 mod claimed_pages;

@@ -2,6 +2,7 @@
  * the main stream, behind one lock. A guest is loaded, pages of 4096 and of 8192 bytes; and
  * streams with a page twice, or that are cut, end with the fault of a load that is fed all bytes.
  * The connections are buffers in memory. Each status of a call out of turn is asked for. */
+#include "sends.h"
 #include "zimgasol.h"
 #include <pthread.h>
 #include <sched.h>
@@ -41,20 +42,22 @@ static void append(streams *to, size_t source, const void *bytes, size_t len) {
     to->len[source] += len;
 }
 
-static void drain_main(zimgasol_multi *multi, streams *to) {
+static void drain_main(zimgasol_send *multi, streams *to) {
     uint8_t out[1000];
     size_t len;
-    while ((len = zimgasol_multi_drain(multi, out, sizeof out)) > 0) append(to, 0, out, len);
+    while ((len = zimgasol_send_drain(multi, ZIMGASOL_MAIN, out, sizeof out)) > 0)
+        append(to, 0, out, len);
 }
 
-static void drain_worker(zimgasol_worker *worker, streams *to) {
+static void drain_worker(zimgasol_worker *worker, size_t channel, streams *to) {
     uint8_t out[3000];
-    size_t source = 1 + zimgasol_worker_channel(worker), len;
-    while ((len = zimgasol_worker_drain(worker, out, sizeof out)) > 0) append(to, source, out, len);
+    size_t len;
+    while ((len = zimgasol_worker_drain(worker, out, sizeof out)) > 0)
+        append(to, ZIMGASOL_CHANNEL(channel), out, len);
 }
 
 /* A round of all pages, of which every third is zeros. */
-static int send_round(zimgasol_multi *multi, unsigned seed, streams *to) {
+static int send_round(zimgasol_send *multi, unsigned seed, streams *to) {
     static zimgasol_place all[PAGES + OTHER];
     zimgasol_lent lent[2] = {{guest[0], PAGES * page_len}, {guest[1], OTHER * page_len}};
     zimgasol_worker workers[CHANNELS] = {{0}};
@@ -63,33 +66,33 @@ static int send_round(zimgasol_multi *multi, unsigned seed, streams *to) {
         all[p] = p < PAGES ? (zimgasol_place){0, p} : (zimgasol_place){1, p - PAGES};
         memset(page_of(all[p].block, all[p].page), (p + seed) % 3 ? (int)(p + seed) : 0, page_len);
     }
-    WANT(zimgasol_multi_begin_round(multi, all, PAGES + OTHER) == ZIMGASOL_DONE);
+    WANT(zimgasol_send_begin_round_pages(multi, all, PAGES + OTHER) == ZIMGASOL_DONE);
     for (size_t j = 0; j < CHANNELS; j++)
-        WANT(zimgasol_multi_worker(multi, &workers[j]) == ZIMGASOL_DONE);
+        WANT(zimgasol_send_worker(multi, &workers[j]) == ZIMGASOL_DONE);
     for (size_t turn = 0; !ended[0] || !ended[1]; turn++) {
         size_t j = turn % CHANNELS;
         if (ended[j]) continue;
-        zimgasol_status status = zimgasol_worker_step(&workers[j], lent, 2);
+        zimgasol_status status = pack_next(&workers[j], lent, page_len);
         WANT(status == ZIMGASOL_RUNNING || status == ZIMGASOL_DONE);
         ended[j] = status == ZIMGASOL_DONE;
-        drain_worker(&workers[j], to);
+        drain_worker(&workers[j], j, to);
     }
     for (size_t j = 0; j < CHANNELS; j++)
-        WANT(zimgasol_multi_give_back(multi, &workers[j]) == ZIMGASOL_DONE);
-    WANT(zimgasol_multi_end_round(multi) == ZIMGASOL_DONE);
+        WANT(zimgasol_send_give_back(multi, &workers[j]) == ZIMGASOL_DONE);
+    WANT(zimgasol_send_end_round(multi) == ZIMGASOL_DONE);
     drain_main(multi, to);
     return 0;
 }
 
 static int send_guest(zimgasol_table *table, streams *to) {
-    zimgasol_multi multi = {0};
+    zimgasol_send multi = {0};
     memset(to->len, 0, sizeof to->len);
-    WANT(zimgasol_multi_new(&multi, table, uuid, 16, CHANNELS, LIMIT) == ZIMGASOL_DONE);
+    WANT(new_on_channels(&multi, table, uuid, CHANNELS, LIMIT) == ZIMGASOL_DONE);
     for (unsigned round = 0; round < ROUNDS; round++)
         if (send_round(&multi, 7 * round, to)) return 1;
-    WANT(zimgasol_multi_finish(&multi) == ZIMGASOL_DONE);
+    WANT(zimgasol_send_finish(&multi, false) == ZIMGASOL_DONE);
     drain_main(&multi, to);
-    zimgasol_multi_free(&multi);
+    zimgasol_send_free(&multi);
     return 0;
 }
 

@@ -2,6 +2,7 @@
  * workers that are stepped by turns, and loaded into blocks, by whole rounds too. The bytes that a
  * source doesn't take are kept until it does. Each status of a call is asked for once, and what
  * stands after it. */
+#include "sends.h"
 #include "zimgasol.h"
 #include <stdio.h>
 #include <stdlib.h>
@@ -43,14 +44,15 @@ static void write_guest(unsigned seed) {
     memset(guest[1], (int)seed, OTHER * PAGE);
 }
 
-static int drain_main(zimgasol_multi *multi) {
+static int drain_main(zimgasol_send *multi) {
     size_t len;
-    while ((len = zimgasol_multi_drain(multi, stream[0] + length[0], 1000)) > 0) length[0] += len;
+    while ((len = zimgasol_send_drain(multi, ZIMGASOL_MAIN, stream[0] + length[0], 1000)) > 0)
+        length[0] += len;
     return 0;
 }
 
-static int drain_worker(zimgasol_worker *worker, size_t most) {
-    size_t channel = zimgasol_worker_channel(worker), len;
+static int drain_worker(zimgasol_worker *worker, size_t channel, size_t most) {
+    size_t len;
     while ((len = zimgasol_worker_drain(worker, stream[1 + channel] + length[1 + channel], most)) >
         0) {
         length[1 + channel] += len;
@@ -59,15 +61,16 @@ static int drain_worker(zimgasol_worker *worker, size_t most) {
     return 0;
 }
 
-/* Packs the next packet of a worker in two halves, and tries first what isn't to be done. `count`
- * and `pages` stay where no batch is left. */
+/* Packs the next packet of a worker from copies, and tries first what isn't to be done. `count` and
+ * `pages` stay where no batch is left. */
 static uint32_t pack_copied(zimgasol_worker *worker) {
     static uint8_t copy[128 * PAGE];
     zimgasol_batch batch = {.block = 99, .count = 77}, again;
+    zimgasol_lent short_one[16];
     uint32_t status = zimgasol_worker_next(worker, &batch);
     if (status == ZIMGASOL_DONE) {
         if (batch.block != 99 || batch.count != 77) return 1;
-        if (zimgasol_worker_pack(worker, copy, 0) != ZIMGASOL_OUT_OF_TURN) return 2;
+        if (pack_copy(worker, copy, 0, PAGE) != ZIMGASOL_OUT_OF_TURN) return 2;
         return ZIMGASOL_DONE;
     }
     if (status != ZIMGASOL_RUNNING || batch.block > 1 || batch.count < 1 || batch.count > 16)
@@ -77,72 +80,70 @@ static uint32_t pack_copied(zimgasol_worker *worker) {
     if (memcmp(again.pages, batch.pages, batch.count * sizeof *batch.pages) != 0) return 6;
     for (size_t i = 0; i < batch.count; i++)
         memcpy(copy + i * PAGE, guest[batch.block] + batch.pages[i] * PAGE, PAGE);
-    if (zimgasol_worker_pack(worker, copy, batch.count * PAGE - 1) != ZIMGASOL_BAD_LENGTH) return 7;
-    if (zimgasol_worker_pack(worker, copy, (batch.count + 1) * PAGE) != ZIMGASOL_BAD_LENGTH)
-        return 8;
-    status = zimgasol_worker_pack(worker, copy, batch.count * PAGE);
-    if (zimgasol_worker_pack(worker, copy, batch.count * PAGE) != ZIMGASOL_OUT_OF_TURN) return 9;
+    for (size_t i = 0; i < batch.count; i++) short_one[i] = (zimgasol_lent){copy, PAGE};
+    short_one[batch.count - 1].len = PAGE - 1;
+    if (zimgasol_worker_pack(worker, short_one, batch.count) != ZIMGASOL_BAD_LENGTH) return 7;
+    if (pack_copy(worker, copy, batch.count - 1, PAGE) != ZIMGASOL_BAD_LENGTH) return 8;
+    if (pack_copy(worker, copy, batch.count + 1, PAGE) != ZIMGASOL_BAD_LENGTH) return 8;
+    status = pack_copy(worker, copy, batch.count, PAGE);
+    if (pack_copy(worker, copy, batch.count, PAGE) != ZIMGASOL_OUT_OF_TURN) return 9;
     return status;
 }
 
 /* A round of these pages, and the statuses of its calls on the way. It is begun from a list, taken
- * back, and begun from bitmaps. A worker takes a step whole, or in two halves, or is told its batch
- * and then takes the step whole. */
-static int send_round(zimgasol_multi *multi, const zimgasol_place *dirty, size_t count) {
+ * back, and begun from bitmaps. A worker's packets are packed from the blocks or from copies, and
+ * its batch may be asked for before. */
+static int send_round(zimgasol_send *multi, const zimgasol_place *dirty, size_t count) {
     zimgasol_worker workers[CHANNELS] = {{0}}, none = {0};
     zimgasol_place outside = {1, OTHER};
-    zimgasol_lent short_one[2] = {lent[0], {guest[1], OTHER * PAGE - 1}};
     uint64_t marks[2][PAGES / 64 + 1] = {{0}};
     zimgasol_bitmap bitmaps[2] = {{marks[0], PAGES / 64 + 1}, {marks[1], 1}};
     uint8_t out[100];
     for (size_t i = 0; i < count; i++)
         marks[dirty[i].block][dirty[i].page / 64] |= (uint64_t)1 << dirty[i].page % 64;
-    WANT(zimgasol_multi_end_round(multi) == ZIMGASOL_OUT_OF_TURN);
-    WANT(zimgasol_multi_take_back_round(multi) == ZIMGASOL_OUT_OF_TURN);
-    WANT(zimgasol_multi_worker(multi, &none) == ZIMGASOL_OUT_OF_TURN && none.full == 0);
-    WANT(zimgasol_multi_begin_round(multi, &outside, 1) == ZIMGASOL_NO_PAGE);
-    WANT(zimgasol_multi_begin_round(multi, dirty, count) == ZIMGASOL_DONE);
-    WANT(zimgasol_multi_begin_round(multi, dirty, count) == ZIMGASOL_OUT_OF_TURN);
-    WANT(zimgasol_multi_take_back_round(multi) == ZIMGASOL_DONE);
-    WANT(zimgasol_multi_begin_round_bitmaps(multi, bitmaps, 1) == ZIMGASOL_BAD_LENGTH);
-    WANT(zimgasol_multi_begin_round_bitmaps(multi, bitmaps, 2) == ZIMGASOL_DONE);
-    WANT(zimgasol_multi_begin_round_bitmaps(multi, bitmaps, 2) == ZIMGASOL_OUT_OF_TURN);
-    WANT(zimgasol_multi_finish(multi) == ZIMGASOL_OUT_OF_TURN &&
-        zimgasol_multi_finish_open(multi) == ZIMGASOL_OUT_OF_TURN);
+    WANT(zimgasol_send_end_round(multi) == ZIMGASOL_OUT_OF_TURN);
+    WANT(zimgasol_send_cancel_round(multi, false) == ZIMGASOL_OUT_OF_TURN);
+    WANT(zimgasol_send_worker(multi, &none) == ZIMGASOL_OUT_OF_TURN && none.full == 0);
+    WANT(zimgasol_send_begin_round_pages(multi, &outside, 1) == ZIMGASOL_NO_PAGE);
+    WANT(zimgasol_send_begin_round_pages(multi, dirty, count) == ZIMGASOL_DONE);
+    WANT(zimgasol_send_begin_round_pages(multi, dirty, count) == ZIMGASOL_OUT_OF_TURN);
+    WANT(zimgasol_send_cancel_round(multi, false) == ZIMGASOL_DONE);
+    WANT(zimgasol_send_begin_round_bitmaps(multi, bitmaps, 1) == ZIMGASOL_BAD_LENGTH);
+    WANT(zimgasol_send_begin_round_bitmaps(multi, bitmaps, 2) == ZIMGASOL_DONE);
+    WANT(zimgasol_send_begin_round_bitmaps(multi, bitmaps, 2) == ZIMGASOL_OUT_OF_TURN);
+    WANT(zimgasol_send_finish(multi, false) == ZIMGASOL_OUT_OF_TURN &&
+        zimgasol_send_finish(multi, true) == ZIMGASOL_OUT_OF_TURN);
     for (size_t j = 0; j < CHANNELS; j++) {
-        WANT(zimgasol_multi_worker(multi, &workers[j]) == ZIMGASOL_DONE);
-        WANT(zimgasol_worker_channel(&workers[j]) == j);
+        WANT(zimgasol_send_worker(multi, &workers[j]) == ZIMGASOL_DONE);
     }
-    WANT(zimgasol_multi_worker(multi, &none) == ZIMGASOL_OUT_OF_TURN && none.full == 0);
-    WANT(zimgasol_multi_take_back_round(multi) == ZIMGASOL_OUT_OF_TURN);
-    WANT(zimgasol_worker_step(&workers[0], lent, 1) == ZIMGASOL_BAD_LENGTH);
-    WANT(zimgasol_worker_step(&workers[0], short_one, 2) == ZIMGASOL_BAD_LENGTH);
-    WANT(zimgasol_worker_pack(&workers[0], guest[0], PAGE) == ZIMGASOL_OUT_OF_TURN);
-    WANT(zimgasol_multi_give_back(multi, &workers[0]) == ZIMGASOL_OUT_OF_TURN &&
+    WANT(zimgasol_send_worker(multi, &none) == ZIMGASOL_OUT_OF_TURN && none.full == 0);
+    WANT(zimgasol_send_cancel_round(multi, false) == ZIMGASOL_OUT_OF_TURN);
+    WANT(pack_copy(&workers[0], guest[0], 1, PAGE) == ZIMGASOL_OUT_OF_TURN);
+    WANT(zimgasol_send_put_page(multi, 0, 0, guest[0], PAGE) == ZIMGASOL_OUT_OF_TURN);
+    WANT(zimgasol_send_give_back(multi, &workers[0]) == ZIMGASOL_OUT_OF_TURN &&
         workers[0].full != 0);
     int running = CHANNELS;
     for (int turn = 0; running > 0; turn++) {
         zimgasol_worker *worker = &workers[turn % CHANNELS];
         zimgasol_batch batch;
         if (turn % 5 == 1) WANT(zimgasol_worker_next(worker, &batch) != ZIMGASOL_NO_MEMORY);
-        uint32_t status =
-            turn % 5 < 2 ? zimgasol_worker_step(worker, lent, 2) : pack_copied(worker);
+        uint32_t status = turn % 5 < 2 ? pack_next(worker, lent, PAGE) : pack_copied(worker);
         WANT(status == ZIMGASOL_DONE || status == ZIMGASOL_RUNNING);
-        if (turn % 2 == 0 && drain_worker(worker, 10000)) return 1;
+        if (turn % 2 == 0 && drain_worker(worker, (size_t)(turn % CHANNELS), 10000)) return 1;
         running = status == ZIMGASOL_DONE ? running - 1 : CHANNELS;
     }
-    WANT(zimgasol_worker_step(&workers[0], lent, 2) == ZIMGASOL_DONE);
-    WANT(zimgasol_multi_give_back(multi, &workers[1]) == ZIMGASOL_OUT_OF_TURN &&
+    WANT(pack_next(&workers[0], lent, PAGE) == ZIMGASOL_DONE);
+    WANT(zimgasol_send_give_back(multi, &workers[1]) == ZIMGASOL_OUT_OF_TURN &&
         workers[1].full != 0);
-    WANT(zimgasol_multi_end_round(multi) == ZIMGASOL_OUT_OF_TURN);
+    WANT(zimgasol_send_end_round(multi) == ZIMGASOL_OUT_OF_TURN);
     for (size_t j = 0; j < CHANNELS; j++) {
-        if (drain_worker(&workers[j], 77777)) return 1;
+        if (drain_worker(&workers[j], j, 77777)) return 1;
         WANT(zimgasol_worker_drain(&workers[j], out, sizeof out) == 0);
-        WANT(zimgasol_multi_give_back(multi, &workers[j]) == ZIMGASOL_DONE && workers[j].full == 0);
+        WANT(zimgasol_send_give_back(multi, &workers[j]) == ZIMGASOL_DONE && workers[j].full == 0);
         zimgasol_worker_free(&workers[j]);
     }
-    WANT(zimgasol_multi_end_round(multi) == ZIMGASOL_DONE);
-    WANT(zimgasol_multi_drain_channel(multi, 0, out, sizeof out) == 0);
+    WANT(zimgasol_send_end_round(multi) == ZIMGASOL_DONE);
+    WANT(zimgasol_send_drain(multi, ZIMGASOL_CHANNEL(0), out, sizeof out) == 0);
     return drain_main(multi);
 }
 
@@ -150,17 +151,15 @@ static int send_round(zimgasol_multi *multi, const zimgasol_place *dirty, size_t
 static int send_all(zimgasol_table *table) {
     static zimgasol_place all[PAGES + OTHER];
     zimgasol_place some[4] = {{1, 1}, {0, 5}, {0, 4}, {0, 5}};
-    zimgasol_multi multi = {0};
+    zimgasol_send multi = {0};
     uint8_t out[1000];
     for (size_t p = 0; p < PAGES + OTHER; p++)
         all[p] = p < PAGES ? (zimgasol_place){0, p} : (zimgasol_place){1, p - PAGES};
-    WANT(zimgasol_multi_new(&multi, table, uuid, 15, CHANNELS, 128) == ZIMGASOL_BAD_LENGTH);
-    WANT(zimgasol_multi_new(&multi, table, uuid, 16, 0, 128) == ZIMGASOL_CHANNELS);
-    WANT(zimgasol_multi_new(&multi, table, uuid, 16, 256, 128) == ZIMGASOL_CHANNELS);
-    WANT(zimgasol_multi_new(&multi, table, uuid, 16, CHANNELS, 0) == ZIMGASOL_BATCH_LIMIT);
-    WANT(zimgasol_multi_new(&multi, table, uuid, 16, CHANNELS, 129) == ZIMGASOL_BATCH_LIMIT &&
+    WANT(new_on_channels(&multi, table, uuid, 256, 0) == ZIMGASOL_CHANNELS);
+    WANT(new_on_channels(&multi, table, uuid, CHANNELS, 0) == ZIMGASOL_BATCH_LIMIT);
+    WANT(new_on_channels(&multi, table, uuid, CHANNELS, 129) == ZIMGASOL_BATCH_LIMIT &&
         multi.full == 0);
-    WANT(zimgasol_multi_new(&multi, table, uuid, 16, CHANNELS, 16) == ZIMGASOL_DONE);
+    WANT(new_on_channels(&multi, table, uuid, CHANNELS, 16) == ZIMGASOL_DONE);
     write_guest(1);
     if (send_round(&multi, all, PAGES + OTHER)) return 1;
     write_guest(1);
@@ -169,13 +168,13 @@ static int send_all(zimgasol_table *table) {
     memset(guest[0] + 4 * PAGE, 0, PAGE);
     guest[1][2 * PAGE - 1] = 9;
     if (send_round(&multi, some, 4)) return 1;
-    WANT(zimgasol_multi_finish(&multi) == ZIMGASOL_DONE);
-    WANT(zimgasol_multi_finish(&multi) == ZIMGASOL_OUT_OF_TURN);
-    WANT(zimgasol_multi_begin_round(&multi, some, 4) == ZIMGASOL_OUT_OF_TURN);
-    WANT(zimgasol_multi_drain_channel(&multi, 0, out, sizeof out) == 0);
-    WANT(zimgasol_multi_drain_channel(&multi, CHANNELS, out, sizeof out) == 0);
+    WANT(zimgasol_send_finish(&multi, false) == ZIMGASOL_DONE);
+    WANT(zimgasol_send_finish(&multi, false) == ZIMGASOL_OUT_OF_TURN);
+    WANT(zimgasol_send_begin_round_pages(&multi, some, 4) == ZIMGASOL_OUT_OF_TURN);
+    WANT(zimgasol_send_drain(&multi, ZIMGASOL_CHANNEL(0), out, sizeof out) == 0);
+    WANT(zimgasol_send_drain(&multi, ZIMGASOL_CHANNEL(CHANNELS), out, sizeof out) == 0);
     if (drain_main(&multi)) return 1;
-    zimgasol_multi_free(&multi);
+    zimgasol_send_free(&multi);
     WANT(multi.full == 0);
     return 0;
 }
@@ -183,18 +182,35 @@ static int send_all(zimgasol_table *table) {
 /* Where no round was sent, the hellos are left of the channels, and each is that of zimgasol_hello.
  */
 static int send_none(zimgasol_table *table) {
-    zimgasol_multi multi = {0};
+    zimgasol_send multi = {0};
     uint8_t out[100], hello[64];
-    WANT(zimgasol_multi_new(&multi, table, uuid, 16, 2, 16) == ZIMGASOL_DONE);
-    WANT(zimgasol_multi_finish(&multi) == ZIMGASOL_DONE);
+    WANT(new_on_channels(&multi, table, uuid, 2, 16) == ZIMGASOL_DONE);
+    /* a round without pages, which is left out */
+    WANT(zimgasol_send_begin_round(&multi) == ZIMGASOL_DONE);
+    WANT(zimgasol_send_begin_round(&multi) == ZIMGASOL_OUT_OF_TURN);
+    WANT(zimgasol_send_cancel_round(&multi, false) == ZIMGASOL_DONE);
+    WANT(zimgasol_send_finish(&multi, false) == ZIMGASOL_DONE);
+    size_t waits = zimgasol_send_waiting(&multi, ZIMGASOL_MAIN);
+    WANT(zimgasol_send_peek(&multi, ZIMGASOL_MAIN, out, 8) == 8 && memcmp(out, "QEVM", 4) == 0);
+    WANT(zimgasol_send_skip(&multi, ZIMGASOL_MAIN, 8) == 8);
+    WANT(zimgasol_send_waiting(&multi, ZIMGASOL_MAIN) == waits - 8);
     for (uint8_t j = 0; j < 2; j++) {
-        WANT(zimgasol_multi_drain_channel(&multi, j, out, 60) == 60);
-        WANT(zimgasol_multi_drain_channel(&multi, j, out + 60, 40) == 4);
-        WANT(zimgasol_multi_drain_channel(&multi, j, out, sizeof out) == 0);
+        WANT(zimgasol_send_waiting(&multi, ZIMGASOL_CHANNEL(j)) == 64);
+        WANT(
+            zimgasol_send_peek(&multi, ZIMGASOL_CHANNEL(j), out, sizeof out) == 64 && out[24] == j);
+        if (j == 1)
+            WANT(zimgasol_send_peek(&multi, ZIMGASOL_CHANNEL(j), out, 60) == 60 &&
+                zimgasol_send_skip(&multi, ZIMGASOL_CHANNEL(j), 60) == 60);
+        else WANT(zimgasol_send_drain(&multi, ZIMGASOL_CHANNEL(j), out, 60) == 60);
+        WANT(zimgasol_send_drain(&multi, ZIMGASOL_CHANNEL(j), out + 60, 40) == 4);
+        WANT(zimgasol_send_drain(&multi, ZIMGASOL_CHANNEL(j), out, sizeof out) == 0);
+        WANT(zimgasol_send_waiting(&multi, ZIMGASOL_CHANNEL(j)) == 0);
+        WANT(zimgasol_send_peek(&multi, ZIMGASOL_CHANNEL(j), out, sizeof out) == 0);
+        WANT(zimgasol_send_skip(&multi, ZIMGASOL_CHANNEL(j), 1) == 0);
         WANT(
             zimgasol_hello(uuid, 16, j, hello, 64) == ZIMGASOL_DONE && memcmp(out, hello, 60) == 0);
     }
-    zimgasol_multi_free(&multi);
+    zimgasol_send_free(&multi);
     return 0;
 }
 
@@ -232,21 +248,20 @@ static int feed_all(zimgasol_load *load, size_t cut) {
 
 /* A round of three pages, whose main stream is a machine's where there is a name. */
 static int send_some(zimgasol_table *table, const char *name) {
-    zimgasol_multi multi = {0};
+    zimgasol_send multi = {0};
     zimgasol_place some[3] = {{0, 1}, {1, 0}, {0, 7}};
     memset(length, 0, sizeof length);
-    if (name == NULL)
-        WANT(zimgasol_multi_new(&multi, table, uuid, 16, CHANNELS, 16) == ZIMGASOL_DONE);
+    if (name == NULL) WANT(new_on_channels(&multi, table, uuid, CHANNELS, 16) == ZIMGASOL_DONE);
     else
-        WANT(zimgasol_multi_new_named(&multi, table, uuid, 16, CHANNELS, 16, (const uint8_t *)name,
+        WANT(new_named_on_channels(&multi, table, uuid, CHANNELS, 16, (const uint8_t *)name,
                  strlen(name)) == ZIMGASOL_DONE);
     if (send_round(&multi, some, 3)) return 1;
-    WANT((name == NULL ? zimgasol_multi_finish(&multi) : zimgasol_multi_finish_open(&multi)) ==
-        ZIMGASOL_DONE);
-    WANT(zimgasol_multi_finish_open(&multi) == ZIMGASOL_OUT_OF_TURN &&
-        zimgasol_multi_finish(&multi) == ZIMGASOL_OUT_OF_TURN);
+    WANT((name == NULL ? zimgasol_send_finish(&multi, false)
+                       : zimgasol_send_finish(&multi, true)) == ZIMGASOL_DONE);
+    WANT(zimgasol_send_finish(&multi, true) == ZIMGASOL_OUT_OF_TURN &&
+        zimgasol_send_finish(&multi, false) == ZIMGASOL_OUT_OF_TURN);
     if (drain_main(&multi)) return 1;
-    zimgasol_multi_free(&multi);
+    zimgasol_send_free(&multi);
     return 0;
 }
 
@@ -260,19 +275,16 @@ static int send_named(zimgasol_table *table) {
     size_t named_length[1 + CHANNELS], rest = 8 + sizeof configuration;
     zimgasol_settings settings = {.frame = ZIMGASOL_FRAME_MACHINE};
     zimgasol_load load = {0};
-    zimgasol_multi multi = {0};
+    zimgasol_send multi = {0};
     zimgasol_fault fault;
     uint64_t at = 7;
-    WANT(zimgasol_multi_new_named(&multi, table, uuid, 16, CHANNELS, 16, long_name, 1025) ==
+    WANT(new_named_on_channels(&multi, table, uuid, CHANNELS, 16, long_name, 1025) ==
             ZIMGASOL_BAD_LENGTH &&
         multi.full == 0);
-    WANT(zimgasol_multi_new_named(&multi, table, uuid, 15, CHANNELS, 16, long_name, 4) ==
-            ZIMGASOL_BAD_LENGTH &&
+    WANT(
+        new_named_on_channels(&multi, table, uuid, 256, 16, long_name, 1024) == ZIMGASOL_CHANNELS &&
         multi.full == 0);
-    WANT(zimgasol_multi_new_named(&multi, table, uuid, 16, 0, 16, long_name, 1024) ==
-            ZIMGASOL_CHANNELS &&
-        multi.full == 0);
-    WANT(zimgasol_multi_new_named(&multi, table, uuid, 16, CHANNELS, 129, long_name, 1024) ==
+    WANT(new_named_on_channels(&multi, table, uuid, CHANNELS, 129, long_name, 1024) ==
             ZIMGASOL_BATCH_LIMIT &&
         multi.full == 0);
     write_guest(1);
@@ -309,42 +321,41 @@ static int send_named(zimgasol_table *table) {
  * after it. */
 static int give_up(zimgasol_table *table) {
     static zimgasol_place all[PAGES];
-    zimgasol_multi multi = {0};
+    zimgasol_send multi = {0};
     zimgasol_worker workers[2] = {{0}}, none = {0};
     uint8_t out[1000];
     for (size_t p = 0; p < PAGES; p++) all[p] = (zimgasol_place){0, p};
-    WANT(zimgasol_multi_new(&multi, table, uuid, 16, CHANNELS, 16) == ZIMGASOL_DONE);
-    WANT(zimgasol_multi_cancel_round(&multi) == ZIMGASOL_OUT_OF_TURN);
-    WANT(zimgasol_multi_drain(&multi, out, 10) == 10);
-    WANT(zimgasol_multi_begin_round(&multi, all, PAGES) == ZIMGASOL_DONE);
-    for (size_t j = 0; j < 2; j++)
-        WANT(zimgasol_multi_worker(&multi, &workers[j]) == ZIMGASOL_DONE);
-    WANT(zimgasol_worker_step(&workers[0], lent, 2) == ZIMGASOL_RUNNING);
+    WANT(new_on_channels(&multi, table, uuid, CHANNELS, 16) == ZIMGASOL_DONE);
+    WANT(zimgasol_send_cancel_round(&multi, true) == ZIMGASOL_OUT_OF_TURN);
+    WANT(zimgasol_send_drain(&multi, ZIMGASOL_MAIN, out, 10) == 10);
+    WANT(zimgasol_send_begin_round_pages(&multi, all, PAGES) == ZIMGASOL_DONE);
+    for (size_t j = 0; j < 2; j++) WANT(zimgasol_send_worker(&multi, &workers[j]) == ZIMGASOL_DONE);
+    WANT(pack_next(&workers[0], lent, PAGE) == ZIMGASOL_RUNNING);
     WANT(zimgasol_worker_drain(&workers[0], out, sizeof out) == sizeof out);
-    WANT(zimgasol_multi_cancel_round(&multi) == ZIMGASOL_DONE && multi.full != 0);
-    WANT(zimgasol_multi_cancel_round(&multi) == ZIMGASOL_OUT_OF_TURN);
-    WANT(zimgasol_multi_begin_round(&multi, all, PAGES) == ZIMGASOL_OUT_OF_TURN);
-    WANT(zimgasol_multi_worker(&multi, &none) == ZIMGASOL_OUT_OF_TURN && none.full == 0);
-    WANT(zimgasol_multi_give_back(&multi, &workers[0]) == ZIMGASOL_OUT_OF_TURN &&
+    WANT(zimgasol_send_cancel_round(&multi, true) == ZIMGASOL_DONE && multi.full != 0);
+    WANT(zimgasol_send_cancel_round(&multi, true) == ZIMGASOL_OUT_OF_TURN);
+    WANT(zimgasol_send_begin_round_pages(&multi, all, PAGES) == ZIMGASOL_OUT_OF_TURN);
+    WANT(zimgasol_send_worker(&multi, &none) == ZIMGASOL_OUT_OF_TURN && none.full == 0);
+    WANT(zimgasol_send_give_back(&multi, &workers[0]) == ZIMGASOL_OUT_OF_TURN &&
         workers[0].full != 0);
-    WANT(zimgasol_multi_end_round(&multi) == ZIMGASOL_OUT_OF_TURN);
-    WANT(zimgasol_multi_finish(&multi) == ZIMGASOL_OUT_OF_TURN &&
-        zimgasol_multi_finish_open(&multi) == ZIMGASOL_OUT_OF_TURN);
+    WANT(zimgasol_send_end_round(&multi) == ZIMGASOL_OUT_OF_TURN);
+    WANT(zimgasol_send_finish(&multi, false) == ZIMGASOL_OUT_OF_TURN &&
+        zimgasol_send_finish(&multi, true) == ZIMGASOL_OUT_OF_TURN);
     /* what waited of the main stream is gone, and so is the hello of the third channel */
-    WANT(zimgasol_multi_drain(&multi, out, sizeof out) == 0);
-    WANT(zimgasol_multi_drain_channel(&multi, 2, out, sizeof out) == 0);
-    WANT(zimgasol_worker_step(&workers[1], lent, 2) == ZIMGASOL_RUNNING);
+    WANT(zimgasol_send_drain(&multi, ZIMGASOL_MAIN, out, sizeof out) == 0);
+    WANT(zimgasol_send_drain(&multi, ZIMGASOL_CHANNEL(2), out, sizeof out) == 0);
+    WANT(pack_next(&workers[1], lent, PAGE) == ZIMGASOL_RUNNING);
     WANT(zimgasol_worker_drain(&workers[1], out, 100) == 100);
     zimgasol_worker_free(&workers[0]);
-    zimgasol_multi_free(&multi);
-    WANT(multi.full == 0 && zimgasol_worker_step(&workers[1], lent, 2) == ZIMGASOL_RUNNING);
+    zimgasol_send_free(&multi);
+    WANT(multi.full == 0 && pack_next(&workers[1], lent, PAGE) == ZIMGASOL_RUNNING);
     zimgasol_worker_free(&workers[1]);
     /* a sender that is freed in a round */
-    WANT(zimgasol_multi_new(&multi, table, uuid, 16, CHANNELS, 16) == ZIMGASOL_DONE);
-    WANT(zimgasol_multi_begin_round(&multi, all, PAGES) == ZIMGASOL_DONE);
-    WANT(zimgasol_multi_worker(&multi, &workers[0]) == ZIMGASOL_DONE);
-    zimgasol_multi_free(&multi);
-    WANT(zimgasol_worker_step(&workers[0], lent, 2) == ZIMGASOL_RUNNING);
+    WANT(new_on_channels(&multi, table, uuid, CHANNELS, 16) == ZIMGASOL_DONE);
+    WANT(zimgasol_send_begin_round_pages(&multi, all, PAGES) == ZIMGASOL_DONE);
+    WANT(zimgasol_send_worker(&multi, &workers[0]) == ZIMGASOL_DONE);
+    zimgasol_send_free(&multi);
+    WANT(pack_next(&workers[0], lent, PAGE) == ZIMGASOL_RUNNING);
     zimgasol_worker_free(&workers[0]);
     return 0;
 }
@@ -567,7 +578,7 @@ static int load_limited(zimgasol_table *table) {
 /* Steps a worker until it has ended. */
 static int step_all(zimgasol_worker *worker) {
     zimgasol_status status;
-    while ((status = zimgasol_worker_step(worker, lent, 2)) == ZIMGASOL_RUNNING) continue;
+    while ((status = pack_next(worker, lent, PAGE)) == ZIMGASOL_RUNNING) continue;
     WANT(status == ZIMGASOL_DONE);
     return 0;
 }
@@ -578,35 +589,35 @@ static int step_all(zimgasol_worker *worker) {
  * others the packets from 1 on. So packet 1 comes twice. */
 static int foreign(zimgasol_table *table) {
     static zimgasol_place all[PAGES];
-    zimgasol_multi other = {0}, multi = {0};
+    zimgasol_send other = {0}, multi = {0};
     zimgasol_worker stray = {0}, workers[CHANNELS] = {{0}};
     zimgasol_load load = {0};
     zimgasol_fault fault;
     size_t len, taken;
     for (size_t p = 0; p < PAGES; p++) all[p] = (zimgasol_place){0, p};
-    WANT(zimgasol_multi_new(&other, table, uuid, 16, CHANNELS, 16) == ZIMGASOL_DONE);
-    WANT(zimgasol_multi_begin_round(&other, all, PAGES) == ZIMGASOL_DONE);
-    WANT(zimgasol_multi_worker(&other, &stray) == ZIMGASOL_DONE);
+    WANT(new_on_channels(&other, table, uuid, CHANNELS, 16) == ZIMGASOL_DONE);
+    WANT(zimgasol_send_begin_round_pages(&other, all, PAGES) == ZIMGASOL_DONE);
+    WANT(zimgasol_send_worker(&other, &stray) == ZIMGASOL_DONE);
     if (step_all(&stray)) return 1;
-    WANT(zimgasol_multi_new(&multi, table, uuid, 16, CHANNELS, 16) == ZIMGASOL_DONE);
-    WANT(zimgasol_multi_begin_round(&multi, all, PAGES) == ZIMGASOL_DONE);
+    WANT(new_on_channels(&multi, table, uuid, CHANNELS, 16) == ZIMGASOL_DONE);
+    WANT(zimgasol_send_begin_round_pages(&multi, all, PAGES) == ZIMGASOL_DONE);
     for (size_t j = 0; j < CHANNELS; j++)
-        WANT(zimgasol_multi_worker(&multi, &workers[j]) == ZIMGASOL_DONE);
-    WANT(zimgasol_worker_step(&workers[0], lent, 2) == ZIMGASOL_RUNNING);
+        WANT(zimgasol_send_worker(&multi, &workers[j]) == ZIMGASOL_DONE);
+    WANT(pack_next(&workers[0], lent, PAGE) == ZIMGASOL_RUNNING);
     for (size_t j = 1; j < CHANNELS; j++)
         if (step_all(&workers[j])) return 1;
-    WANT(zimgasol_multi_give_back(&multi, &stray) == ZIMGASOL_DONE && stray.full == 0);
-    WANT(zimgasol_multi_give_back(&multi, &workers[0]) == ZIMGASOL_OUT_OF_TURN &&
+    WANT(zimgasol_send_give_back(&multi, &stray) == ZIMGASOL_DONE && stray.full == 0);
+    WANT(zimgasol_send_give_back(&multi, &workers[0]) == ZIMGASOL_OUT_OF_TURN &&
         workers[0].full != 0);
     for (size_t j = 1; j < CHANNELS; j++)
-        WANT(zimgasol_multi_give_back(&multi, &workers[j]) == ZIMGASOL_DONE);
-    WANT(zimgasol_multi_end_round(&multi) == ZIMGASOL_DONE &&
-        zimgasol_multi_finish(&multi) == ZIMGASOL_DONE);
+        WANT(zimgasol_send_give_back(&multi, &workers[j]) == ZIMGASOL_DONE);
+    WANT(zimgasol_send_end_round(&multi) == ZIMGASOL_DONE &&
+        zimgasol_send_finish(&multi, false) == ZIMGASOL_DONE);
     memset(length, 0, sizeof length);
     if (drain_main(&multi)) return 1;
     for (size_t j = 0; j < CHANNELS; j++)
-        while ((len = zimgasol_multi_drain_channel(&multi, j, stream[1 + j] + length[1 + j],
-                    10000)) > 0)
+        while ((len = zimgasol_send_drain(&multi, ZIMGASOL_CHANNEL(j),
+                    stream[1 + j] + length[1 + j], 10000)) > 0)
             length[1 + j] += len;
     WANT(zimgasol_load_new(&load, table, uuid, 16, CHANNELS, &plain) == ZIMGASOL_DONE);
     for (size_t source = 0; source <= CHANNELS; source++)
@@ -616,8 +627,8 @@ static int foreign(zimgasol_table *table) {
         fault.round == 0);
     zimgasol_load_free(&load);
     zimgasol_worker_free(&workers[0]);
-    zimgasol_multi_free(&multi);
-    zimgasol_multi_free(&other);
+    zimgasol_send_free(&multi);
+    zimgasol_send_free(&other);
     return 0;
 }
 

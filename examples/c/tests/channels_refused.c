@@ -3,6 +3,7 @@
  * pages are copied here, with the nth call of malloc or realloc refused. The call that wanted it
  * says so, and is made again; a load that failed for good is made anew. The streams are those of a
  * run without a refusal, the blocks have the guest, and nothing is left. */
+#include "sends.h"
 #include "zimgasol.h"
 #include "refusing.h"
 #include <string.h>
@@ -18,13 +19,14 @@ static const zimgasol_settings plain = {.frame = ZIMGASOL_FRAME_RAM};
 static zimgasol_lent lent[1] = {{guest, sizeof guest}};
 static zimgasol_buffer into[1] = {{loaded, sizeof loaded}};
 
-static void drain_main(zimgasol_multi *multi) {
+static void drain_main(zimgasol_send *multi) {
     size_t len;
-    while ((len = zimgasol_multi_drain(multi, stream[0] + length[0], 100)) > 0) length[0] += len;
+    while ((len = zimgasol_send_drain(multi, ZIMGASOL_MAIN, stream[0] + length[0], 100)) > 0)
+        length[0] += len;
 }
 
-static void drain_worker(zimgasol_worker *worker) {
-    size_t source = 1 + zimgasol_worker_channel(worker), len;
+static void drain_worker(zimgasol_worker *worker, size_t channel) {
+    size_t source = ZIMGASOL_CHANNEL(channel), len;
     while ((len = zimgasol_worker_drain(worker, stream[source] + length[source], 3000)) > 0) {
         length[source] += len;
         WANT(length[source] + 3000 < MOST);
@@ -32,32 +34,33 @@ static void drain_worker(zimgasol_worker *worker) {
 }
 
 /* How a worker's next packet is written. */
-typedef uint32_t way(zimgasol_worker *);
+typedef uint32_t way(zimgasol_worker *, size_t channel);
 
-static uint32_t pack_lent(zimgasol_worker *worker) {
-    return zimgasol_worker_step(worker, lent, 1);
+static uint32_t pack_lent(zimgasol_worker *worker, size_t channel) {
+    (void)channel;
+    return pack_next(worker, lent, PAGE);
 }
 
-/* A step in two halves: the pages of the next packet are copied in between. */
-static uint32_t pack_copied(zimgasol_worker *worker) {
+/* The pages of the next packet are copied first. */
+static uint32_t pack_copied(zimgasol_worker *worker, size_t channel) {
     uint8_t copy[2 * PAGE];
     zimgasol_batch batch;
     uint32_t status = zimgasol_worker_next(worker, &batch);
     if (status != ZIMGASOL_RUNNING) return status;
-    WANT(batch.block == 0 && batch.count <= 2);
+    WANT(channel == 1 && batch.block == 0 && batch.count <= 2);
     for (size_t i = 0; i < batch.count; i++)
         memcpy(copy + i * PAGE, guest + batch.pages[i] * PAGE, PAGE);
-    return zimgasol_worker_pack(worker, copy, batch.count * PAGE);
+    return pack_copy(worker, copy, batch.count, PAGE);
 }
 
 /* The next packet's head is written, and its pages follow from where they lie. */
-static uint32_t send_head(zimgasol_worker *worker) {
+static uint32_t send_head(zimgasol_worker *worker, size_t channel) {
     uint8_t zeros[2], head[HEAD];
     zimgasol_batch batch;
-    size_t source = 1 + zimgasol_worker_channel(worker), len = 0;
+    size_t source = ZIMGASOL_CHANNEL(channel), len = 0;
     uint32_t status = zimgasol_worker_next(worker, &batch);
     if (status != ZIMGASOL_RUNNING) return status;
-    drain_worker(worker);
+    drain_worker(worker, channel);
     for (size_t i = 0; i < batch.count; i++) zeros[i] = guest[batch.pages[i] * PAGE] == 0;
     status = zimgasol_worker_head(worker, zeros, batch.count, head, sizeof head, &len);
     if (status != ZIMGASOL_RUNNING) {
@@ -74,79 +77,77 @@ static uint32_t send_head(zimgasol_worker *worker) {
     return status;
 }
 
-/* Steps a worker once, again where it was refused: whole, by a copy, or by a head. Returns whether
- * its channel goes on. */
-static int steps(zimgasol_worker *worker) {
+/* Writes a worker's next packet, again where it was refused: from the blocks, from a copy, or by a
+ * head. Returns whether its channel goes on. */
+static int steps(zimgasol_worker *worker, size_t channel) {
     static way *const ways[CHANNELS] = {pack_lent, pack_copied, send_head};
-    way *step = ways[zimgasol_worker_channel(worker)];
-    uint32_t status = step(worker);
+    way *step = ways[channel];
+    uint32_t status = step(worker, channel);
     if (status == ZIMGASOL_NO_MEMORY) {
         WANT(refusals == 1);
-        status = step(worker);
+        status = step(worker, channel);
     }
     WANT(status == ZIMGASOL_DONE || status == ZIMGASOL_RUNNING);
     return status == ZIMGASOL_RUNNING;
 }
 
-static void send_round(zimgasol_multi *multi, const zimgasol_place *dirty, size_t count) {
+static void send_round(zimgasol_send *multi, const zimgasol_place *dirty, size_t count) {
     zimgasol_worker workers[CHANNELS] = {{0}};
-    AGAIN(zimgasol_multi_begin_round(multi, dirty, count));
-    for (size_t j = 0; j < CHANNELS; j++) AGAIN(zimgasol_multi_worker(multi, &workers[j]));
+    AGAIN(zimgasol_send_begin_round_pages(multi, dirty, count));
+    for (size_t j = 0; j < CHANNELS; j++) AGAIN(zimgasol_send_worker(multi, &workers[j]));
     for (int running = 1; running;) {
         running = 0;
         for (size_t j = 0; j < CHANNELS; j++) {
-            running += steps(&workers[j]);
-            if (j == 0) drain_worker(&workers[j]);
+            running += steps(&workers[j], j);
+            if (j == 0) drain_worker(&workers[j], j);
         }
     }
     for (size_t j = 0; j < CHANNELS; j++) {
-        drain_worker(&workers[j]);
-        AGAIN(zimgasol_multi_give_back(multi, &workers[j]));
+        drain_worker(&workers[j], j);
+        AGAIN(zimgasol_send_give_back(multi, &workers[j]));
         WANT(workers[j].full == 0);
     }
-    AGAIN(zimgasol_multi_end_round(multi));
+    AGAIN(zimgasol_send_end_round(multi));
     drain_main(multi);
 }
 
 static void send(zimgasol_table *table) {
-    zimgasol_multi multi = {0};
+    zimgasol_send multi = {0};
     zimgasol_place all[PAGES], some[2] = {{0, 6}, {0, 1}};
     memset(length, 0, sizeof length);
     for (size_t p = 0; p < PAGES; p++) {
         all[p] = (zimgasol_place){0, p};
         memset(guest + p * PAGE, (int)(p % 3), PAGE);
     }
-    AGAIN(zimgasol_multi_new(&multi, table, uuid, 16, CHANNELS, 2));
+    AGAIN(new_on_channels(&multi, table, uuid, CHANNELS, 2));
     send_round(&multi, all, PAGES);
     memset(guest + 6 * PAGE, 77, PAGE);
     memset(guest + PAGE, 0, PAGE);
     send_round(&multi, some, 2);
-    AGAIN(zimgasol_multi_finish(&multi));
+    AGAIN(zimgasol_send_finish(&multi, false));
     drain_main(&multi);
-    zimgasol_multi_free(&multi);
+    zimgasol_send_free(&multi);
 }
 
 /* A machine's streams without a round, ended and left open; and given up in the middle of a round.
  * The main stream has the file header, a configuration of 9 bytes, START of one block and END. */
 static void send_named(zimgasol_table *table) {
-    zimgasol_multi multi = {0};
+    zimgasol_send multi = {0};
     zimgasol_worker worker = {0};
     zimgasol_place place = {0, 3};
     uint8_t out[10];
     size_t len, total = 0;
-    AGAIN(
-        zimgasol_multi_new_named(&multi, table, uuid, 16, CHANNELS, 2, (const uint8_t *)"virt", 4));
-    AGAIN(zimgasol_multi_finish_open(&multi));
-    while ((len = zimgasol_multi_drain(&multi, out, sizeof out)) > 0) total += len;
+    AGAIN(new_named_on_channels(&multi, table, uuid, CHANNELS, 2, (const uint8_t *)"virt", 4));
+    AGAIN(zimgasol_send_finish(&multi, true));
+    while ((len = zimgasol_send_drain(&multi, ZIMGASOL_MAIN, out, sizeof out)) > 0) total += len;
     WANT(total == 8 + 9 + (17 + 8 + 15 + 13) + (5 + 13));
-    zimgasol_multi_free(&multi);
-    AGAIN(
-        zimgasol_multi_new_named(&multi, table, uuid, 16, CHANNELS, 2, (const uint8_t *)"virt", 4));
-    AGAIN(zimgasol_multi_begin_round(&multi, &place, 1));
-    AGAIN(zimgasol_multi_worker(&multi, &worker));
-    WANT(steps(&worker));
-    WANT(zimgasol_multi_cancel_round(&multi) == ZIMGASOL_DONE);
-    zimgasol_multi_free(&multi);
+    zimgasol_send_free(&multi);
+    AGAIN(new_named_on_channels(&multi, table, uuid, CHANNELS, 2, (const uint8_t *)"virt", 4));
+    AGAIN(zimgasol_send_begin_round_pages(&multi, &place, 1));
+    AGAIN(zimgasol_send_worker(&multi, &worker));
+    WANT(steps(&worker, 0));
+    WANT(zimgasol_send_cancel_round(&multi, true) == ZIMGASOL_DONE);
+    zimgasol_send_free(&multi);
     zimgasol_worker_free(&worker);
 }
 

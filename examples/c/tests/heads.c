@@ -1,6 +1,7 @@
 /* Heads of packets, whose pages their caller sends from where they lie. A guest is sent by heads
- * and pages, by steps, and by each in turn: the streams are the same, and are loaded. Each status
- * of zimgasol_worker_head is asked for, and what stands after it. */
+ * and pages, by whole packets, and by each in turn: the streams are the same, and are loaded. Each
+ * status of zimgasol_worker_head is asked for, and what stands after it. */
+#include "sends.h"
 #include "zimgasol.h"
 #include <stdio.h>
 #include <stdlib.h>
@@ -16,8 +17,8 @@ enum { CHANNELS = 2, PAGES = 45, OTHER = 3, LIMIT = 8, LARGE = 8192, MOST = 1 <<
         }                                                                                          \
     } while (0)
 
-/* How a packet is written: by a step, by a copy, by its head, or each in turn. */
-typedef enum way { STEP, COPY, HEAD, MIXED } way;
+/* How a packet is written: whole, of the blocks or of a copy; by its head; or each in turn. */
+typedef enum way { WHOLE, COPY, HEAD, MIXED } way;
 
 /* The main stream and those of the channels. */
 typedef struct streams {
@@ -51,15 +52,16 @@ static void append(streams *to, size_t source, const void *bytes, size_t len) {
     to->len[source] += len;
 }
 
-static void drain_main(zimgasol_multi *multi, streams *to) {
+static void drain_main(zimgasol_send *multi, streams *to) {
     uint8_t out[100];
     size_t len;
-    while ((len = zimgasol_multi_drain(multi, out, sizeof out)) > 0) append(to, 0, out, len);
+    while ((len = zimgasol_send_drain(multi, ZIMGASOL_MAIN, out, sizeof out)) > 0)
+        append(to, 0, out, len);
 }
 
-static void drain_worker(zimgasol_worker *worker, streams *to) {
+static void drain_worker(zimgasol_worker *worker, size_t source, streams *to) {
     uint8_t out[3000];
-    size_t source = 1 + zimgasol_worker_channel(worker), len;
+    size_t len;
     while ((len = zimgasol_worker_drain(worker, out, sizeof out)) > 0) append(to, source, out, len);
 }
 
@@ -83,8 +85,9 @@ static int refuse_head(zimgasol_worker *worker, const uint8_t *zeros, size_t cou
 }
 
 /* Sends the head of the packet, and the pages that aren't zeros. A flag is any byte but 0. */
-static int send_head(zimgasol_worker *worker, const zimgasol_batch *batch, streams *to) {
-    size_t source = 1 + zimgasol_worker_channel(worker), written = 77;
+static int send_head(zimgasol_worker *worker, size_t source, const zimgasol_batch *batch,
+    streams *to) {
+    size_t written = 77;
     uint8_t zeros[129] = {0}, out[2000];
     for (size_t i = 0; i < batch->count; i++)
         if (is_zero(page_of(batch->block, batch->pages[i]))) zeros[i] = (uint8_t)(255 - i);
@@ -103,9 +106,10 @@ static int send_head(zimgasol_worker *worker, const zimgasol_batch *batch, strea
 }
 
 /* Before its channel is drained, a worker gives no head. */
-static int drain_before(zimgasol_worker *worker, const zimgasol_batch *batch, streams *to) {
+static int drain_before(zimgasol_worker *worker, size_t source, const zimgasol_batch *batch,
+    streams *to) {
     uint8_t zeros[128] = {0}, out[2000];
-    size_t written = 77, source = 1 + zimgasol_worker_channel(worker);
+    size_t written = 77;
     WANT(zimgasol_worker_head(worker, zeros, batch->count, out, sizeof out, &written) ==
         ZIMGASOL_OUT_OF_TURN);
     WANT(zimgasol_worker_drain(worker, out, 10) == 10);
@@ -113,7 +117,7 @@ static int drain_before(zimgasol_worker *worker, const zimgasol_batch *batch, st
     WANT(zimgasol_worker_head(worker, zeros, batch->count, out, sizeof out, &written) ==
         ZIMGASOL_OUT_OF_TURN);
     WANT(written == 77);
-    drain_worker(worker, to);
+    drain_worker(worker, source, to);
     return 0;
 }
 
@@ -121,23 +125,24 @@ static zimgasol_status send_copy(zimgasol_worker *worker, const zimgasol_batch *
     static uint8_t copy[LIMIT * LARGE];
     for (size_t i = 0; i < batch->count; i++)
         memcpy(copy + i * page_len, page_of(batch->block, batch->pages[i]), page_len);
-    return zimgasol_worker_pack(worker, copy, batch->count * page_len);
+    return pack_copy(worker, copy, batch->count, page_len);
 }
 
 /* Sends the next packet of a worker, or ends it, which is noted. With the hello, and after a packet
  * of another way, bytes wait. */
-static int send_next(zimgasol_worker *worker, way by, bool waits, streams *to, bool *ended) {
+static int send_next(zimgasol_worker *worker, size_t source, way by, bool waits, streams *to,
+    bool *ended) {
     zimgasol_lent lent[2] = {{guest[0], PAGES * page_len}, {guest[1], OTHER * page_len}};
     zimgasol_batch batch;
     zimgasol_status status;
     uint8_t zeros[1] = {0}, out[2000];
     size_t written;
-    if (by == STEP) {
-        status = zimgasol_worker_step(worker, lent, 2);
+    if (by == WHOLE) {
+        status = pack_next(worker, lent, page_len);
     } else if ((status = zimgasol_worker_next(worker, &batch)) == ZIMGASOL_RUNNING) {
         if (by == COPY) status = send_copy(worker, &batch);
-        else if (waits && drain_before(worker, &batch, to)) return 1;
-        else if (send_head(worker, &batch, to)) return 1;
+        else if (waits && drain_before(worker, source, &batch, to)) return 1;
+        else if (send_head(worker, source, &batch, to)) return 1;
     } else {
         WANT(zimgasol_worker_head(worker, zeros, 1, out, sizeof out, &written) ==
             ZIMGASOL_OUT_OF_TURN);
@@ -149,15 +154,15 @@ static int send_next(zimgasol_worker *worker, way by, bool waits, streams *to, b
 
 /* ---- a guest */
 
-static int send_round(zimgasol_multi *multi, const zimgasol_place *dirty, size_t count, way by,
+static int send_round(zimgasol_send *multi, const zimgasol_place *dirty, size_t count, way by,
     bool hello, streams *to) {
     zimgasol_worker workers[CHANNELS] = {{0}};
     bool ended[CHANNELS] = {false}, waits[CHANNELS];
     uint8_t zeros[1] = {0}, out[2000];
     size_t written;
-    WANT(zimgasol_multi_begin_round(multi, dirty, count) == ZIMGASOL_DONE);
+    WANT(zimgasol_send_begin_round_pages(multi, dirty, count) == ZIMGASOL_DONE);
     for (size_t j = 0; j < CHANNELS; j++) {
-        WANT(zimgasol_multi_worker(multi, &workers[j]) == ZIMGASOL_DONE);
+        WANT(zimgasol_send_worker(multi, &workers[j]) == ZIMGASOL_DONE);
         waits[j] = hello;
     }
     WANT(zimgasol_worker_head(&workers[0], zeros, 1, out, sizeof out, &written) ==
@@ -166,14 +171,14 @@ static int send_round(zimgasol_multi *multi, const zimgasol_place *dirty, size_t
         size_t j = (size_t)turn % CHANNELS;
         way now = by != MIXED ? by : turn / 2 % 4 == 3 ? HEAD : (way)(turn / 2 % 4);
         if (ended[j]) continue;
-        if (send_next(&workers[j], now, waits[j], to, &ended[j])) return 1;
+        if (send_next(&workers[j], ZIMGASOL_CHANNEL(j), now, waits[j], to, &ended[j])) return 1;
         waits[j] = now != HEAD;
     }
     for (size_t j = 0; j < CHANNELS; j++) {
-        drain_worker(&workers[j], to);
-        WANT(zimgasol_multi_give_back(multi, &workers[j]) == ZIMGASOL_DONE);
+        drain_worker(&workers[j], ZIMGASOL_CHANNEL(j), to);
+        WANT(zimgasol_send_give_back(multi, &workers[j]) == ZIMGASOL_DONE);
     }
-    WANT(zimgasol_multi_end_round(multi) == ZIMGASOL_DONE);
+    WANT(zimgasol_send_end_round(multi) == ZIMGASOL_DONE);
     drain_main(multi, to);
     return 0;
 }
@@ -182,19 +187,19 @@ static int send_round(zimgasol_multi *multi, const zimgasol_place *dirty, size_t
 static int send_guest(zimgasol_table *table, way by, streams *to) {
     static zimgasol_place all[PAGES + OTHER];
     zimgasol_place some[5] = {{1, 1}, {0, 5}, {0, 4}, {0, 3}, {0, 30}};
-    zimgasol_multi multi = {0};
+    zimgasol_send multi = {0};
     memset(to->len, 0, sizeof to->len);
     for (size_t p = 0; p < PAGES + OTHER; p++)
         all[p] = p < PAGES ? (zimgasol_place){0, p} : (zimgasol_place){1, p - PAGES};
-    WANT(zimgasol_multi_new(&multi, table, uuid, 16, CHANNELS, LIMIT) == ZIMGASOL_DONE);
+    WANT(new_on_channels(&multi, table, uuid, CHANNELS, LIMIT) == ZIMGASOL_DONE);
     write_guest(1);
     if (send_round(&multi, all, PAGES + OTHER, by, true, to)) return 1;
     for (size_t i = 0; i < 5; i++)
         memset(page_of(some[i].block, some[i].page), i % 2 ? 0 : 90, page_len);
     if (send_round(&multi, some, 5, by, false, to)) return 1;
-    WANT(zimgasol_multi_finish(&multi) == ZIMGASOL_DONE);
+    WANT(zimgasol_send_finish(&multi, false) == ZIMGASOL_DONE);
     drain_main(&multi, to);
-    zimgasol_multi_free(&multi);
+    zimgasol_send_free(&multi);
     return 0;
 }
 
@@ -226,7 +231,7 @@ static int load_guest(zimgasol_table *table, const streams *from) {
 }
 
 static int send_all(size_t size, size_t head) {
-    static streams steps, others;
+    static streams packets, others;
     zimgasol_block blocks[2] = {{.id = "pc.ram", .pages = PAGES},
         {.id = "pc.bios", .pages = OTHER}};
     zimgasol_table table = {0};
@@ -234,18 +239,18 @@ static int send_all(size_t size, size_t head) {
     page_len = size;
     head_len = head;
     WANT(zimgasol_table_new(&table, size, blocks, 2, &entry) == ZIMGASOL_DONE);
-    if (send_guest(&table, STEP, &steps)) return 1;
+    if (send_guest(&table, WHOLE, &packets)) return 1;
     for (way by = COPY; by <= MIXED; by++) {
         if (send_guest(&table, by, &others)) return 1;
         for (size_t s = 0; s <= CHANNELS; s++)
-            WANT(others.len[s] == steps.len[s] &&
-                memcmp(others.bytes[s], steps.bytes[s], steps.len[s]) == 0);
+            WANT(others.len[s] == packets.len[s] &&
+                memcmp(others.bytes[s], packets.bytes[s], packets.len[s]) == 0);
     }
     if (load_guest(&table, &others)) return 1;
     printf("pages of %zu bytes: %zu bytes on the main stream, %zu and %zu on the channels, by "
            "heads "
-           "as by steps\n",
-        size, steps.len[0], steps.len[1], steps.len[2]);
+           "as by packets\n",
+        size, packets.len[0], packets.len[1], packets.len[2]);
     zimgasol_table_free(&table);
     return 0;
 }

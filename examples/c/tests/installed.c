@@ -17,14 +17,14 @@
 
 static int send_page(zimgasol_table *table, const uint8_t *page, uint8_t *stream, size_t len,
     size_t *sent) {
-    zimgasol_sender sender = {0};
-    int done = zimgasol_sender_new(&sender, table) == ZIMGASOL_DONE &&
-        zimgasol_sender_begin_round(&sender) == ZIMGASOL_DONE &&
-        zimgasol_sender_put_page(&sender, 0, 0, page, 4096) == ZIMGASOL_DONE &&
-        zimgasol_sender_end_round(&sender) == ZIMGASOL_DONE &&
-        zimgasol_sender_finish(&sender) == ZIMGASOL_DONE;
-    *sent = done ? zimgasol_sender_drain(&sender, stream, len) : 0;
-    zimgasol_sender_free(&sender);
+    zimgasol_send sender = {0};
+    int done = zimgasol_send_new(&sender, table, &(zimgasol_send_settings){0}) == ZIMGASOL_DONE &&
+        zimgasol_send_begin_round(&sender) == ZIMGASOL_DONE &&
+        zimgasol_send_put_page(&sender, 0, 0, page, 4096) == ZIMGASOL_DONE &&
+        zimgasol_send_end_round(&sender) == ZIMGASOL_DONE &&
+        zimgasol_send_finish(&sender, false) == ZIMGASOL_DONE;
+    *sent = done ? zimgasol_send_drain(&sender, ZIMGASOL_MAIN, stream, len) : 0;
+    zimgasol_send_free(&sender);
     return done;
 }
 

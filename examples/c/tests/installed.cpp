@@ -5,13 +5,13 @@
 int main() {
     zimgasol_table table = {};
     zimgasol_load load = {};
-    zimgasol_sender sender = {};
-    zimgasol_multi multi = {};
+    zimgasol_send sender = {};
+    zimgasol_send multi = {};
     zimgasol_worker workers[4] = {};
     zimgasol_table_free(&table);
     zimgasol_load_free(&load);
-    zimgasol_sender_free(&sender);
-    zimgasol_multi_free(&multi);
+    zimgasol_send_free(&sender);
+    zimgasol_send_free(&multi);
     for (zimgasol_worker &worker : workers) zimgasol_worker_free(&worker);
 
     static_assert(ZIMGASOL_VERSION_AT_LEAST(0, 0, 1), "a version");

@@ -3,6 +3,7 @@
  * the load has, and of others. One stream is whole, cut, has a fault, or is of another table. It is
  * loaded record by record, and by whole sections. Each argument that no load is made of is tried,
  * in the order in which they are refused. */
+#include "sends.h"
 #include "zimgasol.h"
 #include <stdio.h>
 #include <string.h>
@@ -35,36 +36,36 @@ enum { OTHERS = sizeof others / sizeof others[0] };
 /* ---- what is sent: pages 0 and 1 of a guest, of which page 1 is zeros */
 
 static int send_single(zimgasol_table *table) {
-    zimgasol_sender sender = {0};
-    WANT(zimgasol_sender_new(&sender, table) == ZIMGASOL_DONE);
-    WANT(zimgasol_sender_begin_round(&sender) == ZIMGASOL_DONE);
+    zimgasol_send sender = {0};
+    WANT(zimgasol_send_new(&sender, table, &(zimgasol_send_settings){0}) == ZIMGASOL_DONE);
+    WANT(zimgasol_send_begin_round(&sender) == ZIMGASOL_DONE);
     for (size_t p = 0; p < 2; p++)
-        WANT(zimgasol_sender_put_page(&sender, 0, p, guest + p * PAGE, PAGE) == ZIMGASOL_DONE);
-    WANT(zimgasol_sender_end_round(&sender) == ZIMGASOL_DONE);
-    WANT(zimgasol_sender_finish(&sender) == ZIMGASOL_DONE);
-    single_len = zimgasol_sender_drain(&sender, single, MOST);
+        WANT(zimgasol_send_put_page(&sender, 0, p, guest + p * PAGE, PAGE) == ZIMGASOL_DONE);
+    WANT(zimgasol_send_end_round(&sender) == ZIMGASOL_DONE);
+    WANT(zimgasol_send_finish(&sender, false) == ZIMGASOL_DONE);
+    single_len = zimgasol_send_drain(&sender, ZIMGASOL_MAIN, single, MOST);
     WANT(single_len > PAGE && single_len < MOST);
-    zimgasol_sender_free(&sender);
+    zimgasol_send_free(&sender);
     return 0;
 }
 
 static int send_several(zimgasol_table *table) {
     const zimgasol_place dirty[2] = {{0, 0}, {0, 1}};
     const zimgasol_lent lent[1] = {{guest, sizeof guest}};
-    zimgasol_multi multi = {0};
+    zimgasol_send multi = {0};
     zimgasol_worker worker = {0};
-    WANT(zimgasol_multi_new(&multi, table, uuid, 16, 1, 128) == ZIMGASOL_DONE);
-    WANT(zimgasol_multi_begin_round(&multi, dirty, 2) == ZIMGASOL_DONE);
-    WANT(zimgasol_multi_worker(&multi, &worker) == ZIMGASOL_DONE);
-    while (zimgasol_worker_step(&worker, lent, 1) == ZIMGASOL_RUNNING) continue;
+    WANT(new_on_channels(&multi, table, uuid, 1, 128) == ZIMGASOL_DONE);
+    WANT(zimgasol_send_begin_round_pages(&multi, dirty, 2) == ZIMGASOL_DONE);
+    WANT(zimgasol_send_worker(&multi, &worker) == ZIMGASOL_DONE);
+    while (pack_next(&worker, lent, PAGE) == ZIMGASOL_RUNNING) continue;
     length[1] = zimgasol_worker_drain(&worker, stream[1], MOST);
     WANT(length[1] == ZIMGASOL_HELLO_LEN + HEAD + PAGE + HEAD);
-    WANT(zimgasol_multi_give_back(&multi, &worker) == ZIMGASOL_DONE);
-    WANT(zimgasol_multi_end_round(&multi) == ZIMGASOL_DONE);
-    WANT(zimgasol_multi_finish(&multi) == ZIMGASOL_DONE);
-    length[0] = zimgasol_multi_drain(&multi, stream[0], MOST);
+    WANT(zimgasol_send_give_back(&multi, &worker) == ZIMGASOL_DONE);
+    WANT(zimgasol_send_end_round(&multi) == ZIMGASOL_DONE);
+    WANT(zimgasol_send_finish(&multi, false) == ZIMGASOL_DONE);
+    length[0] = zimgasol_send_drain(&multi, ZIMGASOL_MAIN, stream[0], MOST);
     WANT(length[0] > 0 && length[0] < MOST);
-    zimgasol_multi_free(&multi);
+    zimgasol_send_free(&multi);
     return 0;
 }
 

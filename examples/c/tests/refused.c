@@ -3,6 +3,7 @@
  * wanted it says so, and is made again. So is a main stream with its channel, by whole rounds. What
  * comes of it is the same as with no refusal, and no block is left. One stream by whole sections is
  * also cut everywhere, has faults, and is of another table. */
+#include "sends.h"
 #include "zimgasol.h"
 #include "refusing.h"
 #include <string.h>
@@ -21,22 +22,22 @@ static void fill(uint8_t first, uint8_t other) {
     page[0] = first;
 }
 
-static void drain(zimgasol_sender *sender) {
+static void drain(zimgasol_send *sender) {
     size_t len;
     /* a call of drain, and one of its two halves, by turns */
     for (int turn = 0;; turn++) {
-        size_t waits = zimgasol_sender_waiting(sender);
+        size_t waits = zimgasol_send_waiting(sender, ZIMGASOL_MAIN);
         if (turn % 2 == 0) {
-            len = zimgasol_sender_drain(sender, text + text_len, 1000);
+            len = zimgasol_send_drain(sender, ZIMGASOL_MAIN, text + text_len, 1000);
         } else {
-            len = zimgasol_sender_peek(sender, text + text_len, 1000);
-            WANT(zimgasol_sender_peek(sender, text + text_len, 1000) == len);
-            WANT(zimgasol_sender_waiting(sender) == waits);
+            len = zimgasol_send_peek(sender, ZIMGASOL_MAIN, text + text_len, 1000);
+            WANT(zimgasol_send_peek(sender, ZIMGASOL_MAIN, text + text_len, 1000) == len);
+            WANT(zimgasol_send_waiting(sender, ZIMGASOL_MAIN) == waits);
             len -= len > 1;
-            WANT(zimgasol_sender_skip(sender, len) == len);
+            WANT(zimgasol_send_skip(sender, ZIMGASOL_MAIN, len) == len);
         }
         /* once these have gone more may follow, as after a configuration */
-        WANT(waits == len || zimgasol_sender_waiting(sender) == waits - len);
+        WANT(waits == len || zimgasol_send_waiting(sender, ZIMGASOL_MAIN) == waits - len);
         if (len == 0) break;
         text_len += len;
         WANT(text_len + 1000 < MOST);
@@ -48,33 +49,33 @@ static void drain(zimgasol_sender *sender) {
 static void send_rounds(const char *name) {
     zimgasol_block blocks[2] = {{.id = "a", .pages = 3}, {.id = "pc.ram", .pages = 2}};
     zimgasol_table table = {0};
-    zimgasol_sender sender = {0};
+    zimgasol_send sender = {0};
     size_t entry;
     AGAIN(zimgasol_table_new(&table, PAGE, blocks, 2, &entry));
-    if (name == NULL) AGAIN(zimgasol_sender_new(&sender, &table));
-    else AGAIN(zimgasol_sender_new_named(&sender, &table, (const uint8_t *)name, strlen(name)));
+    if (name == NULL) AGAIN(zimgasol_send_new(&sender, &table, &(zimgasol_send_settings){0}));
+    else AGAIN(new_named(&sender, &table, (const uint8_t *)name, strlen(name)));
     text_len = 0;
     for (int round = 0; round < 3; round++) {
-        AGAIN(zimgasol_sender_begin_round(&sender));
+        AGAIN(zimgasol_send_begin_round(&sender));
         fill((uint8_t)(round + 1), 7);
-        AGAIN(zimgasol_sender_put_page(&sender, 0, 2, page, PAGE));
+        AGAIN(zimgasol_send_put_page(&sender, 0, 2, page, PAGE));
         fill(0, 0);
-        AGAIN(zimgasol_sender_put_page(&sender, 1, (uint64_t)(round & 1), page, PAGE));
-        if (round == 1) AGAIN(zimgasol_sender_cancel_round(&sender));
-        else AGAIN(zimgasol_sender_end_round(&sender));
+        AGAIN(zimgasol_send_put_page(&sender, 1, (uint64_t)(round & 1), page, PAGE));
+        if (round == 1) AGAIN(zimgasol_send_cancel_round(&sender, false));
+        else AGAIN(zimgasol_send_end_round(&sender));
         /* between two rounds the bytes of those that were ended are there */
         if (round == 0) drain(&sender);
         if (round == 0) WANT(text_len > PAGE);
     }
-    if (name == NULL) AGAIN(zimgasol_sender_finish(&sender));
-    else AGAIN(zimgasol_sender_finish_open(&sender));
-    WANT(zimgasol_sender_finish(&sender) == ZIMGASOL_OUT_OF_TURN &&
-        zimgasol_sender_finish_open(&sender) == ZIMGASOL_OUT_OF_TURN);
-    WANT(zimgasol_sender_begin_round(&sender) == ZIMGASOL_OUT_OF_TURN &&
-        zimgasol_sender_end_round(&sender) == ZIMGASOL_OUT_OF_TURN);
+    if (name == NULL) AGAIN(zimgasol_send_finish(&sender, false));
+    else AGAIN(zimgasol_send_finish(&sender, true));
+    WANT(zimgasol_send_finish(&sender, false) == ZIMGASOL_OUT_OF_TURN &&
+        zimgasol_send_finish(&sender, true) == ZIMGASOL_OUT_OF_TURN);
+    WANT(zimgasol_send_begin_round(&sender) == ZIMGASOL_OUT_OF_TURN &&
+        zimgasol_send_end_round(&sender) == ZIMGASOL_OUT_OF_TURN);
     drain(&sender);
     zimgasol_table_free(&table);
-    zimgasol_sender_free(&sender);
+    zimgasol_send_free(&sender);
 }
 
 /* A machine's stream is that of RAM's sections, with a configuration after the file header and
@@ -740,11 +741,15 @@ static void wrong_packet(void) {
 /* Calls that aren't to be made so. */
 static void misuse(void) {
     static const uint8_t uuid[16] = {0};
+    static const uint64_t marks[1] = {1};
+    const zimgasol_place place = {0, 0};
+    const zimgasol_bitmap bitmap = {marks, 1};
     zimgasol_settings wrong = whole;
     zimgasol_block blocks[2] = {{.id = "a", .pages = 1}, {.id = "a", .pages = 1}};
     zimgasol_table table = {0};
     zimgasol_load load = {0};
-    zimgasol_sender sender = {0};
+    zimgasol_send sender = {0};
+    zimgasol_worker worker = {0};
     size_t entry = 9;
     WANT(zimgasol_table_new(&table, 100, blocks, 1, &entry) == ZIMGASOL_BAD_PAGE_SIZE);
     WANT(zimgasol_table_new(&table, PAGE, blocks, 0, &entry) == ZIMGASOL_NO_BLOCKS);
@@ -757,33 +762,41 @@ static void misuse(void) {
     WANT(zimgasol_table_new(&table, PAGE, blocks, 1, &entry) == ZIMGASOL_ID && entry == 0 &&
         table.at == NULL);
     WANT(zimgasol_table_new(&table, PAGE, blocks + 1, 1, &entry) == ZIMGASOL_DONE &&
-        zimgasol_sender_new(&sender, &table) == ZIMGASOL_DONE);
+        zimgasol_send_new(&sender, &table, &(zimgasol_send_settings){0}) == ZIMGASOL_DONE);
     wrong.frame = (zimgasol_frame)2;
     WANT(zimgasol_load_new(&load, &table, uuid, 16, 256, &whole) == ZIMGASOL_BAD_CHANNELS &&
         zimgasol_load_new(&load, &table, uuid, 15, 1, &whole) == ZIMGASOL_BAD_LENGTH);
     WANT(zimgasol_load_new(&load, &table, uuid, 16, 0, &wrong) == ZIMGASOL_BAD_FRAME &&
         load.at == NULL);
-    WANT(zimgasol_sender_put_page(&sender, 0, 0, page, PAGE) == ZIMGASOL_OUT_OF_TURN &&
-        zimgasol_sender_end_round(&sender) == ZIMGASOL_OUT_OF_TURN);
-    WANT(zimgasol_sender_cancel_round(&sender) == ZIMGASOL_OUT_OF_TURN &&
-        zimgasol_sender_begin_round(&sender) == ZIMGASOL_DONE);
-    WANT(zimgasol_sender_begin_round(&sender) == ZIMGASOL_OUT_OF_TURN &&
-        zimgasol_sender_finish(&sender) == ZIMGASOL_OUT_OF_TURN);
-    WANT(zimgasol_sender_put_page(&sender, 0, 1, page, PAGE) == ZIMGASOL_NO_PAGE &&
-        zimgasol_sender_put_page(&sender, 0, 0, page, 1) == ZIMGASOL_BAD_LENGTH);
-    zimgasol_sender_free(&sender);
+    WANT(zimgasol_send_put_page(&sender, 0, 0, page, PAGE) == ZIMGASOL_OUT_OF_TURN &&
+        zimgasol_send_end_round(&sender) == ZIMGASOL_OUT_OF_TURN);
+    /* what channels alone have */
+    WANT(zimgasol_send_begin_round_pages(&sender, &place, 1) == ZIMGASOL_OUT_OF_TURN &&
+        zimgasol_send_begin_round_bitmaps(&sender, &bitmap, 1) == ZIMGASOL_OUT_OF_TURN);
+    WANT(zimgasol_send_worker(&sender, &worker) == ZIMGASOL_OUT_OF_TURN && worker.full == 0);
+    WANT(zimgasol_send_drain(&sender, ZIMGASOL_CHANNEL(0), page, PAGE) == 0 &&
+        zimgasol_send_peek(&sender, ZIMGASOL_CHANNEL(0), page, PAGE) == 0);
+    WANT(zimgasol_send_skip(&sender, ZIMGASOL_CHANNEL(0), 1) == 0 &&
+        zimgasol_send_waiting(&sender, ZIMGASOL_CHANNEL(0)) == 0);
+    WANT(zimgasol_send_cancel_round(&sender, false) == ZIMGASOL_OUT_OF_TURN &&
+        zimgasol_send_begin_round(&sender) == ZIMGASOL_DONE);
+    WANT(zimgasol_send_begin_round(&sender) == ZIMGASOL_OUT_OF_TURN &&
+        zimgasol_send_finish(&sender, false) == ZIMGASOL_OUT_OF_TURN);
+    WANT(zimgasol_send_put_page(&sender, 0, 1, page, PAGE) == ZIMGASOL_NO_PAGE &&
+        zimgasol_send_put_page(&sender, 0, 0, page, 1) == ZIMGASOL_BAD_LENGTH);
+    zimgasol_send_free(&sender);
     static const uint8_t long_name[1025] = {'m'};
-    WANT(zimgasol_sender_new_named(&sender, &table, long_name, 1025) == ZIMGASOL_BAD_LENGTH &&
+    WANT(new_named(&sender, &table, long_name, 1025) == ZIMGASOL_BAD_LENGTH &&
         sender.at == NULL);
-    WANT(zimgasol_sender_new_named(&sender, &table, long_name, 1024) == ZIMGASOL_DONE &&
-        zimgasol_sender_waiting(&sender) == 8 + 5 + 1024);
-    zimgasol_sender_free(&sender);
-    WANT(zimgasol_sender_new_named(&sender, &table, long_name, 0) == ZIMGASOL_DONE &&
-        zimgasol_sender_waiting(&sender) == 8 + 5);
-    zimgasol_sender_free(&sender);
+    WANT(new_named(&sender, &table, long_name, 1024) == ZIMGASOL_DONE &&
+        zimgasol_send_waiting(&sender, ZIMGASOL_MAIN) == 8 + 5 + 1024);
+    zimgasol_send_free(&sender);
+    WANT(new_named(&sender, &table, long_name, 0) == ZIMGASOL_DONE &&
+        zimgasol_send_waiting(&sender, ZIMGASOL_MAIN) == 8 + 5);
+    zimgasol_send_free(&sender);
     zimgasol_table_free(&table);
     /* once more does nothing */
-    zimgasol_sender_free(&sender);
+    zimgasol_send_free(&sender);
     zimgasol_table_free(&table);
     WANT(table.at == NULL && sender.at == NULL && table.full == 0 && sender.full == 0);
 }

@@ -2,6 +2,7 @@
  * before the table, and with each allocation refused in turn. The blocks are read out of it, and a
  * load into blocks of it reads the stream. */
 #include "refusing.h"
+#include "sends.h"
 #include "zimgasol.h"
 #include <string.h>
 
@@ -14,26 +15,26 @@ static size_t stream_len;
 /* A stream of three pages; or with a name that of a machine, which isn't ended. */
 static int send(const char *name) {
     zimgasol_table table = {0};
-    zimgasol_sender sender = {0};
+    zimgasol_send sender = {0};
     size_t entry;
     WANT(zimgasol_table_new(&table, PAGE, blocks, 2, &entry) == ZIMGASOL_DONE);
     if (name != NULL)
-        WANT(zimgasol_sender_new_named(&sender, &table, (const uint8_t *)name, strlen(name)) ==
+        WANT(new_named(&sender, &table, (const uint8_t *)name, strlen(name)) ==
              ZIMGASOL_DONE);
     else
-        WANT(zimgasol_sender_new(&sender, &table) == ZIMGASOL_DONE);
+        WANT(zimgasol_send_new(&sender, &table, &(zimgasol_send_settings){0}) == ZIMGASOL_DONE);
     zimgasol_table_free(&table);
-    WANT(zimgasol_sender_begin_round(&sender) == ZIMGASOL_DONE);
+    WANT(zimgasol_send_begin_round(&sender) == ZIMGASOL_DONE);
     for (size_t p = 0; p < 3; p++)
-        WANT(zimgasol_sender_put_page(&sender, p / 2, p % 2, guest + p * PAGE, PAGE) ==
+        WANT(zimgasol_send_put_page(&sender, p / 2, p % 2, guest + p * PAGE, PAGE) ==
              ZIMGASOL_DONE);
-    WANT(zimgasol_sender_end_round(&sender) == ZIMGASOL_DONE);
+    WANT(zimgasol_send_end_round(&sender) == ZIMGASOL_DONE);
     if (name != NULL)
-        WANT(zimgasol_sender_finish_open(&sender) == ZIMGASOL_DONE);
+        WANT(zimgasol_send_finish(&sender, true) == ZIMGASOL_DONE);
     else
-        WANT(zimgasol_sender_finish(&sender) == ZIMGASOL_DONE);
-    stream_len = zimgasol_sender_drain(&sender, stream, MOST);
-    zimgasol_sender_free(&sender);
+        WANT(zimgasol_send_finish(&sender, false) == ZIMGASOL_DONE);
+    stream_len = zimgasol_send_drain(&sender, ZIMGASOL_MAIN, stream, MOST);
+    zimgasol_send_free(&sender);
     return 0;
 }
 

@@ -5,6 +5,7 @@
  * pieces, also by whole rounds, and by packets whose pages are read to their places. Each load says
  * how many pages no round had. */
 #define _DEFAULT_SOURCE
+#include "sends.h"
 #include "zimgasol.h"
 #include <stdio.h>
 #include <string.h>
@@ -52,49 +53,49 @@ static void write_guest(int round) {
 }
 
 static int send_single(zimgasol_table *table) {
-    zimgasol_sender sender = {0};
-    WANT(zimgasol_sender_new(&sender, table) == ZIMGASOL_DONE);
+    zimgasol_send sender = {0};
+    WANT(zimgasol_send_new(&sender, table, &(zimgasol_send_settings){0}) == ZIMGASOL_DONE);
     for (int round = 0; round < 2; round++) {
         write_guest(round);
-        WANT(zimgasol_sender_begin_round(&sender) == ZIMGASOL_DONE);
+        WANT(zimgasol_send_begin_round(&sender) == ZIMGASOL_DONE);
         for (size_t p = 0; p < round_pages(round); p++)
-            WANT(zimgasol_sender_put_page(&sender, 0, p, guest + p * PAGE, PAGE) == ZIMGASOL_DONE);
-        WANT(zimgasol_sender_end_round(&sender) == ZIMGASOL_DONE);
+            WANT(zimgasol_send_put_page(&sender, 0, p, guest + p * PAGE, PAGE) == ZIMGASOL_DONE);
+        WANT(zimgasol_send_end_round(&sender) == ZIMGASOL_DONE);
     }
-    WANT(zimgasol_sender_finish(&sender) == ZIMGASOL_DONE);
-    length[0] = zimgasol_sender_drain(&sender, stream[0], MOST);
+    WANT(zimgasol_send_finish(&sender, false) == ZIMGASOL_DONE);
+    length[0] = zimgasol_send_drain(&sender, ZIMGASOL_MAIN, stream[0], MOST);
     WANT(length[0] < MOST);
-    zimgasol_sender_free(&sender);
+    zimgasol_send_free(&sender);
     return 0;
 }
 
-static int send_round(zimgasol_multi *multi, int round) {
+static int send_round(zimgasol_send *multi, int round) {
     zimgasol_place places[SENT];
     zimgasol_lent lent[1] = {{guest, sizeof guest}};
     zimgasol_worker worker = {0};
     zimgasol_status status;
     write_guest(round);
     for (size_t p = 0; p < round_pages(round); p++) places[p] = (zimgasol_place){0, p};
-    WANT(zimgasol_multi_begin_round(multi, places, round_pages(round)) == ZIMGASOL_DONE);
-    WANT(zimgasol_multi_worker(multi, &worker) == ZIMGASOL_DONE);
+    WANT(zimgasol_send_begin_round_pages(multi, places, round_pages(round)) == ZIMGASOL_DONE);
+    WANT(zimgasol_send_worker(multi, &worker) == ZIMGASOL_DONE);
     do {
-        status = zimgasol_worker_step(&worker, lent, 1);
+        status = pack_next(&worker, lent, PAGE);
         length[1] += zimgasol_worker_drain(&worker, stream[1] + length[1], MOST - length[1]);
     } while (status == ZIMGASOL_RUNNING);
-    WANT(status == ZIMGASOL_DONE && zimgasol_multi_give_back(multi, &worker) == ZIMGASOL_DONE);
-    WANT(zimgasol_multi_end_round(multi) == ZIMGASOL_DONE);
+    WANT(status == ZIMGASOL_DONE && zimgasol_send_give_back(multi, &worker) == ZIMGASOL_DONE);
+    WANT(zimgasol_send_end_round(multi) == ZIMGASOL_DONE);
     return 0;
 }
 
 static int send_channel(zimgasol_table *table) {
-    zimgasol_multi multi = {0};
+    zimgasol_send multi = {0};
     length[1] = 0;
-    WANT(zimgasol_multi_new(&multi, table, uuid, 16, 1, 4) == ZIMGASOL_DONE);
+    WANT(new_on_channels(&multi, table, uuid, 1, 4) == ZIMGASOL_DONE);
     if (send_round(&multi, 0) || send_round(&multi, 1)) return 1;
-    WANT(zimgasol_multi_finish(&multi) == ZIMGASOL_DONE);
-    length[0] = zimgasol_multi_drain(&multi, stream[0], MOST);
+    WANT(zimgasol_send_finish(&multi, false) == ZIMGASOL_DONE);
+    length[0] = zimgasol_send_drain(&multi, ZIMGASOL_MAIN, stream[0], MOST);
     WANT(length[0] < MOST && length[1] < MOST);
-    zimgasol_multi_free(&multi);
+    zimgasol_send_free(&multi);
     return 0;
 }
 

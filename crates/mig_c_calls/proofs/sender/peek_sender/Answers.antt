@@ -14,6 +14,7 @@ returns c =
         fits = c.copy_front.ensures.fits;
         within = omega (arith, c.copy_front.ensures.within, ap (λ (l : List ℕ). length l) here);
         has_front = c.copy_front.ensures.front ∙ ap (λ (l : List ℕ). take count l) here;
+        fills = λ less. c.copy_front.ensures.fills less ∙ ap (λ (l : List ℕ). length l) here;
         none = λ zero room. nil_from_length (waiting mid) (ap (λ (l : List ℕ). length l) (sym here) ∙ c.copy_front.ensures.none zero room);
       },
     )
