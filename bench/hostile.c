@@ -132,17 +132,19 @@ static uint64_t load(void *of) {
         .whole_rounds = h->is_whole};
     zimgasol_load load = {0};
     zimgasol_fault fault;
-    size_t len, count;
+    zimgasol_fed fed;
+    size_t len;
     check(zimgasol_load_new(&load, &h->guest.table, uuid, 0, 0, &settings), "load_new");
     for (size_t at = 0; (len = piece_len(&h->bytes, at, PIECE)) > 0; at += len)
         check(zimgasol_load_feed(&load, h->blocks, h->count, ZIMGASOL_MAIN, h->bytes.bytes + at,
-                  len, &count),
+                  len, &fed),
             "load_feed");
     check(zimgasol_load_end(&load, ZIMGASOL_MAIN), "load_end");
     check_verdict(zimgasol_load_verdict(&load, &fault), h, "load_verdict");
-    uint64_t rounds = zimgasol_load_rounds(&load);
+    zimgasol_standing standing;
+    zimgasol_load_standing(&load, &standing);
     zimgasol_load_free(&load);
-    return rounds;
+    return standing.rounds;
 }
 
 /* Feeds a main stream, as one piece, to a load of whole rounds whose only channel has nothing. So
@@ -153,16 +155,17 @@ static uint64_t feed_main(void *of) {
     const zimgasol_settings settings = {.frame = h->frame, .zero_blocks = 1, .whole_rounds = 1};
     zimgasol_load load = {0};
     zimgasol_fault fault;
-    size_t count;
+    zimgasol_fed fed;
+    zimgasol_source stream;
     check(zimgasol_load_new(&load, &h->guest.table, uuid, sizeof uuid, 1, &settings), "load_new");
     check(zimgasol_load_feed(&load, h->blocks, h->count, ZIMGASOL_MAIN, h->bytes.bytes,
-              h->bytes.len, &count),
+              h->bytes.len, &fed),
         "load_feed");
     check(zimgasol_load_end(&load, ZIMGASOL_MAIN), "load_end");
     check_verdict(zimgasol_load_verdict(&load, &fault), h, "load_verdict");
-    uint64_t fed = zimgasol_load_fed(&load, ZIMGASOL_MAIN);
+    zimgasol_load_source(&load, ZIMGASOL_MAIN, &stream);
     zimgasol_load_free(&load);
-    return fed;
+    return stream.fed;
 }
 
 /* ---- streams */
@@ -394,12 +397,12 @@ static uint64_t feed_open_section(void *of) {
     const zimgasol_settings settings = {.waiting = s->waiting, .zero_blocks = 1, .whole_rounds = 1};
     zimgasol_load load = {0};
     zimgasol_fault fault;
-    size_t count;
+    zimgasol_fed fed;
     check(zimgasol_load_new(&load, &s->into.guest.table, uuid, 0, 0, &settings), "load_new");
     for (uint64_t i = 0; i <= s->pieces; i++) {
         const stream *piece = i == 0 ? &s->opening : &s->piece;
         check(zimgasol_load_feed(&load, s->into.blocks, 1, ZIMGASOL_MAIN, piece->bytes, piece->len,
-                  &count),
+                  &fed),
             "load_feed");
     }
     zimgasol_status wanted = s->waiting > 0 ? ZIMGASOL_STREAM_WAITING : ZIMGASOL_RUNNING;

@@ -56,18 +56,20 @@ static uint64_t load_into(uint8_t *bytes, const loading *l, const zimgasol_setti
     zimgasol_load load = {0};
     zimgasol_buffer block = {bytes, l->guest->len};
     zimgasol_fault fault;
-    size_t len, count;
+    zimgasol_fed fed;
+    zimgasol_standing standing;
+    size_t len;
     check(zimgasol_load_new(&load, &l->guest->table, uuid, 0, 0, settings), "load_new");
     for (size_t at = 0; (len = piece_len(l->stream, at, l->piece)) > 0; at += len)
         check(zimgasol_load_feed(&load, &block, 1, ZIMGASOL_MAIN, l->stream->bytes + at, len,
-                  &count),
+                  &fed),
             "load_feed");
     check(zimgasol_load_end(&load, ZIMGASOL_MAIN), "load_end");
     check(zimgasol_load_verdict(&load, &fault), "load_verdict");
     check_last_page(l->guest, bytes + block.len - PAGE);
-    uint64_t rounds = zimgasol_load_rounds(&load);
+    zimgasol_load_standing(&load, &standing);
     zimgasol_load_free(&load);
-    return rounds;
+    return standing.rounds;
 }
 
 /* Loads into a block of zeros that is made here and freed. */

@@ -20,9 +20,9 @@ typedef struct placing {
 } placing;
 
 static void feed(placing *to, size_t source, const uint8_t *piece, size_t len) {
-    size_t count = 0;
-    check(zimgasol_load_feed(&to->load, &to->block, 1, source, piece, len, &count), "load_feed");
-    if (count != len) give_up("a piece of the only round wasn't taken");
+    zimgasol_fed fed;
+    check(zimgasol_load_feed(&to->load, &to->block, 1, source, piece, len, &fed), "load_feed");
+    if (fed.taken != len) give_up("a piece of the only round wasn't taken");
 }
 
 /* Feeds the main stream, and then pieces of the channels in turn. */
@@ -49,9 +49,10 @@ static uint64_t load_into(const loading *l, uint8_t *block, const zimgasol_setti
         check(zimgasol_load_end(&p.load, source), "load_end");
     check(zimgasol_load_verdict(&p.load, &fault), "load_verdict");
     check_last_page(l->guest, block + l->guest->len - PAGE);
-    uint64_t rounds = zimgasol_load_rounds(&p.load);
+    zimgasol_standing standing;
+    zimgasol_load_standing(&p.load, &standing);
     zimgasol_load_free(&p.load);
-    return rounds;
+    return standing.rounds;
 }
 
 /* Loads by whole rounds, into a block of zeros that is made here and freed. */

@@ -85,16 +85,19 @@ static void *read_plain(void *of) {
 
 /* Feeds all of some bytes, each as soon as it may be fed. */
 static void feed(loading *to, size_t source, const uint8_t *bytes, size_t len) {
-    size_t taken;
+    zimgasol_fed fed;
     pthread_mutex_lock(&to->held);
     while (len > 0) {
-        if (zimgasol_load_claimed(&to->load) > 0 || !zimgasol_load_takes(&to->load, source)) {
+        zimgasol_status status = ZIMGASOL_OUT_OF_TURN; /* so it is, too, where pages are claimed */
+        if (zimgasol_load_takes(&to->load, source))
+            status = zimgasol_load_feed(&to->load, &to->block, 1, source, bytes, len, &fed);
+        if (status == ZIMGASOL_OUT_OF_TURN) {
             pthread_cond_wait(&to->turned, &to->held);
             continue;
         }
-        check(zimgasol_load_feed(&to->load, &to->block, 1, source, bytes, len, &taken), "feed");
-        bytes += taken;
-        len -= taken;
+        check(status, "feed");
+        bytes += fed.taken;
+        len -= fed.taken;
         pthread_cond_broadcast(&to->turned);
     }
     pthread_mutex_unlock(&to->held);

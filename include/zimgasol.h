@@ -13,9 +13,9 @@
  *    It is never written to and never copied; it may be moved, where the old place isn't used any
  *    more. `_new` gets one that is empty, which is one of zeros, or as `_free` or a refused `_new`
  *    left it. `_free` gets any handle of its kind, and does nothing to an empty one. Each other
- *    call gets one whose `_new` returned ZIMGASOL_DONE and that wasn't freed since. A worker's
- *    `_new` is zimgasol_send_worker, and a zimgasol_send_give_back that returns ZIMGASOL_DONE
- *    empties it.
+ *    call gets one whose `_new` returned ZIMGASOL_DONE and that wasn't freed since. What holds of a
+ *    `_new` holds of zimgasol_table_of_stream for a table, and of zimgasol_send_worker for a
+ *    worker. A zimgasol_send_give_back that returns ZIMGASOL_DONE empties the worker's handle.
  *  - Threads. One call at a time works on a handle. A handle may pass to another thread, if the
  *    calls before happen before those after, as by a lock, the start or the join of a thread, or an
  *    atomic that is released and acquired. Calls on different handles may run at once, but the
@@ -39,10 +39,10 @@
  * alone, 64 bits, and is built for processors with x86-64-v2 (SSE4.2): its files are marked with
  * that, so that the system's loader refuses a program on another one.
  *
- * A call that may be refused returns a status: ZIMGASOL_DONE, the number of a fault (1 to 65, see
- * docs/FAULTS.md), or one of the numbers from 100 on. A later version may return other numbers: a
- * caller treats one that it doesn't know as a fault. After anything but ZIMGASOL_DONE nothing has
- * changed, unless the call says otherwise.
+ * A call that may be refused returns a status: ZIMGASOL_DONE; 1 to 65, the number of a fault of a
+ * table, a stream, a channel, a round, a setting or an allocation (docs/FAULTS.md); or one of the
+ * numbers from 100 on. A later version may return others: a caller treats one that it doesn't know
+ * as a fault. After anything but ZIMGASOL_DONE nothing has changed, unless the call says otherwise.
  *
  * Pages that are written meanwhile. The bytes that a call is passed may not change while it runs,
  * since what it promises is said of those bytes. So a page of a guest that runs on is copied to a
@@ -291,7 +291,8 @@ ZIMGASOL_ASSERT(sizeof(zimgasol_status) == sizeof(uint32_t), "an enum has the si
 /* What a stream is read as. RAM: RAM's section alone, up to the end byte after its END, as the
  * sends of this library write it. MACHINE: a whole machine's stream, as QEMU writes it, up to the
  * footer of RAM's END; COMMANDs and subsections that leave RAM alone are passed over, and the
- * sections of devices that follow aren't read (the _closed_at calls say where they begin). */
+ * sections of devices that follow aren't read (`closed_at` of zimgasol_standing is where they
+ * begin). */
 typedef enum zimgasol_frame {
     ZIMGASOL_FRAME_RAM = 0,
     ZIMGASOL_FRAME_MACHINE = 1
@@ -324,7 +325,7 @@ ZIMGASOL_ASSERT(sizeof(zimgasol_round_end) == sizeof(uint32_t), "an enum has the
  *    keeps of an open section: some `waiting` pages, and 48 bytes for each. A load of several
  *    channels keeps the main stream's page records of the open round, which are bounded as much.
  *    The sections, and the rounds of a main stream, that one piece completes aren't bounded. So
- *    pieces are short, and a sender whose `_fed` rises far without `_rounds` is given up. Each load
+ *    pieces are short, and a sender that is fed far without a round more is given up. Each load
  *    tests `waiting`, so that all have one result. 2 * pages + 1 suffices if each page is sent at
  *    most once in a section or round.
  *  - `zero_blocks`: any number but 0 says that the blocks hold zeros when the load begins, as a
@@ -334,7 +335,7 @@ ZIMGASOL_ASSERT(sizeof(zimgasol_round_end) == sizeof(uint32_t), "an enum has the
  *    pages of zeros costs little. It is the caller's word that nothing proves: where a page holds
  *    something else that was never written, it is left in the guest.
  *  - `whole_rounds`: any number but 0 says that the load writes whole rounds alone, or of one
- *    stream whole sections. After each call the blocks have those that zimgasol_load_rounds counts,
+ *    stream whole sections. After each call the blocks have those that are counted (`rounds`),
  *    and nothing else, whatever has come of the next one. So they stay after a fault, too, and
  *    after a refused allocation. The load keeps the pages of the open round or section apart until
  *    it is complete and without a fault, and copies them into the blocks then. Of several channels
@@ -390,6 +391,60 @@ typedef struct zimgasol_fault {
     uint64_t second;
     uint64_t reserved[3];
 } zimgasol_fault;
+
+/* What a piece came to: how many of its bytes were taken, and how many rounds (of one stream:
+ * sections) are counted then. A round that it ended shows so. */
+typedef struct zimgasol_fed {
+    size_t taken;
+    uint64_t rounds;
+} zimgasol_fed;
+
+/* How a load stands (zimgasol_load_standing). `reserved` has zeros.
+ *  - `rounds`: how many rounds of several channels were judged lawful: the blocks have all of them,
+ *    and with whole_rounds nothing else. START and END are none. Of one stream it is how many
+ *    sections are complete in the blocks, which may have records of the next one, too, but with
+ *    whole_rounds haven't. START and END count.
+ *  - `missing`: how many pages of the blocks no record and no packet of the rounds counted, or of
+ *    the one stream so far, named. With whole_rounds the one stream's open section names none. With
+ *    DONE, or where all rounds are in, the streams don't have these pages: the blocks hold there
+ *    what they held at first. It is 0 for a whole guest; a stream of changes, or a main stream
+ *    whose channels were lost, leaves pages out and is DONE all the same. It is all pages with
+ *    OTHER_TABLE. After NO_MEMORY for good the number says nothing.
+ *  - `claimed`: how many pages are claimed (zimgasol_load_claim): 0 with whole_rounds.
+ *  - `has_all_rounds`: 1 if all rounds are in, else 0. They are in where the main stream is closed,
+ *    each of its rounds was judged lawful, and no packet of a further round has begun. The blocks
+ *    have all rounds then, and nothing else. QEMU with a return path ends its channels only after
+ *    the answer, and DONE waits for their ends. So answer where this is 1. Then the channels end,
+ *    and the verdict is DONE. One stream has all rounds once it is closed.
+ *  - `is_closed`: 1 if the main stream, or the one stream, is closed, else 0: so always with
+ *    NO_MEMORY, and of one stream with OTHER_TABLE.
+ *  - `closed_at`: how many of the bytes taken it has, if it is closed: those up to its end byte, or
+ *    in the frame MACHINE up to the footer of RAM's END. The bytes taken after them are the
+ *    caller's. Else it is 0. */
+typedef struct zimgasol_standing {
+    uint64_t rounds;
+    uint64_t missing;
+    uint64_t claimed;
+    uint64_t has_all_rounds;
+    uint64_t is_closed;
+    uint64_t closed_at;
+    uint64_t reserved[4];
+} zimgasol_standing;
+
+/* How much a load has of a source (zimgasol_load_source). `reserved` has zeros.
+ *  - `fed`: how many bytes of it were taken.
+ *  - `is_known`: 1 if it is known how many of them are complete items without a fault, else 0: not
+ *    after NO_MEMORY, nor of one stream with OTHER_TABLE.
+ *  - `valid_up_to`: how many these are, from the first byte on, if it is known, else 0. If the
+ *    verdict is a fault of this source (11 to 49, 64, 65), the item at fault begins after them: at
+ *    this byte, counted from 0. The other faults are of several sources, of a round, of another
+ *    table or of an allocation, and of no item. */
+typedef struct zimgasol_source {
+    uint64_t fed;
+    uint64_t is_known;
+    uint64_t valid_up_to;
+    uint64_t reserved[4];
+} zimgasol_source;
 
 /* A string of the library's own, which lasts: its bytes, of which the last one is 0. */
 typedef struct zimgasol_text {
@@ -485,7 +540,7 @@ static inline const char *zimgasol_status_text(uint32_t status) {
 
 /* Writes what a fault is, what it carries and where it is to `out`, of `len` bytes, as far as there
  * is room for it, and a byte 0: so all of it in 256 bytes. Where has_at is true it says at which
- * byte of its source the fault is, too, as the _valid_up_to calls report it. Returns the text's
+ * byte of its source the fault is, too: `valid_up_to` of zimgasol_load_source. Returns the text's
  * length without the byte 0, also where it was cut. */
 ZIMGASOL_API uint64_t zimgasol_read_fault_text(const zimgasol_fault *fault, bool has_at,
     uint64_t at, uint8_t *out, size_t len);
@@ -518,12 +573,15 @@ ZIMGASOL_CHECKED zimgasol_status zimgasol_table_new(zimgasol_table *table, uint6
  * caller's, and are fed to a load again. Returns DONE; RUNNING, if more bytes are needed: the call
  * is made again with all of them and some more (the size list of 256 blocks has less than 70,000
  * bytes); the number of the fault that stands before the table; BAD_PAGE_SIZE, BAD_FRAME or
- * NO_MEMORY. So a reader finds the blocks of a file, maps or allocates them, and loads into them:
- * blocks of zeros from calloc are a memory of the reader's own, which with whole_rounds has
- * complete sections alone. All blocks may have up to 2^40 bytes together: how much one guest is to
- * get is for the caller to test. */
+ * NO_MEMORY. *at is how many of the bytes are complete items without a fault, as far as they were
+ * read: with a fault its item begins there. With the last three statuses it is unchanged.
+ *
+ * So a reader finds the blocks of a file, maps or allocates them, and loads into them: blocks of
+ * zeros from calloc are a memory of the reader's own, which with whole_rounds has complete sections
+ * alone. All blocks may have up to 2^40 bytes together: how much one guest is to get is for the
+ * caller to test. */
 ZIMGASOL_CHECKED zimgasol_status zimgasol_table_of_stream(zimgasol_table *table, uint64_t page_size,
-    zimgasol_frame frame, const uint8_t *bytes, size_t len);
+    zimgasol_frame frame, const uint8_t *bytes, size_t len, uint64_t *at);
 
 /* Returns how many blocks a table has. */
 ZIMGASOL_API size_t zimgasol_table_blocks(zimgasol_table *table);
@@ -590,10 +648,12 @@ ZIMGASOL_CHECKED zimgasol_status zimgasol_load_new(zimgasol_load *load, zimgasol
 
 /* Takes the first bytes of a piece of a source, ZIMGASOL_MAIN or ZIMGASOL_CHANNEL(j), and writes
  * their pages into the blocks, of which there are `count`, in the table's order. The piece may go
- * afterwards, and the array `blocks` stays as it is. *taken is how many bytes it took: with DONE
- * all, or of several channels fewer, as above; else 0. (Where the load has failed for good with
- * NO_MEMORY, bytes of the piece may be taken: _fed counts them, and their pages may be written.
- * With whole_rounds only those of rounds that _rounds counts are.)
+ * afterwards, and the array `blocks` stays as it is. fed->taken is how many bytes it took: with
+ * DONE all, or of several channels fewer, as above; else 0. fed->rounds is how many rounds or
+ * sections are counted then, whatever is returned: more than after the call before where the piece
+ * ended one. (Where the load has failed for good with NO_MEMORY, bytes of the piece may be taken:
+ * zimgasol_load_source counts them, and their pages may be written. With whole_rounds only those of
+ * rounds that are counted are.)
  *
  * Returns DONE, also where the verdict is there: then no byte is taken of several channels, and
  * those of one stream are only counted. Or the first of these that applies, and nothing has
@@ -602,13 +662,14 @@ ZIMGASOL_CHECKED zimgasol_status zimgasol_load_new(zimgasol_load *load, zimgasol
  * the load has failed for good; else nothing has changed, and the piece can be fed again. One
  * stream with whole_rounds never fails for good. */
 ZIMGASOL_CHECKED zimgasol_status zimgasol_load_feed(zimgasol_load *load, zimgasol_buffer *blocks,
-    size_t count, size_t source, const uint8_t *piece, size_t len, size_t *taken);
+    size_t count, size_t source, const uint8_t *piece, size_t len,
+    zimgasol_fed *fed);
 
 /* Returns whether bytes of a source are taken now. They aren't if the source doesn't exist, was
  * ended, is closed or has a fault. Of several channels they aren't once the verdict is there, nor
  * if the source has all of the current round, nor of a channel after its hello before the main
- * stream's table is known. What waits of a source is asked for again after a call with which
- * _rounds or the verdict changed, or the main stream took bytes. */
+ * stream's table is known. What waits of a source is asked for again after a call with which the
+ * rounds that are counted or the verdict changed, or the main stream took bytes. */
 ZIMGASOL_API bool zimgasol_load_takes(zimgasol_load *load, size_t source);
 
 /* Ends a source, all of whose bytes were taken. Returns DONE or BAD_SOURCE. A second call changes
@@ -641,42 +702,12 @@ ZIMGASOL_CHECKED zimgasol_status zimgasol_load_verdict(zimgasol_load *load, zimg
 ZIMGASOL_CHECKED zimgasol_status zimgasol_load_fault_of(zimgasol_load *load, size_t source,
     zimgasol_fault *found);
 
-/* Returns whether all rounds are in: the main stream is closed, each of its rounds was judged
- * lawful, and no packet of a further round has begun. The blocks have all rounds, and nothing else.
- * QEMU with a return path ends its channels only after the answer, and DONE waits for their ends.
- * So answer where this is true. Then the channels end, and the verdict is DONE. One stream has all
- * rounds once it is closed. */
-ZIMGASOL_API bool zimgasol_load_has_all_rounds(zimgasol_load *load);
+/* Reports in *out how the load stands. */
+ZIMGASOL_API void zimgasol_load_standing(zimgasol_load *load, zimgasol_standing *out);
 
-/* Returns how many rounds of several channels were judged lawful: the blocks have all of them, and
- * with whole_rounds nothing else. START and END are none. Of one stream it is how many sections are
- * complete in the blocks, which may have records of the next one, too, but with whole_rounds
- * haven't. START and END count. */
-ZIMGASOL_API uint64_t zimgasol_load_rounds(zimgasol_load *load);
-
-/* Returns how many pages of the blocks no record and no packet of the rounds counted, or of the one
- * stream so far, named. With whole_rounds the one stream's open section names none. With DONE, or
- * where all rounds are in, the streams don't have these pages: the blocks hold there what they held
- * at first. It is 0 for a whole guest; a stream of changes, or a main stream whose channels were
- * lost, leaves pages out and is DONE all the same. It is all pages with OTHER_TABLE. After
- * NO_MEMORY for good the number says nothing. */
-ZIMGASOL_API uint64_t zimgasol_load_missing(zimgasol_load *load);
-
-/* Returns how many bytes of a source were taken; 0 if there is no such source. */
-ZIMGASOL_API uint64_t zimgasol_load_fed(zimgasol_load *load, size_t source);
-
-/* Reports in *at how many of the bytes taken the main stream has: those up to its end byte, or in
- * the frame MACHINE up to the footer of RAM's END. The bytes taken after them are the caller's.
- * Returns DONE; or RUNNING, with *at unchanged, if it isn't closed: so always with NO_MEMORY, and
- * of one stream with OTHER_TABLE. */
-ZIMGASOL_CHECKED zimgasol_status zimgasol_load_closed_at(zimgasol_load *load, uint64_t *at);
-
-/* Reports in *at how many of the bytes taken of a source are complete items without a fault, from
- * the first byte on. If the verdict is a fault of that source (11 to 49, 64, 65), the item at fault
- * begins after them: at this byte, counted from 0. The other faults are of several sources, or of a
- * round, and of no item. Returns whether it is known: not if there is no such source, as
- * ZIMGASOL_ROUND, nor after NO_MEMORY, nor of one stream with OTHER_TABLE; then *at stays. */
-ZIMGASOL_API bool zimgasol_load_valid_up_to(zimgasol_load *load, size_t source, uint64_t *at);
+/* Reports in *out how much the load has of a source; zeros if there is no such source, as
+ * ZIMGASOL_ROUND. */
+ZIMGASOL_API void zimgasol_load_source(zimgasol_load *load, size_t source, zimgasol_source *out);
 
 /* Frees it. The blocks stay the caller's. */
 ZIMGASOL_API void zimgasol_load_free(zimgasol_load *load);
@@ -692,7 +723,7 @@ ZIMGASOL_API void zimgasol_load_free(zimgasol_load *load);
  *             zimgasol_load_page_read(&load, blocks, count);
  *         } else {
  *             read up to next.len bytes into a piece, of any length from 1 on
- *             zimgasol_load_feed(&load, blocks, count, ZIMGASOL_MAIN, piece, len, &taken);
+ *             zimgasol_load_feed(&load, blocks, count, ZIMGASOL_MAIN, piece, len, &fed);
  *         }
  *     }
  *
@@ -754,7 +785,7 @@ ZIMGASOL_CHECKED zimgasol_status zimgasol_load_page_read(zimgasol_load *load,
  *     to feed bytes:
  *         lock
  *         until all are taken, or the verdict isn't RUNNING:
- *             while _claimed isn't 0, or _takes(source) is false: wait for turned
+ *             while _takes(source) is false, or _feed is OUT_OF_TURN: wait for turned
  *             _feed(blocks, source, the bytes that weren't taken), signal turned
  *         unlock
  *
@@ -798,9 +829,6 @@ ZIMGASOL_CHECKED zimgasol_status zimgasol_load_claim(zimgasol_load *load, size_t
  * nothing has changed: after NO_MEMORY the call can be made again. */
 ZIMGASOL_CHECKED zimgasol_status zimgasol_load_take(zimgasol_load *load, size_t channel,
     const uint8_t *head, size_t len, const zimgasol_lent *contents, size_t count);
-
-/* Returns how many pages are claimed: 0 with whole_rounds. */
-ZIMGASOL_API uint64_t zimgasol_load_claimed(zimgasol_load *load);
 
 /* ---- a send: of one stream, or of a main stream and its channels
  *

@@ -107,6 +107,15 @@ class Next(ctypes.Structure):
     _fields_ = [("len", ctypes.c_size_t), ("is_page", ctypes.c_uint64), ("block", ctypes.c_size_t), ("offset", ctypes.c_uint64)]
 
 
+class Fed(ctypes.Structure):
+    _fields_ = [("taken", ctypes.c_size_t), ("rounds", ctypes.c_uint64)]
+
+
+class Standing(ctypes.Structure):
+    _fields_ = [(name, ctypes.c_uint64) for name in ("rounds", "missing", "claimed", "has_all_rounds", "is_closed", "closed_at")]
+    _fields_ += [("reserved", ctypes.c_uint64 * 4)]
+
+
 class Text(ctypes.Structure):
     _fields_ = [("bytes", ctypes.c_char_p), ("bytes_len", ctypes.c_size_t)]
 
@@ -118,8 +127,7 @@ class Library:
         self.calls = ctypes.CDLL(str(TOP / "out/libzimgasol.so"))
         for name in ("send_drain", "table_blocks"):
             getattr(self.calls, "zimgasol_" + name).restype = ctypes.c_size_t
-        for name in ("load_rounds", "read_fault_text"):
-            getattr(self.calls, "zimgasol_" + name).restype = ctypes.c_uint64
+        self.calls.zimgasol_read_fault_text.restype = ctypes.c_uint64
         for name in ("table_new", "table_of_stream", "table_block", "send_new", "load_new", "load_feed", "load_end", "load_page_read", "hello",
                      "put_packet"):
             getattr(self.calls, "zimgasol_" + name).restype = ctypes.c_uint32
@@ -395,11 +403,20 @@ def pieces(text, cut):
 
 
 def feed_load(library, load, blocks, piece):
-    """Feeds the next piece of one stream to a load into blocks, which takes all of it."""
-    taken = size(0)
-    library.done("load_feed", ctypes.byref(load), blocks, size(len(blocks)), size(0), piece, size(len(piece)), ctypes.byref(taken))
-    if taken.value != len(piece):
-        raise RuntimeError(f"load_feed: {taken.value} of {len(piece)} bytes were taken")
+    """Feeds the next piece of one stream to a load into blocks, which takes all of it. Returns how many sections are counted
+    then."""
+    fed = Fed()
+    library.done("load_feed", ctypes.byref(load), blocks, size(len(blocks)), size(0), piece, size(len(piece)), ctypes.byref(fed))
+    if fed.taken != len(piece):
+        raise RuntimeError(f"load_feed: {fed.taken} of {len(piece)} bytes were taken")
+    return fed.rounds
+
+
+def rounds_counted(library, load):
+    """How many rounds or sections a load has counted."""
+    standing = Standing()
+    library.call("load_standing", ctypes.byref(load), ctypes.byref(standing))
+    return standing.rounds
 
 
 def read_straight(library, load, blocks, text):
@@ -449,15 +466,14 @@ def load_single(library, page_size, named, frame, text, cut, whole_rounds):
     if cut is None:
         read_straight(library, load, blocks, text)
     for piece in pieces(text, cut) if cut is not None else ():
-        feed_load(library, load, blocks, piece)
-        rounds = library.call("load_rounds", ctypes.byref(load))
+        rounds = feed_load(library, load, blocks, piece)
         if rounds != counted:
             memory, counted = [it.raw for it in buffers], rounds
         elif whole_rounds and len(piece) >= 100 and any(differs(it, kept, len(it)) for it, kept in zip(buffers, memory)):
             raise RuntimeError(f"load_feed: blocks changed within section {rounds}")
     library.done("load_end", ctypes.byref(load), size(0))
     library.call("load_verdict", ctypes.byref(load), ctypes.byref(fault))
-    rounds = library.call("load_rounds", ctypes.byref(load))
+    rounds = rounds_counted(library, load)
     library.call("load_free", ctypes.byref(load))
     return f"{verdict_name(fault)}; rounds {rounds}; {memory_name(pages_of(page_size, buffers))}"
 
@@ -465,8 +481,8 @@ def load_single(library, page_size, named, frame, text, cut, whole_rounds):
 def table_of(library, page_size, frame, text):
     """The blocks that a stream brings, as the library reads them, each a number of pages and an id; none if it ends or has a
     fault before its table."""
-    table, block, named = Handle(), Block(), []
-    if library.call("table_of_stream", ctypes.byref(table), u64(page_size), frame, text, size(len(text))) != 0:
+    table, block, at, named = Handle(), Block(), u64(0), []
+    if library.call("table_of_stream", ctypes.byref(table), u64(page_size), frame, text, size(len(text)), ctypes.byref(at)) != 0:
         return named
     for i in range(library.call("table_blocks", ctypes.byref(table))):
         library.done("table_block", ctypes.byref(table), size(i), ctypes.byref(block))
@@ -497,14 +513,13 @@ class Several:
     def feed(self, source, piece):
         """Feeds a piece, and returns how many of its bytes were taken. By whole rounds the blocks change with a round that is
         counted alone: after short pieces that isn't looked at."""
-        taken = size(0)
-        self.done("feed", self.blocks, size(len(self.blocks)), size(source), piece, size(len(piece)), ctypes.byref(taken))
-        rounds = self.call("rounds")
-        if rounds != self.rounds:
-            self.memory, self.rounds = [it.raw for it in self.buffers], rounds
+        fed = Fed()
+        self.done("feed", self.blocks, size(len(self.blocks)), size(source), piece, size(len(piece)), ctypes.byref(fed))
+        if fed.rounds != self.rounds:
+            self.memory, self.rounds = [it.raw for it in self.buffers], fed.rounds
         elif self.whole_rounds and len(piece) >= 100 and any(differs(it, kept, len(it)) for it, kept in zip(self.buffers, self.memory)):
-            raise RuntimeError(f"load_feed: blocks changed within round {rounds}")
-        return taken.value
+            raise RuntimeError(f"load_feed: blocks changed within round {fed.rounds}")
+        return fed.taken
 
     def feed_all(self, texts, cut):
         """Feeds all sources by turns, channels first, each as long as it takes bytes, and ends each once all of it was taken."""
@@ -526,7 +541,7 @@ class Several:
         """Where the load stands, and its rounds."""
         fault = Fault()
         self.call("verdict", ctypes.byref(fault))
-        told = f"{verdict_name(fault)}; rounds {self.call('rounds')}"
+        told = f"{verdict_name(fault)}; rounds {rounds_counted(self.library, self.handle)}"
         self.call("free")
         return told
 

@@ -422,20 +422,29 @@ static size_t read_bytes(size_t source, void *bytes, size_t len) {
     return read_parts(source, &part, 1);
 }
 
+static zimgasol_standing standing(zimgasol_load *load) {
+    zimgasol_standing now;
+    zimgasol_load_standing(load, &now);
+    return now;
+}
+
 /* Feeds all of some bytes, each as soon as it may be fed. Returns whether all were taken. */
 static bool feed(size_t source, const uint8_t *bytes, size_t len) {
     zimgasol_fault fault;
     pthread_mutex_lock(&loader.held);
     while (len > 0 && goes_on()) {
-        size_t count;
-        if (zimgasol_load_claimed(&loader.load) > 0 || !zimgasol_load_takes(&loader.load, source)) {
+        zimgasol_fed fed;
+        zimgasol_status status = ZIMGASOL_OUT_OF_TURN; /* so it is, too, where pages are claimed */
+        if (zimgasol_load_takes(&loader.load, source))
+            status =
+                zimgasol_load_feed(&loader.load, loader.into, BLOCKS, source, bytes, len, &fed);
+        if (status == ZIMGASOL_OUT_OF_TURN) {
             pthread_cond_wait(&loader.turned, &loader.held);
             continue;
         }
-        check(zimgasol_load_feed(&loader.load, loader.into, BLOCKS, source, bytes, len, &count),
-            "feed");
-        bytes += count;
-        len -= count;
+        check(status, "feed");
+        bytes += fed.taken;
+        len -= fed.taken;
         give_up_on(zimgasol_load_fault_of(&loader.load, source, &fault), &fault);
         pthread_cond_broadcast(&loader.turned);
     }
@@ -453,7 +462,7 @@ static void end_source(size_t source, bool is_claimed) {
     if (is_claimed) {
         status = fault.number = ZIMGASOL_CHANNEL_TRUNCATED;
         fault.source = source;
-        fault.round = zimgasol_load_rounds(&loader.load);
+        fault.round = standing(&loader.load).rounds;
     }
     give_up_on(status, &fault);
     pthread_cond_broadcast(&loader.turned);
@@ -588,7 +597,7 @@ static void *load_apart(void *table) {
         start(&threads[s], s == ZIMGASOL_MAIN ? load_main : load_channel, (void *)s);
     for (size_t s = 0; s <= channels; s++) pthread_join(threads[s], NULL);
     is_loaded = zimgasol_load_verdict(&loader.load, &fault) == ZIMGASOL_DONE &&
-        zimgasol_load_missing(&loader.load) == 0;
+        standing(&loader.load).missing == 0;
     if (!loader.given_up) zimgasol_fault_text(&fault, why, sizeof why);
     zimgasol_load_free(&loader.load);
     return NULL;
@@ -619,13 +628,13 @@ static void test_source(struct turns *t, size_t s) {
 static bool feed_kept(struct turns *t) {
     bool moved = false;
     for (size_t s = 0; s <= channels; s++) {
-        size_t count = 0;
+        zimgasol_fed fed;
         if (t->from[s] == t->to[s] || !zimgasol_load_takes(&t->load, s)) continue;
         check(zimgasol_load_feed(&t->load, t->into, BLOCKS, s, t->kept[s] + t->from[s],
-                  t->to[s] - t->from[s], &count),
+                  t->to[s] - t->from[s], &fed),
             "feed");
-        t->from[s] += count;
-        moved = moved || count > 0;
+        t->from[s] += fed.taken;
+        moved = moved || fed.taken > 0;
         test_source(t, s);
     }
     return moved;
@@ -674,7 +683,7 @@ static void *load_by_turns(void *table) {
         if (!feed_kept(t) && !read_some(t)) break;
     shut_down(LOADER);
     is_loaded = zimgasol_load_verdict(&t->load, &fault) == ZIMGASOL_DONE &&
-        zimgasol_load_missing(&t->load) == 0;
+        standing(&t->load).missing == 0;
     if (!t->given_up) zimgasol_fault_text(&fault, why, sizeof why);
     zimgasol_load_free(&t->load);
     return NULL;

@@ -68,6 +68,12 @@ struct Buffer {
     len: usize,
 }
 
+#[repr(C)]
+struct Fed {
+    taken: usize,
+    rounds: u64,
+}
+
 type Status = u32;
 
 /// The only source of one stream.
@@ -114,7 +120,7 @@ extern "C" {
         source: usize,
         piece: *const u8,
         len: usize,
-        taken: &mut usize,
+        fed: &mut Fed,
     ) -> Status;
     fn zimgasol_load_end(load: &mut Handle, source: usize) -> Status;
     fn zimgasol_load_verdict(load: &mut Handle, found: &mut Fault) -> Status;
@@ -188,14 +194,14 @@ fn loaded(stream: &[u8]) -> Result<Vec<u8>, Status> {
     let mut ram = vec![0; 2 * 4096];
     let mut blocks = [Buffer { bytes: ram.as_mut_ptr(), len: ram.len() }];
     let settings = Settings { zero_blocks: 1, whole_rounds: 1, ..Settings::default() };
-    let mut taken = 0;
+    let mut fed = Fed { taken: 0, rounds: 0 };
     unsafe {
         // no channels: one stream, which has no UUID
         done(zimgasol_load_new(&mut handle, &mut table.0, stream.as_ptr(), 0, 0, &settings))?;
         let Load(handle) = &mut Load(handle);
         for piece in stream.chunks(777) {
             let (at, len) = (piece.as_ptr(), piece.len());
-            done(zimgasol_load_feed(handle, blocks.as_mut_ptr(), 1, MAIN, at, len, &mut taken))?;
+            done(zimgasol_load_feed(handle, blocks.as_mut_ptr(), 1, MAIN, at, len, &mut fed))?;
         }
         done(zimgasol_load_end(handle, MAIN))?;
         done(zimgasol_load_verdict(handle, &mut fault))?;

@@ -230,10 +230,9 @@ static zimgasol_status feed_pieces(zimgasol_load *load, zimgasol_buffer *blocks,
     uint8_t piece[PIECE];
     zimgasol_status status = ZIMGASOL_DONE;
     ssize_t len;
-    size_t taken;
+    zimgasol_fed fed;
     while (status == ZIMGASOL_DONE && (len = read(socket, piece, sizeof piece)) > 0)
-        status =
-            zimgasol_load_feed(load, blocks, BLOCKS, ZIMGASOL_MAIN, piece, (size_t)len, &taken);
+        status = zimgasol_load_feed(load, blocks, BLOCKS, ZIMGASOL_MAIN, piece, (size_t)len, &fed);
     return status;
 }
 
@@ -242,7 +241,8 @@ static zimgasol_status read_pages(zimgasol_load *load, zimgasol_buffer *blocks, 
     uint8_t piece[64];
     zimgasol_status status = ZIMGASOL_DONE;
     zimgasol_next next;
-    size_t taken, there = 0; /* `there`: bytes of the next page that were read */
+    zimgasol_fed fed;
+    size_t there = 0; /* bytes of the next page that were read */
     while (status == ZIMGASOL_DONE && zimgasol_load_wanted(load, &next)) {
         uint8_t *to = next.is_page ? blocks[next.block].bytes + next.offset + there : piece;
         size_t most = next.len - there;
@@ -251,7 +251,7 @@ static zimgasol_status read_pages(zimgasol_load *load, zimgasol_buffer *blocks, 
         if (len <= 0) break;
         if (!next.is_page) {
             status =
-                zimgasol_load_feed(load, blocks, BLOCKS, ZIMGASOL_MAIN, piece, (size_t)len, &taken);
+                zimgasol_load_feed(load, blocks, BLOCKS, ZIMGASOL_MAIN, piece, (size_t)len, &fed);
         } else if ((there += (size_t)len) == next.len) {
             status = zimgasol_load_page_read(load, blocks, BLOCKS);
             there = 0;
@@ -274,8 +274,10 @@ static void *receive(void *given) {
         r->status = (r->straight ? read_pages : feed_pieces)(&load, blocks, r->socket);
         if (r->status == ZIMGASOL_DONE) r->status = zimgasol_load_end(&load, ZIMGASOL_MAIN);
         if (r->status == ZIMGASOL_DONE) r->status = zimgasol_load_verdict(&load, &fault);
-        r->sections = zimgasol_load_rounds(&load);
-        r->missing = zimgasol_load_missing(&load);
+        zimgasol_standing standing;
+        zimgasol_load_standing(&load, &standing);
+        r->sections = standing.rounds;
+        r->missing = standing.missing;
         zimgasol_load_free(&load);
     }
     /* where it gave up early the sender's next write fails */

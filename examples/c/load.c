@@ -65,12 +65,14 @@ static int add_block(const char *word) {
 /* Reads the first bytes of the stream until they have its table. */
 static zimgasol_status find_table(zimgasol_table *table) {
     zimgasol_status status;
+    uint64_t at;
     size_t more;
     do {
         more = sizeof first - first_len < 4096 ? sizeof first - first_len : 4096;
         more = fread(first + first_len, 1, more, stdin);
         first_len += more;
-        status = zimgasol_table_of_stream(table, page_size, settings.frame, first, first_len);
+        status = zimgasol_table_of_stream(table, page_size, settings.frame, first, first_len,
+            &at);
     } while (status == ZIMGASOL_RUNNING && more > 0);
     if (status == ZIMGASOL_DONE)
         while (zimgasol_table_block(table, count, &blocks[count]) == ZIMGASOL_DONE) count++;
@@ -98,8 +100,8 @@ static uint64_t total(void) {
 
 /* Feeds a piece of one stream, which takes all of it. */
 static zimgasol_status feed(zimgasol_load *load, const uint8_t *piece, size_t len) {
-    size_t taken;
-    return zimgasol_load_feed(load, into, count, ZIMGASOL_MAIN, piece, len, &taken);
+    zimgasol_fed fed;
+    return zimgasol_load_feed(load, into, count, ZIMGASOL_MAIN, piece, len, &fed);
 }
 
 /* Feeds what was read already, and then the rest of standard input. */
@@ -122,9 +124,12 @@ static int report(zimgasol_load *load) {
     zimgasol_fault fault;
     char text[256];
     if (zimgasol_load_verdict(load, &fault) == ZIMGASOL_DONE) {
-        printf("single %llu sections %llu\n",
-            (unsigned long long)zimgasol_load_fed(load, ZIMGASOL_MAIN),
-            (unsigned long long)zimgasol_load_rounds(load));
+        zimgasol_standing standing;
+        zimgasol_source stream;
+        zimgasol_load_standing(load, &standing);
+        zimgasol_load_source(load, ZIMGASOL_MAIN, &stream);
+        printf("single %llu sections %llu\n", (unsigned long long)stream.fed,
+            (unsigned long long)standing.rounds);
         return 0;
     }
     zimgasol_fault_text(&fault, text, sizeof text);

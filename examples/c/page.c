@@ -12,8 +12,11 @@ int main(void) {
     zimgasol_load load = {0};
     zimgasol_block block;
     zimgasol_fault fault;
-    size_t len = fread(piece, 1, sizeof piece, stdin), taken;
-    zimgasol_status status = zimgasol_table_of_stream(&table, PAGE, ZIMGASOL_FRAME_RAM, piece, len);
+    zimgasol_fed fed;
+    uint64_t at;
+    size_t len = fread(piece, 1, sizeof piece, stdin);
+    zimgasol_status status =
+        zimgasol_table_of_stream(&table, PAGE, ZIMGASOL_FRAME_RAM, piece, len, &at);
     if (status != ZIMGASOL_DONE) return 3;
     status = zimgasol_table_block(&table, 0, &block);
     if (status != ZIMGASOL_DONE || block.pages < 2 || block.pages > MOST) return 3;
@@ -21,7 +24,7 @@ int main(void) {
     if (ram.bytes == NULL) return 3;
     status = zimgasol_load_new(&load, &table, piece, 0, 0, &settings);
     for (; status == ZIMGASOL_DONE && len > 0; len = fread(piece, 1, sizeof piece, stdin))
-        status = zimgasol_load_feed(&load, &ram, 1, ZIMGASOL_MAIN, piece, len, &taken);
+        status = zimgasol_load_feed(&load, &ram, 1, ZIMGASOL_MAIN, piece, len, &fed);
     if (status == ZIMGASOL_DONE) status = zimgasol_load_end(&load, ZIMGASOL_MAIN);
     if (status == ZIMGASOL_DONE) status = zimgasol_load_verdict(&load, &fault);
     if (status != ZIMGASOL_DONE) fprintf(stderr, "%s\n", zimgasol_status_text(status));

@@ -25,14 +25,16 @@ static int fail(const char *what) {
     return 3;
 }
 
-/* Finds the table in the first bytes of a file, and returns how many were read. */
-static size_t find_table(FILE *file, zimgasol_table *table, zimgasol_status *status) {
+/* Finds the table in the first bytes of a file, and returns how many were read. If there is none,
+ * *at is the byte at which the fault begins. */
+static size_t find_table(FILE *file, zimgasol_table *table, zimgasol_status *status,
+    uint64_t *at) {
     size_t len = 0, more;
     do {
         more = sizeof piece - len < PAGE ? sizeof piece - len : PAGE;
         more = fread(piece + len, 1, more, file);
         len += more;
-        *status = zimgasol_table_of_stream(table, PAGE, ZIMGASOL_FRAME_MACHINE, piece, len);
+        *status = zimgasol_table_of_stream(table, PAGE, ZIMGASOL_FRAME_MACHINE, piece, len, at);
     } while (*status == ZIMGASOL_RUNNING && more > 0);
     return len;
 }
@@ -55,29 +57,31 @@ static int allocate(zimgasol_table *table) {
 /* Feeds the first `len` bytes, which were read already, and then the rest of the file. */
 static zimgasol_status feed_file(zimgasol_load *load, FILE *file, size_t len) {
     zimgasol_status status = ZIMGASOL_DONE;
-    size_t taken; /* of one stream all that is fed */
+    zimgasol_fed fed; /* of one stream all bytes are taken */
     for (; status == ZIMGASOL_DONE && len > 0; len = fread(piece, 1, sizeof piece, file))
-        status = zimgasol_load_feed(load, into, blocks, ZIMGASOL_MAIN, piece, len, &taken);
+        status = zimgasol_load_feed(load, into, blocks, ZIMGASOL_MAIN, piece, len, &fed);
     return status == ZIMGASOL_DONE ? zimgasol_load_end(load, ZIMGASOL_MAIN) : status;
 }
 
 /* Prints how the load ended. Returns the status of the program. */
 static int report(zimgasol_load *load) {
     zimgasol_fault fault;
+    zimgasol_source stream;
+    zimgasol_standing standing;
     char text[256];
-    uint64_t at = 0, missing = zimgasol_load_missing(load);
     if (zimgasol_load_verdict(load, &fault) != ZIMGASOL_DONE) {
-        if (zimgasol_load_valid_up_to(load, ZIMGASOL_MAIN, &at))
-            zimgasol_fault_text_at(&fault, at, text, sizeof text);
+        zimgasol_load_source(load, ZIMGASOL_MAIN, &stream);
+        if (stream.is_known)
+            zimgasol_fault_text_at(&fault, stream.valid_up_to, text, sizeof text);
         else zimgasol_fault_text(&fault, text, sizeof text);
         fprintf(stderr, "%s\n", text);
         return 1;
     }
-    if (zimgasol_load_closed_at(load, &at) != ZIMGASOL_DONE) return 3;
+    zimgasol_load_standing(load, &standing);
     printf("%llu sections, %llu pages missing, RAM ends at byte %llu\n",
-        (unsigned long long)zimgasol_load_rounds(load), (unsigned long long)missing,
-        (unsigned long long)at);
-    return missing > 0 ? 2 : 0;
+        (unsigned long long)standing.rounds, (unsigned long long)standing.missing,
+        (unsigned long long)standing.closed_at);
+    return standing.missing > 0 ? 2 : 0;
 }
 
 static int write_blocks(const char *name) {
@@ -96,10 +100,12 @@ int main(int argc, char **argv) {
     zimgasol_status status;
     FILE *file = argc == 2 || argc == 3 ? fopen(argv[1], "rb") : NULL;
     if (file == NULL) return fail("read_file FILE [OUTPUT]");
-    size_t len = find_table(file, &table, &status);
+    uint64_t at = 0;
+    size_t len = find_table(file, &table, &status, &at);
     if (status == ZIMGASOL_RUNNING) status = ZIMGASOL_STREAM_TRUNCATED;
     if (status != ZIMGASOL_DONE) {
-        fprintf(stderr, "no blocks: %s\n", zimgasol_status_text(status));
+        fprintf(stderr, "no blocks: byte %llu: %s\n", (unsigned long long)at,
+            zimgasol_status_text(status));
         return 1;
     }
     if (!allocate(&table)) return fail("the guest is too large");

@@ -27,6 +27,7 @@ static struct source {
 } sources[MOST + 1];
 
 static size_t count, channels; /* of the sources, and of the channels among them */
+static uint64_t rounds;        /* that were judged */
 static zimgasol_load load;
 static zimgasol_buffer into[BLOCKS];
 
@@ -79,24 +80,25 @@ static void fail(const zimgasol_fault *fault, bool has_at, uint64_t at) {
  * may wait for this one, of which nothing is taken any more. */
 static void test_source(size_t s) {
     zimgasol_fault fault;
-    uint64_t at = 0;
+    zimgasol_source of;
     if (zimgasol_load_fault_of(&load, s, &fault) == ZIMGASOL_DONE) return;
-    bool has_at = zimgasol_load_valid_up_to(&load, s, &at);
-    fail(&fault, has_at, at);
+    zimgasol_load_source(&load, s, &of);
+    fail(&fault, of.is_known, of.valid_up_to);
 }
 
 /* Feeds what is kept of a source, if it is taken now. Returns whether the other sources are to be
  * asked again: the main stream took bytes, or a round was judged. */
 static bool feed(size_t s) {
     struct source *kept = &sources[s];
-    uint64_t rounds = zimgasol_load_rounds(&load);
-    size_t taken;
+    zimgasol_fed fed;
     if (kept->from == kept->to || !zimgasol_load_takes(&load, s)) return false;
     check(zimgasol_load_feed(&load, into, BLOCKS, s, kept->bytes + kept->from,
-        kept->to - kept->from, &taken));
-    kept->from += taken;
+        kept->to - kept->from, &fed));
+    bool is_judged = fed.rounds > rounds;
+    kept->from += fed.taken;
+    rounds = fed.rounds;
     test_source(s);
-    return s == ZIMGASOL_MAIN || zimgasol_load_rounds(&load) != rounds;
+    return s == ZIMGASOL_MAIN || is_judged;
 }
 
 static void feed_all(void) {
@@ -131,15 +133,16 @@ static void read_some(void) {
 
 /* Answers on the main connection: 0 if the guest is whole, and is this end's from now on. After 1
  * it runs on at the other end. A machine with devices loads these before. */
-static bool answer(void) {
-    const uint8_t bytes[8] = {0, 1, 0, 4, 0, 0, 0, zimgasol_load_missing(&load) > 0};
+static bool answer(uint64_t missing) {
+    const uint8_t bytes[8] = {0, 1, 0, 4, 0, 0, 0, missing > 0};
     if (send(sources[ZIMGASOL_MAIN].fd, bytes, 8, MSG_NOSIGNAL) != 8) die("the sender is gone");
     return true;
 }
 
 int main(int argc, char **argv) {
     zimgasol_fault fault;
-    uint64_t end = 0;
+    zimgasol_standing standing;
+    zimgasol_source stream;
     bool is_answered = false;
     count = (size_t)argc - 1;
     if (count < 1 || count > MOST) die("receive_live FD ..");
@@ -150,18 +153,20 @@ int main(int argc, char **argv) {
     while (zimgasol_load_verdict(&load, &fault) == ZIMGASOL_RUNNING) {
         read_some();
         feed_all();
-        if (!is_answered && zimgasol_load_has_all_rounds(&load)) is_answered = answer();
+        zimgasol_load_standing(&load, &standing);
+        if (!is_answered && standing.has_all_rounds) is_answered = answer(standing.missing);
     }
     if (fault.number != ZIMGASOL_DONE) fail(&fault, false, 0);
-    check(zimgasol_load_closed_at(&load, &end));
-    unsigned long long rounds = zimgasol_load_rounds(&load), missing = zimgasol_load_missing(&load);
-    unsigned long long after = zimgasol_load_fed(&load, ZIMGASOL_MAIN) - end;
-    fprintf(stderr, "received: %llu %s, %llu pages missing, %llu bytes after RAM\n", rounds,
-        channels > 0 ? "rounds" : "sections", missing, after);
+    zimgasol_load_standing(&load, &standing);
+    zimgasol_load_source(&load, ZIMGASOL_MAIN, &stream);
+    fprintf(stderr, "received: %llu %s, %llu pages missing, %llu bytes after RAM\n",
+        (unsigned long long)standing.rounds, channels > 0 ? "rounds" : "sections",
+        (unsigned long long)standing.missing,
+        (unsigned long long)(stream.fed - standing.closed_at));
     zimgasol_load_free(&load);
     for (size_t b = 0; b < BLOCKS; b++) {
         fwrite(into[b].bytes, 1, into[b].len, stdout);
         free(into[b].bytes);
     }
-    return fflush(stdout) != 0 ? 3 : missing > 0 ? 2 : 0;
+    return fflush(stdout) != 0 ? 3 : standing.missing > 0 ? 2 : 0;
 }

@@ -8,13 +8,16 @@ ghost use Rattle.mig_mem.specs.Lent.{mut_lent_bytes, lent_bytes};
 ghost use Rattle.mig_c_calls.specs.Status.{done};
 ghost use Rattle.mig_c.specs.Kinds.{table_in, load_in, filled_in, Opens, Turns, Tells};
 ghost use Rattle.mig_c_loads.specs.Frames.{source_of};
-ghost use Rattle.mig_c_loads.specs.Loads.{Feeds, Ends, ReadsPage, Claims, Takes, TellsTakesOf, TellsWanted, TellsClaimed, TellsVerdict, TellsFaultOf, TellsAllIn, TellsRounds, TellsMissingOf, TellsFed, TellsClosed, TellsValid};
+ghost use Rattle.mig_c_loads.specs.Loads.{Feeds, Ends, ReadsPage, Claims, Takes, TellsTakesOf, TellsWanted, TellsVerdict, TellsFaultOf, TellsRounds};
+ghost use Rattle.mig_c_loads.specs.Standing.{TellsStanding, TellsSource};
 ghost use Rattle.mig_c_loads.specs.ZeroBlocks.{AreZerosBut};
 
 use crate::handle::{Handle, LoadHandle, TableHandle};
 use crate::object::{Object, load_of, table_of};
 use mig_c_calls::status::{DONE, NO_MEMORY};
-use mig_c_loads::{AskedSettings, ClaimedPages, FoundFault, Load, NextBytes, source_of};
+use mig_c_loads::{
+    AskedSettings, ClaimedPages, Fed, FoundFault, Load, NextBytes, SourceBytes, Standing, source_of,
+};
 use mig_mem::NoMemory;
 use mig_sources::Source;
 use std::alloc::Global;
@@ -90,22 +93,23 @@ fn feed(
     blocks: &mut [&mut [u8]],
     source: Source,
     piece: &[u8],
-    taken: &mut usize,
+    fed: &mut Fed,
 ) -> u32
     requires load { IsSome (load_in (Some object.old)) }
     requires zeros { AreZerosBut (filled_in (load_in (Some object.old))) (mut_lent_bytes blocks.old) }
-    ensures turns { Turns (Feeds source piece.now (mut_lent_bytes blocks.old) (mut_lent_bytes blocks.new) taken.new result) (load_in (Some object.old)) (load_in (Some object.new)) }
+    ensures turns { Turns (Feeds source piece.now (mut_lent_bytes blocks.old) (mut_lent_bytes blocks.new) fed.new.taken result) (load_in (Some object.old)) (load_in (Some object.new)) }
+    ensures rounds { Tells (TellsRounds fed.new.rounds) (load_in (Some object.new)) }
     ensures zeros { AreZerosBut (filled_in (load_in (Some object.new))) (mut_lent_bytes blocks.new) }
 {
     match object {
-        Object::Load(load) => load.feed(alloc, blocks, source, piece, taken),
+        Object::Load(load) => load.feed(alloc, blocks, source, piece, fed),
         _ => unreachable!(),
     }
 }
 
 /// Takes the first bytes of a piece of a source, and writes pages into the blocks, while nothing is
 /// claimed: of a channel up to the end of the current round, of the main stream all. Reports how
-/// many bytes it took.
+/// many bytes it took, and how many rounds are counted then.
 #[unsafe(no_mangle)]
 pub extern "C" fn zimgasol_load_feed(
     alloc: Global,
@@ -113,15 +117,16 @@ pub extern "C" fn zimgasol_load_feed(
     blocks: &mut [&mut [u8]],
     source: usize,
     piece: &[u8],
-    taken: &mut usize,
+    fed: &mut Fed,
 ) -> u32
     requires load { IsSome (load_in load.old.handle.value) }
     requires zeros { AreZerosBut (filled_in (load_in load.old.handle.value)) (mut_lent_bytes blocks.old) }
-    ensures turns { Turns (Feeds (source_of source) piece.now (mut_lent_bytes blocks.old) (mut_lent_bytes blocks.new) taken.new result) (load_in load.old.handle.value) (load_in load.new.handle.value) }
+    ensures turns { Turns (Feeds (source_of source) piece.now (mut_lent_bytes blocks.old) (mut_lent_bytes blocks.new) fed.new.taken result) (load_in load.old.handle.value) (load_in load.new.handle.value) }
+    ensures rounds { Tells (TellsRounds fed.new.rounds) (load_in load.new.handle.value) }
     ensures zeros { AreZerosBut (filled_in (load_in load.new.handle.value)) (mut_lent_bytes blocks.new) }
 {
     let mut object = load.handle.take().into_box(alloc);
-    let status = feed(alloc, &mut object, blocks, source_of(source), piece, taken);
+    let status = feed(alloc, &mut object, blocks, source_of(source), piece, fed);
     load.handle = Handle::of(object);
     status
 }
@@ -263,19 +268,6 @@ pub extern "C" fn zimgasol_load_take(
     status
 }
 
-/// Returns how many pages are claimed.
-#[unsafe(no_mangle)]
-pub extern "C" fn zimgasol_load_claimed(alloc: Global, load: &mut LoadHandle) -> u64
-    requires load { IsSome (load_in load.old.handle.value) }
-    ensures same { load.new.handle.value ≡ load.old.handle.value }
-    ensures tells { Tells (TellsClaimed result) (load_in load.old.handle.value) }
-{
-    let object = load.handle.take().into_box(alloc);
-    let count = load_of(&object).claimed();
-    load.handle = Handle::of(object);
-    count
-}
-
 // ---- how the load stands
 
 /// Reports the verdict on the bytes taken, or that more of them are needed.
@@ -315,91 +307,35 @@ pub extern "C" fn zimgasol_load_fault_of(
     status
 }
 
-/// Returns whether all rounds are in: the main stream is closed, and the blocks have all its rounds
-/// and nothing else, though the channels may not have ended yet.
+/// Reports how the load stands: its rounds, the pages that nothing named, those that are claimed,
+/// whether all rounds are in, and how many bytes the main stream has, once it is closed.
 #[unsafe(no_mangle)]
-pub extern "C" fn zimgasol_load_has_all_rounds(alloc: Global, load: &mut LoadHandle) -> bool
+pub extern "C" fn zimgasol_load_standing(alloc: Global, load: &mut LoadHandle, out: &mut Standing)
     requires load { IsSome (load_in load.old.handle.value) }
     ensures same { load.new.handle.value ≡ load.old.handle.value }
-    ensures tells { Tells (TellsAllIn result) (load_in load.old.handle.value) }
+    ensures tells { Tells (TellsStanding out.new) (load_in load.old.handle.value) }
 {
     let object = load.handle.take().into_box(alloc);
-    let result = load_of(&object).has_all_rounds();
+    *out = load_of(&object).standing();
     load.handle = Handle::of(object);
-    result
 }
 
-/// Returns how many rounds of several channels were found lawful, or how many sections of one stream
-/// are complete. The blocks have all of them.
+/// Reports how many bytes of a source were taken, and how many of them are complete items without a
+/// fault, if it is known. Of a source that there isn't it reports zeros.
 #[unsafe(no_mangle)]
-pub extern "C" fn zimgasol_load_rounds(alloc: Global, load: &mut LoadHandle) -> u64
-    requires load { IsSome (load_in load.old.handle.value) }
-    ensures same { load.new.handle.value ≡ load.old.handle.value }
-    ensures tells { Tells (TellsRounds result) (load_in load.old.handle.value) }
-{
-    let object = load.handle.take().into_box(alloc);
-    let count = load_of(&object).rounds();
-    load.handle = Handle::of(object);
-    count
-}
-
-/// Returns how many pages of the blocks no record and no packet of these rounds, or of the stream so
-/// far, named.
-#[unsafe(no_mangle)]
-pub extern "C" fn zimgasol_load_missing(alloc: Global, load: &mut LoadHandle) -> u64
-    requires load { IsSome (load_in load.old.handle.value) }
-    ensures same { load.new.handle.value ≡ load.old.handle.value }
-    ensures tells { Tells (TellsMissingOf result) (load_in load.old.handle.value) }
-{
-    let object = load.handle.take().into_box(alloc);
-    let count = load_of(&object).missing();
-    load.handle = Handle::of(object);
-    count
-}
-
-/// Returns how many bytes of a source were taken, or 0 if there is no such source.
-#[unsafe(no_mangle)]
-pub extern "C" fn zimgasol_load_fed(alloc: Global, load: &mut LoadHandle, source: usize) -> u64
-    requires load { IsSome (load_in load.old.handle.value) }
-    ensures same { load.new.handle.value ≡ load.old.handle.value }
-    ensures tells { Tells (TellsFed (source_of source) result) (load_in load.old.handle.value) }
-{
-    let object = load.handle.take().into_box(alloc);
-    let count = load_of(&object).fed(source_of(source));
-    load.handle = Handle::of(object);
-    count
-}
-
-/// Reports how many of the bytes taken the main stream has, once it is closed.
-#[unsafe(no_mangle)]
-pub extern "C" fn zimgasol_load_closed_at(alloc: Global, load: &mut LoadHandle, at: &mut u64) -> u32
-    requires load { IsSome (load_in load.old.handle.value) }
-    ensures same { load.new.handle.value ≡ load.old.handle.value }
-    ensures tells { Tells (TellsClosed result at.old at.new) (load_in load.old.handle.value) }
-{
-    let object = load.handle.take().into_box(alloc);
-    let status = load_of(&object).closed_at(at);
-    load.handle = Handle::of(object);
-    status
-}
-
-/// Returns whether it is known how many of the bytes taken of a source are complete items without a
-/// fault, from the first byte on, and reports how many.
-#[unsafe(no_mangle)]
-pub extern "C" fn zimgasol_load_valid_up_to(
+pub extern "C" fn zimgasol_load_source(
     alloc: Global,
     load: &mut LoadHandle,
     source: usize,
-    at: &mut u64,
-) -> bool
+    out: &mut SourceBytes,
+)
     requires load { IsSome (load_in load.old.handle.value) }
     ensures same { load.new.handle.value ≡ load.old.handle.value }
-    ensures tells { Tells (TellsValid (source_of source) result at.old at.new) (load_in load.old.handle.value) }
+    ensures tells { Tells (TellsSource (source_of source) out.new) (load_in load.old.handle.value) }
 {
     let object = load.handle.take().into_box(alloc);
-    let result = load_of(&object).valid_up_to(source_of(source), at);
+    *out = load_of(&object).source(source_of(source));
     load.handle = Handle::of(object);
-    result
 }
 
 /// Frees a load. The blocks stay the caller's. An empty handle stays as it is.

@@ -80,28 +80,30 @@ pub extern "C" fn zimgasol_table_new(
     }
 }
 
-// Creates the table of a stream's first bytes in a box, if they have it. Returns it with a status.
+// Creates the table of a stream's first bytes in a box, if they have it. Returns it with a status,
+// and how many of the bytes are complete items without a fault.
 fn made_first(
     alloc: Global,
     frame: Frame,
     page_size: u64,
     bytes: &[u8],
-) -> Result<(Option<Box<Object>>, u32), NoMemory>
+) -> Result<(Option<Box<Object>>, u32, u64), NoMemory>
     requires { IsPageSize page_size }
     ensures done { IfOk result (λ made. IfSome made.0 (λ _. made.1 ≡ done)) }
-    ensures finds { IfOk result (λ made. (state : StreamState) × FindsTable (table_settings frame page_size) bytes.now (table_in (option_map (λ b. b.value) made.0)) state
+    ensures finds { IfOk result (λ made. (state : StreamState) × FindsTable (table_settings frame page_size) bytes.now (table_in (option_map (λ b. b.value) made.0)) state made.2
         × (made.1 ≡ status_of (table_in (option_map (λ b. b.value) made.0)) state)) }
 {
-    let (found, state) = find_table(alloc, frame, page_size, bytes)?;
+    let (found, state, valid) = find_table(alloc, frame, page_size, bytes)?;
     let status = table_status(&found, state);
     match found {
-        Some(table) => Ok((Some(boxed(alloc, table)?), status)),
-        None => Ok((None, status)),
+        Some(table) => Ok((Some(boxed(alloc, table)?), status, valid)),
+        None => Ok((None, status, valid)),
     }
 }
 
 /// Creates the table of the stream that begins with these bytes, read in a frame, if they have it.
 /// Returns RUNNING if more bytes are needed, or the number of the fault that stands before it.
+/// Reports how many of the bytes are complete items without a fault.
 #[unsafe(no_mangle)]
 pub extern "C" fn zimgasol_table_of_stream(
     alloc: Global,
@@ -109,9 +111,10 @@ pub extern "C" fn zimgasol_table_of_stream(
     page_size: u64,
     frame: u32,
     bytes: &[u8],
+    at: &mut u64,
 ) -> u32
     requires none { table.old.handle.value ≡ None }
-    ensures makes { MakesFirst page_size frame bytes.now result (table_in table.new.handle.value) }
+    ensures makes { MakesFirst page_size frame bytes.now result at.old at.new (table_in table.new.handle.value) }
     ensures none { result ≢ done → table.new.handle.value ≡ None }
 {
     if !is_page_size(page_size) {
@@ -120,10 +123,11 @@ pub extern "C" fn zimgasol_table_of_stream(
     let Some(frame) = frame_of(frame) else {
         return BAD_FRAME;
     };
-    let (made, status) = match made_first(alloc, frame, page_size, bytes) {
+    let (made, status, valid) = match made_first(alloc, frame, page_size, bytes) {
         Ok(found) => found,
         Err(NoMemory) => return NO_MEMORY,
     };
+    *at = valid;
     if let Some(object) = made {
         table.handle = Handle::of(object);
         table.full = 1;

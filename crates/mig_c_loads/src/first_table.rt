@@ -22,16 +22,17 @@ fn is_reading(state: StreamState) -> bool
     matches!(state, StreamState::Reading)
 }
 
-/// Returns the table of the stream that begins with these bytes, if they have it, and the state of
-/// the stream as far as it was read. It reads no more than it needs, by pieces.
+/// Returns the table of the stream that begins with these bytes, if they have it, the state of the
+/// stream as far as it was read, and how many bytes of it are complete items without a fault. It
+/// reads no more than it needs, by pieces.
 pub fn find_table(
     alloc: Global,
     frame: Frame,
     page_size: u64,
     bytes: &[u8],
-) -> Result<(Option<Table<Global>>, StreamState), NoMemory>
+) -> Result<(Option<Table<Global>>, StreamState, u64), NoMemory>
     requires { IsPageSize page_size }
-    ensures { IfOk result (λ found. FindsTable (table_settings frame page_size) bytes.now found.0 found.1) }
+    ensures { IfOk result (λ found. FindsTable (table_settings frame page_size) bytes.now found.0 found.1 found.2) }
 {
     let mut reader: StreamReader<'static, Global> = StreamReader::new_with(
         alloc,
@@ -44,11 +45,12 @@ pub fn find_table(
     let mut read = 0;
     'pieces: loop {
         let state = reader.state();
+        let valid = reader.valid_up_to();
         if let Some(table) = reader.table() {
-            return Ok((Some(table.copy_in(alloc)?), state));
+            return Ok((Some(table.copy_in(alloc)?), state, valid));
         }
         if read >= bytes.len() || !is_reading(state) {
-            return Ok((None, state));
+            return Ok((None, state, valid));
         }
         let len = PIECE.min(bytes.len() - read);
         reader.feed(&bytes[read..read + len])?;

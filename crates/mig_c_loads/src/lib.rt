@@ -7,9 +7,9 @@
 //! several channels C may read the pages to their places itself: it sees which it claimed
 //! (`claimed_pages`), and which of them may hold something else than zeros (`filling`). C passes
 //! the numbers of a source, of a frame and of what ends rounds, and settings (`source`, `frame`,
-//! `round_end`, `settings`). It sees a load's fault (`fault`), how a load of several channels
-//! stands (`seen`), and what the next bytes are (`next_bytes`), and reads the blocks of a table,
-//! which may be that of a stream's first bytes (`first_table`). Statuses are those of
+//! `round_end`, `settings`). It sees a load's fault (`fault`, and of several channels `seen`), how
+//! it stands (`standing`), and what the next bytes are (`next_bytes`), and reads the blocks of a
+//! table, which may be that of a stream's first bytes (`first_table`). Statuses are those of
 //! `mig_c_calls`. What C's sends sent, these loads load (`laws`).
 #![tactic(auto)]
 
@@ -32,6 +32,7 @@ mod round_end;
 mod seen;
 mod settings;
 mod source;
+mod standing;
 
 pub use claimed_pages::ClaimedPages;
 pub use fault::FoundFault;
@@ -51,3 +52,4 @@ pub use next_bytes::NextBytes;
 pub use round_end::round_end_of;
 pub use settings::{AskedSettings, waiting_of};
 pub use source::source_of;
+pub use standing::{Fed, SourceBytes, Standing};

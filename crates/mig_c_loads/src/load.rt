@@ -10,6 +10,7 @@ ghost use Rattle.mig_c_loads.specs.Apart.{OpensApart};
 ghost use Rattle.mig_c_loads.specs.ByRounds.{OpensRounds};
 ghost use Rattle.mig_c_loads.specs.BySections.{OpensSections};
 ghost use Rattle.mig_c_loads.specs.ZeroBlocks.{AreZerosBut, filled_at_first};
+ghost use Rattle.mig_c_loads.specs.Standing.{TellsStanding, TellsSource};
 ghost use Rattle.mig_c_loads.specs.Loads.{filled_of, OpensLoad, Feeds, Ends, ReadsPage, Claims, Takes, TellsTakesOf, TellsWanted, TellsClaimed, TellsVerdict, TellsFaultOf, TellsAllIn, TellsRounds, TellsMissingOf, TellsFed, TellsClosed, TellsValid};
 
 use crate::claimed_pages::ClaimedPages;
@@ -22,8 +23,9 @@ use crate::held_sections::HeldSections;
 use crate::next_bytes::NextBytes;
 use crate::round_end::round_end_of;
 use crate::settings::{AskedSettings, waiting_of};
+use crate::standing::{Fed, SourceBytes, Standing, flag};
 use mig_c_calls::status::{
-    BAD_CHANNELS, BAD_FRAME, BAD_LENGTH, BAD_ROUND_END, BAD_SOURCE, NO_MEMORY, OUT_OF_TURN,
+    BAD_CHANNELS, BAD_FRAME, BAD_LENGTH, BAD_ROUND_END, BAD_SOURCE, DONE, NO_MEMORY, OUT_OF_TURN,
 };
 use mig_mem::{NoMemory, Table};
 use mig_sources::Source;
@@ -222,9 +224,9 @@ impl Load {
         open_channels(alloc, table, uuid, channels, settings)
     }
 
-    /// Takes the first bytes of a piece of a source, and writes pages into C's blocks, while nothing
-    /// is claimed.
-    pub fn feed(
+    // Takes the first bytes of a piece of a source, and writes pages into C's blocks, while nothing
+    // is claimed.
+    fn take_piece(
         &mut self,
         alloc: Global,
         blocks: &mut [&mut [u8]],
@@ -242,6 +244,30 @@ impl Load {
             Load::Several(load) => load.feed(alloc, blocks, source, piece, taken),
             Load::Rounds(load) => load.feed(alloc, blocks, source, piece, taken),
         }
+    }
+
+    /// Takes the first bytes of a piece of a source, and writes pages into C's blocks, while nothing
+    /// is claimed. Reports how many bytes it took, and how many rounds are counted then.
+    pub fn feed(
+        &mut self,
+        alloc: Global,
+        blocks: &mut [&mut [u8]],
+        source: Source,
+        piece: &[u8],
+        fed: &mut Fed,
+    ) -> u32
+        requires zeros { AreZerosBut (filled_of self.old) (mut_lent_bytes blocks.old) }
+        ensures feeds { Feeds source piece.now (mut_lent_bytes blocks.old) (mut_lent_bytes blocks.new) fed.new.taken result self.old self.new }
+        ensures rounds { TellsRounds fed.new.rounds self.new }
+        ensures zeros { AreZerosBut (filled_of self.new) (mut_lent_bytes blocks.new) }
+    {
+        let mut taken = 0;
+        let status = self.take_piece(alloc, blocks, source, piece, &mut taken);
+        *fed = Fed {
+            taken,
+            rounds: self.rounds(),
+        };
+        status
     }
 
     /// Returns whether bytes of a source are taken now.
@@ -311,8 +337,8 @@ impl Load {
         }
     }
 
-    /// Returns how many pages are claimed.
-    pub fn claimed(&self) -> u64
+    // Returns how many pages are claimed.
+    fn claimed(&self) -> u64
         ensures { TellsClaimed result self.now }
     {
         match self {
@@ -345,8 +371,8 @@ impl Load {
         }
     }
 
-    /// Returns whether all rounds are in.
-    pub fn has_all_rounds(&self) -> bool
+    // Returns whether all rounds are in.
+    fn has_all_rounds(&self) -> bool
         ensures { TellsAllIn result self.now }
     {
         match self {
@@ -357,9 +383,9 @@ impl Load {
         }
     }
 
-    /// Returns how many rounds of several channels were found lawful, or how many sections of one
-    /// stream are complete.
-    pub fn rounds(&self) -> u64
+    // Returns how many rounds of several channels were found lawful, or how many sections of one
+    // stream are complete.
+    fn rounds(&self) -> u64
         ensures { TellsRounds result self.now }
     {
         match self {
@@ -370,9 +396,9 @@ impl Load {
         }
     }
 
-    /// Returns how many pages of the blocks no record and no packet of these rounds, or of the
-    /// stream so far, named; by whole sections those that no complete section named.
-    pub fn missing(&self) -> u64
+    // Returns how many pages of the blocks no record and no packet of these rounds, or of the
+    // stream so far, named; by whole sections those that no complete section named.
+    fn missing(&self) -> u64
         ensures { TellsMissingOf result self.now }
     {
         match self {
@@ -383,8 +409,8 @@ impl Load {
         }
     }
 
-    /// Returns how many bytes of a source were taken, or 0 if there is no such source.
-    pub fn fed(&self, source: Source) -> u64
+    // Returns how many bytes of a source were taken, or 0 if there is no such source.
+    fn fed(&self, source: Source) -> u64
         ensures { TellsFed source result self.now }
     {
         match self {
@@ -395,8 +421,8 @@ impl Load {
         }
     }
 
-    /// Reports how many of the bytes taken the main stream has, once it is closed.
-    pub fn closed_at(&self, at: &mut u64) -> u32
+    // Reports how many of the bytes taken the main stream has, once it is closed.
+    fn closed_at(&self, at: &mut u64) -> u32
         ensures { TellsClosed result at.old at.new self.now }
     {
         match self {
@@ -407,9 +433,9 @@ impl Load {
         }
     }
 
-    /// Returns whether it is known how many of the bytes taken of a source are complete items
-    /// without a fault, and reports how many.
-    pub fn valid_up_to(&self, source: Source, at: &mut u64) -> bool
+    // Returns whether it is known how many of the bytes taken of a source are complete items
+    // without a fault, and reports how many.
+    fn valid_up_to(&self, source: Source, at: &mut u64) -> bool
         ensures { TellsValid source result at.old at.new self.now }
     {
         match self {
@@ -417,6 +443,39 @@ impl Load {
             Load::Sections(load) => load.valid_up_to(source, at),
             Load::Several(load) => load.valid_up_to(source, at),
             Load::Rounds(load) => load.valid_up_to(source, at),
+        }
+    }
+
+    /// Returns how the load stands.
+    pub fn standing(&self) -> Standing
+        ensures { TellsStanding result self.now }
+    {
+        let mut closed_at = 0;
+        let status = self.closed_at(&mut closed_at);
+        let closed = status == DONE;
+        let all_in = self.has_all_rounds();
+        Standing {
+            rounds: self.rounds(),
+            missing: self.missing(),
+            claimed: self.claimed(),
+            has_all_rounds: flag(all_in),
+            is_closed: flag(closed),
+            closed_at,
+            reserved: [0; 4],
+        }
+    }
+
+    /// Returns how much the load has of a source: nothing, if there is no such source.
+    pub fn source(&self, source: Source) -> SourceBytes
+        ensures { TellsSource source result self.now }
+    {
+        let mut valid_up_to = 0;
+        let known = self.valid_up_to(source, &mut valid_up_to);
+        SourceBytes {
+            fed: self.fed(source),
+            is_known: flag(known),
+            valid_up_to,
+            reserved: [0; 4],
         }
     }
 }

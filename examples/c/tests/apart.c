@@ -3,6 +3,7 @@
  * streams with a page twice, or that are cut, end with the fault of a load that is fed all bytes.
  * The connections are buffers in memory. Each status of a call out of turn is asked for. */
 #include "sends.h"
+#include "standing.h"
 #include "zimgasol.h"
 #include <pthread.h>
 #include <sched.h>
@@ -141,12 +142,12 @@ static bool feed(const source *from, const uint8_t *bytes, size_t len) {
     pthread_mutex_lock(&run.held);
     while (len > 0 && is_running()) {
         size_t taken;
-        if (zimgasol_load_claimed(&run.load) > 0 || !zimgasol_load_takes(&run.load, from->number)) {
+        if (told_claimed(&run.load) > 0 || !zimgasol_load_takes(&run.load, from->number)) {
             wait_for_turn();
             continue;
         }
         zimgasol_status status =
-            zimgasol_load_feed(&run.load, run.blocks, 2, from->number, bytes, len, &taken);
+            told_feed(&run.load, run.blocks, 2, from->number, bytes, len, &taken);
         if (status != ZIMGASOL_DONE) run.wrong = status;
         bytes += taken;
         len -= taken;
@@ -300,7 +301,7 @@ static int load_fed(zimgasol_table *table, const streams *from, zimgasol_fault *
         for (size_t s = 0; s <= CHANNELS; s++) {
             size_t len = from->len[s] - given[s];
             if (len == 0 || !zimgasol_load_takes(&load, s)) continue;
-            WANT(zimgasol_load_feed(&load, into, 2, s, from->bytes[s] + given[s], len, &taken) ==
+            WANT(told_feed(&load, into, 2, s, from->bytes[s] + given[s], len, &taken) ==
                 ZIMGASOL_DONE);
             given[s] += taken;
             moved = moved || taken > 0;
@@ -309,7 +310,7 @@ static int load_fed(zimgasol_table *table, const streams *from, zimgasol_fault *
     for (size_t s = 0; s <= CHANNELS; s++) WANT(zimgasol_load_end(&load, s) == ZIMGASOL_DONE);
     zimgasol_status verdict = zimgasol_load_verdict(&load, fault);
     WANT(verdict == fault->number);
-    *rounds = zimgasol_load_rounds(&load);
+    *rounds = told_rounds(&load);
     zimgasol_load_free(&load);
     return 0;
 }
@@ -322,8 +323,8 @@ static int same_fault(zimgasol_table *table, const streams *from, zimgasol_statu
     WANT(zimgasol_load_verdict(&run.load, &fault) == wanted);
     WANT(other.number == wanted && fault.number == wanted && fault.round == other.round &&
         fault.source == other.source && fault.first == other.first && fault.second == other.second);
-    WANT(zimgasol_load_rounds(&run.load) == rounds && !zimgasol_load_has_all_rounds(&run.load));
-    WANT(zimgasol_load_claimed(&run.load) == 0);
+    WANT(told_rounds(&run.load) == rounds && !told_has_all_rounds(&run.load));
+    WANT(told_claimed(&run.load) == 0);
     zimgasol_load_free(&run.load);
     return 0;
 }
@@ -333,15 +334,15 @@ static int load_guest(zimgasol_table *table, const streams *from) {
     uint64_t at;
     if (load_apart(table, from)) return 1;
     WANT(zimgasol_load_verdict(&run.load, &fault) == ZIMGASOL_DONE);
-    WANT(zimgasol_load_rounds(&run.load) == ROUNDS && zimgasol_load_has_all_rounds(&run.load));
-    WANT(zimgasol_load_missing(&run.load) == 0);
-    WANT(zimgasol_load_claimed(&run.load) == 0 && run.taken == ROUNDS * (PAGES / LIMIT + 1));
-    WANT(zimgasol_load_closed_at(&run.load, &at) == ZIMGASOL_DONE && at == from->len[0]);
+    WANT(told_rounds(&run.load) == ROUNDS && told_has_all_rounds(&run.load));
+    WANT(told_missing(&run.load) == 0);
+    WANT(told_claimed(&run.load) == 0 && run.taken == ROUNDS * (PAGES / LIMIT + 1));
+    WANT(told_closed_at(&run.load, &at) == ZIMGASOL_DONE && at == from->len[0]);
     for (size_t s = 0; s <= CHANNELS; s++) {
-        WANT(zimgasol_load_fed(&run.load, s) == from->len[s]);
-        WANT(zimgasol_load_valid_up_to(&run.load, s, &at) && at == from->len[s]);
+        WANT(told_fed(&run.load, s) == from->len[s]);
+        WANT(told_valid_up_to(&run.load, s, &at) && at == from->len[s]);
     }
-    WANT(!zimgasol_load_valid_up_to(&run.load, 1 + CHANNELS, &at) && at == from->len[CHANNELS]);
+    WANT(!told_valid_up_to(&run.load, 1 + CHANNELS, &at) && at == from->len[CHANNELS]);
     WANT(memcmp(loaded[0], guest[0], PAGES * page_len) == 0 &&
         memcmp(loaded[1], guest[1], OTHER * page_len) == 0);
     zimgasol_load_free(&run.load);
@@ -356,7 +357,7 @@ static int cut_page(zimgasol_table *table, streams *from) {
     zimgasol_status status;
     from->len[2] = ZIMGASOL_HELLO_LEN + head_len + first + head_len + page_len / 2;
     if (load_apart(table, from)) return 1;
-    WANT(run.given_up && zimgasol_load_claimed(&run.load) > 0);
+    WANT(run.given_up && told_claimed(&run.load) > 0);
     status = zimgasol_load_verdict(&run.load, &fault);
     WANT(status == ZIMGASOL_RUNNING || status == ZIMGASOL_CHANNEL_UNSYNCED);
     WANT(zimgasol_load_fault_of(&run.load, ZIMGASOL_CHANNEL(1), &fault) ==
@@ -373,12 +374,12 @@ static int feed_fronts(const uint8_t *head, zimgasol_pages *pages) {
     const streams *from = run.from;
     size_t taken;
     for (size_t j = 0; j < CHANNELS; j++)
-        WANT(zimgasol_load_feed(&run.load, run.blocks, 2, ZIMGASOL_CHANNEL(j), from->bytes[1 + j],
+        WANT(told_feed(&run.load, run.blocks, 2, ZIMGASOL_CHANNEL(j), from->bytes[1 + j],
                  ZIMGASOL_HELLO_LEN, &taken) == ZIMGASOL_DONE &&
             taken == ZIMGASOL_HELLO_LEN);
     WANT(zimgasol_load_claim(&run.load, 0, head, head_len, pages) == ZIMGASOL_TO_FEED);
     WANT(!zimgasol_load_takes(&run.load, ZIMGASOL_CHANNEL(0)));
-    WANT(zimgasol_load_feed(&run.load, run.blocks, 2, ZIMGASOL_MAIN, from->bytes[0], 100, &taken) ==
+    WANT(told_feed(&run.load, run.blocks, 2, ZIMGASOL_MAIN, from->bytes[0], 100, &taken) ==
         ZIMGASOL_DONE);
     WANT(zimgasol_load_takes(&run.load, ZIMGASOL_CHANNEL(0)));
     WANT(zimgasol_load_claim(&run.load, CHANNELS, head, head_len, pages) == ZIMGASOL_BAD_SOURCE);
@@ -394,13 +395,13 @@ static int ask_out_of_turn(zimgasol_table *table, const streams *from) {
     if (begin(table, from)) return 1;
     for (size_t i = 0; i < count; i++) lent[i] = (zimgasol_lent){contents + i * page_len, page_len};
     if (feed_fronts(head, &pages)) return 1;
-    WANT(pages.normal == 0 && zimgasol_load_claimed(&run.load) == 0);
+    WANT(pages.normal == 0 && told_claimed(&run.load) == 0);
     WANT(zimgasol_load_take(&run.load, 0, head, head_len, lent, count) == ZIMGASOL_OUT_OF_TURN);
     WANT(zimgasol_load_claim(&run.load, 0, head, head_len, &pages) == ZIMGASOL_RUNNING);
     WANT(pages.normal == count && pages.normal + pages.zero == LIMIT && pages.block == 0);
-    WANT(zimgasol_load_claimed(&run.load) == LIMIT);
+    WANT(told_claimed(&run.load) == LIMIT);
     WANT(zimgasol_load_claim(&run.load, 0, head, head_len, &pages) == ZIMGASOL_IS_CLAIMED);
-    WANT(zimgasol_load_feed(&run.load, run.blocks, 2, ZIMGASOL_MAIN, from->bytes[0] + 100, 10,
+    WANT(told_feed(&run.load, run.blocks, 2, ZIMGASOL_MAIN, from->bytes[0] + 100, 10,
              &taken) == ZIMGASOL_OUT_OF_TURN &&
         taken == 0);
     WANT(zimgasol_load_take(&run.load, CHANNELS, head, head_len, lent, count) ==
@@ -409,10 +410,10 @@ static int ask_out_of_turn(zimgasol_table *table, const streams *from) {
     lent[0].len--;
     WANT(zimgasol_load_take(&run.load, 0, head, head_len, lent, count) == ZIMGASOL_OUT_OF_TURN);
     lent[0].len++;
-    WANT(zimgasol_load_claimed(&run.load) == LIMIT);
+    WANT(told_claimed(&run.load) == LIMIT);
     WANT(zimgasol_load_take(&run.load, 0, head, head_len, lent, count) == ZIMGASOL_RUNNING);
-    WANT(zimgasol_load_claimed(&run.load) == 0);
-    WANT(zimgasol_load_fed(&run.load, ZIMGASOL_CHANNEL(0)) ==
+    WANT(told_claimed(&run.load) == 0);
+    WANT(told_fed(&run.load, ZIMGASOL_CHANNEL(0)) ==
         ZIMGASOL_HELLO_LEN + head_len + count * page_len);
     WANT(zimgasol_load_take(&run.load, 0, head, head_len, lent, count) == ZIMGASOL_OUT_OF_TURN);
     zimgasol_load_free(&run.load);

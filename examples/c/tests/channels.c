@@ -3,6 +3,7 @@
  * source doesn't take are kept until it does. Each status of a call is asked for once, and what
  * stands after it. */
 #include "sends.h"
+#include "standing.h"
 #include "zimgasol.h"
 #include <stdio.h>
 #include <stdlib.h>
@@ -224,11 +225,11 @@ static int feed_all(zimgasol_load *load, size_t cut) {
         for (size_t source = 0; source <= CHANNELS; source++) {
             size_t left = length[source] - given[source], len = left < cut ? left : cut;
             if (len == 0 || !zimgasol_load_takes(load, source)) continue;
-            WANT(zimgasol_load_feed(load, into, 2, source, stream[source] + given[source], len,
+            WANT(told_feed(load, into, 2, source, stream[source] + given[source], len,
                      &taken) == ZIMGASOL_DONE);
             WANT(taken <= len);
             given[source] += taken;
-            WANT(zimgasol_load_fed(load, source) == given[source]);
+            WANT(told_fed(load, source) == given[source]);
             moved = moved || taken > 0;
         }
         /* the array of the blocks stays as it is */
@@ -236,11 +237,11 @@ static int feed_all(zimgasol_load *load, size_t cut) {
             into[1].bytes == loaded[1] && into[1].len == OTHER * PAGE);
     }
     /* all rounds are in before a source ends */
-    WANT(zimgasol_load_has_all_rounds(load));
+    WANT(told_has_all_rounds(load));
     for (size_t source = 0; source <= CHANNELS; source++) {
         WANT(given[source] == length[source]);
         WANT(zimgasol_load_end(load, source) == ZIMGASOL_DONE);
-        WANT(zimgasol_load_feed(load, into, 2, source, stream[0], 1, &taken) == ZIMGASOL_IS_OVER &&
+        WANT(told_feed(load, into, 2, source, stream[0], 1, &taken) == ZIMGASOL_IS_OVER &&
             taken == 0);
     }
     return 0;
@@ -307,8 +308,8 @@ static int send_named(zimgasol_table *table) {
     memset(loaded, 0, sizeof loaded);
     WANT(zimgasol_load_new(&load, table, uuid, 16, CHANNELS, &settings) == ZIMGASOL_DONE);
     if (feed_all(&load, 777)) return 1;
-    WANT(zimgasol_load_verdict(&load, &fault) == ZIMGASOL_DONE && zimgasol_load_rounds(&load) == 1);
-    WANT(zimgasol_load_closed_at(&load, &at) == ZIMGASOL_DONE && at == named_length[0]);
+    WANT(zimgasol_load_verdict(&load, &fault) == ZIMGASOL_DONE && told_rounds(&load) == 1);
+    WANT(told_closed_at(&load, &at) == ZIMGASOL_DONE && at == named_length[0]);
     WANT(memcmp(loaded[0] + PAGE, guest[0] + PAGE, PAGE) == 0 &&
         memcmp(loaded[0] + 7 * PAGE, guest[0] + 7 * PAGE, PAGE) == 0);
     WANT(memcmp(loaded[1], guest[1], PAGE) == 0);
@@ -369,21 +370,21 @@ static int load_all(zimgasol_table *table, size_t cut) {
     memset(loaded, 0xEE, sizeof loaded);
     WANT(zimgasol_load_new(&load, table, uuid, 16, CHANNELS, &plain) == ZIMGASOL_DONE);
     WANT(zimgasol_load_verdict(&load, &fault) == ZIMGASOL_RUNNING);
-    WANT(zimgasol_load_closed_at(&load, &at) == ZIMGASOL_RUNNING && at == 7);
-    WANT(!zimgasol_load_has_all_rounds(&load));
+    WANT(told_closed_at(&load, &at) == ZIMGASOL_RUNNING && at == 7);
+    WANT(!told_has_all_rounds(&load));
     WANT(!zimgasol_load_takes(&load, 1 + CHANNELS));
-    WANT(zimgasol_load_feed(&load, into, 2, 1 + CHANNELS, stream[0], 1, &taken) ==
+    WANT(told_feed(&load, into, 2, 1 + CHANNELS, stream[0], 1, &taken) ==
             ZIMGASOL_BAD_SOURCE &&
         taken == 0);
-    WANT(zimgasol_load_feed(&load, into, 1, 0, stream[0], 1, &taken) == ZIMGASOL_BAD_LENGTH &&
+    WANT(told_feed(&load, into, 1, 0, stream[0], 1, &taken) == ZIMGASOL_BAD_LENGTH &&
         taken == 0);
     WANT(zimgasol_load_end(&load, 1 + CHANNELS) == ZIMGASOL_BAD_SOURCE);
     if (feed_all(&load, cut)) return 1;
     WANT(zimgasol_load_verdict(&load, &fault) == ZIMGASOL_DONE && fault.number == 0);
-    WANT(zimgasol_load_rounds(&load) == 2);
-    WANT(zimgasol_load_closed_at(&load, &at) == ZIMGASOL_DONE && at == length[0]);
+    WANT(told_rounds(&load) == 2);
+    WANT(told_closed_at(&load, &at) == ZIMGASOL_DONE && at == length[0]);
     for (size_t source = 0; source <= CHANNELS; source++)
-        WANT(zimgasol_load_valid_up_to(&load, source, &at) && at == length[source]);
+        WANT(told_valid_up_to(&load, source, &at) && at == length[source]);
     for (size_t p = 0; p < PAGES; p++)
         pages += memcmp(loaded[0] + p * PAGE, guest[0] + p * PAGE, PAGE) != 0;
     WANT(pages == 0);
@@ -402,7 +403,7 @@ static int load_wrong(zimgasol_table *table) {
     WANT(zimgasol_load_new(&load, table, uuid, 16, CHANNELS, &plain) == ZIMGASOL_DONE);
     stream[2][64] ^= 1; /* the first byte of a packet's magic */
     for (size_t source = 0; source <= CHANNELS; source++)
-        WANT(zimgasol_load_feed(&load, into, 2, source, stream[source], length[source], &taken) ==
+        WANT(told_feed(&load, into, 2, source, stream[source], length[source], &taken) ==
             ZIMGASOL_DONE);
     stream[2][64] ^= 1;
     WANT(zimgasol_load_verdict(&load, &fault) == ZIMGASOL_CHANNEL_PACKET_MAGIC);
@@ -411,17 +412,17 @@ static int load_wrong(zimgasol_table *table) {
     WANT(zimgasol_load_fault_of(&load, ZIMGASOL_CHANNEL(1), &fault) ==
         ZIMGASOL_CHANNEL_PACKET_MAGIC);
     WANT(zimgasol_load_fault_of(&load, ZIMGASOL_CHANNEL(0), &fault) == ZIMGASOL_DONE);
-    WANT(!zimgasol_load_has_all_rounds(&load));
-    WANT(zimgasol_load_valid_up_to(&load, ZIMGASOL_CHANNEL(1), &at) && at == 64);
+    WANT(!told_has_all_rounds(&load));
+    WANT(told_valid_up_to(&load, ZIMGASOL_CHANNEL(1), &at) && at == 64);
     at = 7;
-    WANT(!zimgasol_load_valid_up_to(&load, ZIMGASOL_CHANNEL(CHANNELS), &at) && at == 7);
-    WANT(!zimgasol_load_valid_up_to(&load, ZIMGASOL_ROUND, &at) && at == 7);
+    WANT(!told_valid_up_to(&load, ZIMGASOL_CHANNEL(CHANNELS), &at) && at == 7);
+    WANT(!told_valid_up_to(&load, ZIMGASOL_ROUND, &at) && at == 7);
     /* the main stream was taken whole, and is closed */
-    WANT(zimgasol_load_closed_at(&load, &at) == ZIMGASOL_DONE && at == length[0]);
+    WANT(told_closed_at(&load, &at) == ZIMGASOL_DONE && at == length[0]);
     WANT(!zimgasol_load_takes(&load, 0));
     WANT(
-        zimgasol_load_feed(&load, into, 2, 0, stream[0], 1, &taken) == ZIMGASOL_DONE && taken == 0);
-    WANT(zimgasol_load_rounds(&load) == 0);
+        told_feed(&load, into, 2, 0, stream[0], 1, &taken) == ZIMGASOL_DONE && taken == 0);
+    WANT(told_rounds(&load) == 0);
     zimgasol_load_free(&load);
     return 0;
 }
@@ -434,7 +435,7 @@ static int load_cut(zimgasol_table *table) {
     WANT(zimgasol_load_new(&load, table, uuid, 16, CHANNELS, &plain) == ZIMGASOL_DONE);
     WANT(zimgasol_load_fault_of(&load, 1 + CHANNELS, &fault) == ZIMGASOL_BAD_SOURCE &&
         fault.number == 7);
-    WANT(zimgasol_load_feed(&load, into, 2, ZIMGASOL_CHANNEL(1), stream[2], 20, &taken) ==
+    WANT(told_feed(&load, into, 2, ZIMGASOL_CHANNEL(1), stream[2], 20, &taken) ==
         ZIMGASOL_DONE);
     WANT(zimgasol_load_fault_of(&load, ZIMGASOL_CHANNEL(1), &fault) == ZIMGASOL_DONE &&
         fault.number == 0);
@@ -467,11 +468,11 @@ static int feed_whole(zimgasol_load *load, const size_t len[1 + CHANNELS], size_
         for (size_t source = 0; source <= CHANNELS; source++) {
             size_t left = len[source] - given[source], taken = 7;
             if (left == 0 || !zimgasol_load_takes(load, source)) continue;
-            WANT(zimgasol_load_feed(load, into, 2, source, stream[source] + given[source],
+            WANT(told_feed(load, into, 2, source, stream[source] + given[source],
                      left < cut ? left : cut, &taken) == ZIMGASOL_DONE);
             given[source] += taken;
             moved = moved || taken > 0;
-            WANT(has_rounds(zimgasol_load_rounds(load)));
+            WANT(has_rounds(told_rounds(load)));
         }
     }
     for (size_t source = 0; source <= CHANNELS; source++) WANT(given[source] == len[source]);
@@ -482,7 +483,7 @@ static int begin_whole(zimgasol_table *table, zimgasol_load *load) {
     memset(loaded, 0, sizeof loaded);
     memset(given, 0, sizeof given);
     WANT(zimgasol_load_new(load, table, uuid, 16, CHANNELS, &whole) == ZIMGASOL_DONE);
-    WANT(zimgasol_load_missing(load) == PAGES + OTHER && has_rounds(0));
+    WANT(told_missing(load) == PAGES + OTHER && has_rounds(0));
     return 0;
 }
 
@@ -503,7 +504,7 @@ static int whole_cut(zimgasol_table *table) {
     WANT(zimgasol_load_fault_of(&load, 1 + CHANNELS, &fault) == ZIMGASOL_BAD_SOURCE &&
         fault.number == 7);
     if (feed_whole(&load, len, 5000)) return 1;
-    WANT(zimgasol_load_rounds(&load) == 1 && zimgasol_load_missing(&load) == 0);
+    WANT(told_rounds(&load) == 1 && told_missing(&load) == 0);
     WANT(zimgasol_load_fault_of(&load, cut, &fault) == ZIMGASOL_DONE && fault.number == 0);
     WANT(zimgasol_load_end(&load, cut) == ZIMGASOL_DONE);
     WANT(zimgasol_load_verdict(&load, &fault) == ZIMGASOL_RUNNING);
@@ -521,9 +522,9 @@ static int whole_cut(zimgasol_table *table) {
         fault.source == cut && fault.round == 1);
     WANT(zimgasol_load_fault_of(&load, ZIMGASOL_MAIN, &fault) == ZIMGASOL_DONE);
     /* the cut item is the last SYNC packet, of 1,344 bytes */
-    WANT(zimgasol_load_valid_up_to(&load, cut, &at) && at == length[cut] - 1344);
-    WANT(!zimgasol_load_has_all_rounds(&load));
-    WANT(zimgasol_load_rounds(&load) == 1 && has_rounds(1));
+    WANT(told_valid_up_to(&load, cut, &at) && at == length[cut] - 1344);
+    WANT(!told_has_all_rounds(&load));
+    WANT(told_rounds(&load) == 1 && has_rounds(1));
     zimgasol_load_free(&load);
     return 0;
 }
@@ -536,14 +537,14 @@ static int whole_ends(zimgasol_table *table, size_t cut) {
     memcpy(len, length, sizeof len);
     len[CHANNELS]--;
     if (begin_whole(table, &load) || feed_whole(&load, len, cut)) return 1;
-    WANT(zimgasol_load_rounds(&load) == 1 && !zimgasol_load_has_all_rounds(&load) && has_rounds(1));
+    WANT(told_rounds(&load) == 1 && !told_has_all_rounds(&load) && has_rounds(1));
     if (feed_whole(&load, length, cut)) return 1;
     WANT(zimgasol_load_verdict(&load, &fault) == ZIMGASOL_RUNNING);
-    WANT(zimgasol_load_rounds(&load) == 2 && zimgasol_load_has_all_rounds(&load) && has_rounds(2));
+    WANT(told_rounds(&load) == 2 && told_has_all_rounds(&load) && has_rounds(2));
     for (size_t source = 1; source <= CHANNELS; source++)
         WANT(zimgasol_load_end(&load, source) == ZIMGASOL_DONE);
     WANT(zimgasol_load_verdict(&load, &fault) == ZIMGASOL_DONE);
-    WANT(zimgasol_load_has_all_rounds(&load) && has_rounds(2));
+    WANT(told_has_all_rounds(&load) && has_rounds(2));
     zimgasol_load_free(&load);
     return 0;
 }
@@ -559,18 +560,18 @@ static int load_limited(zimgasol_table *table) {
     uint64_t at = 7;
     WANT(zimgasol_load_new(&load, table, uuid, 16, CHANNELS, &settings) == ZIMGASOL_DONE);
     for (size_t source = 0; source <= CHANNELS; source++)
-        WANT(zimgasol_load_feed(&load, into, 2, source, stream[source], length[source], &taken) ==
+        WANT(told_feed(&load, into, 2, source, stream[source], length[source], &taken) ==
             ZIMGASOL_DONE);
     WANT(zimgasol_load_verdict(&load, &fault) == ZIMGASOL_CHANNEL_WAITING);
     WANT(fault.source == ZIMGASOL_CHANNEL(0) && fault.round == 0 &&
         fault.number == ZIMGASOL_CHANNEL_WAITING);
-    WANT(zimgasol_load_valid_up_to(&load, fault.source, &at) && at == 64);
-    WANT(zimgasol_load_rounds(&load) == 0);
+    WANT(told_valid_up_to(&load, fault.source, &at) && at == 64);
+    WANT(told_rounds(&load) == 0);
     zimgasol_load_free(&load);
     settings.waiting = 2 * (PAGES + OTHER) + 1;
     WANT(zimgasol_load_new(&load, table, uuid, 16, CHANNELS, &settings) == ZIMGASOL_DONE);
     if (feed_all(&load, 4096)) return 1;
-    WANT(zimgasol_load_verdict(&load, &fault) == ZIMGASOL_DONE && zimgasol_load_rounds(&load) == 2);
+    WANT(zimgasol_load_verdict(&load, &fault) == ZIMGASOL_DONE && told_rounds(&load) == 2);
     zimgasol_load_free(&load);
     return 0;
 }
@@ -621,7 +622,7 @@ static int foreign(zimgasol_table *table) {
             length[1 + j] += len;
     WANT(zimgasol_load_new(&load, table, uuid, 16, CHANNELS, &plain) == ZIMGASOL_DONE);
     for (size_t source = 0; source <= CHANNELS; source++)
-        WANT(zimgasol_load_feed(&load, into, 2, source, stream[source], length[source], &taken) ==
+        WANT(told_feed(&load, into, 2, source, stream[source], length[source], &taken) ==
             ZIMGASOL_DONE);
     WANT(zimgasol_load_verdict(&load, &fault) == ZIMGASOL_ROUND_DOUBLED && fault.first == 1 &&
         fault.round == 0);

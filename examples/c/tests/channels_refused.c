@@ -4,6 +4,7 @@
  * says so, and is made again; a load that failed for good is made anew. The streams are those of a
  * run without a refusal, the blocks have the guest, and nothing is left. */
 #include "sends.h"
+#include "standing.h"
 #include "zimgasol.h"
 #include "refusing.h"
 #include <string.h>
@@ -161,13 +162,13 @@ static int feeds(zimgasol_load *load, size_t cut) {
         for (size_t source = 0; source < SOURCES; source++) {
             size_t left = length[source] - given[source], len = left < cut ? left : cut;
             if (len == 0 || !zimgasol_load_takes(load, source)) continue;
-            uint32_t status = zimgasol_load_feed(load, into, 1, source,
+            uint32_t status = told_feed(load, into, 1, source,
                 stream[source] + given[source], len, &taken);
             WANT(into[0].bytes == loaded && into[0].len == sizeof loaded);
             if (status == ZIMGASOL_NO_MEMORY) {
                 WANT(refusals == 1 && taken == 0);
                 if (zimgasol_load_verdict(load, &fault) == ZIMGASOL_NO_MEMORY) return 0;
-                WANT(zimgasol_load_fed(load, source) == given[source]);
+                WANT(told_fed(load, source) == given[source]);
             } else {
                 WANT(status == ZIMGASOL_DONE);
             }
@@ -188,13 +189,13 @@ static void load(zimgasol_table *table, size_t cut) {
     memset(loaded, 0xEE, sizeof loaded);
     AGAIN(zimgasol_load_new(&load, table, uuid, 16, CHANNELS, &plain));
     if (!feeds(&load, cut)) {
-        WANT(zimgasol_load_rounds(&load) <= 2);
+        WANT(told_rounds(&load) <= 2);
         zimgasol_load_free(&load);
         AGAIN(zimgasol_load_new(&load, table, uuid, 16, CHANNELS, &plain));
         WANT(feeds(&load, cut));
     }
     WANT(zimgasol_load_verdict(&load, &fault) == ZIMGASOL_DONE && fault.number == 0);
-    WANT(zimgasol_load_rounds(&load) == 2 && memcmp(loaded, guest, sizeof guest) == 0);
+    WANT(told_rounds(&load) == 2 && memcmp(loaded, guest, sizeof guest) == 0);
     zimgasol_load_free(&load);
 }
 
@@ -211,7 +212,7 @@ static size_t take_packet(zimgasol_load *load, size_t source, const uint8_t *hea
     status = zimgasol_load_claim(load, source - 1, head, HEAD, &pages);
     if (status == ZIMGASOL_TO_FEED) return 0;
     WANT(status == ZIMGASOL_RUNNING && pages.block == 0);
-    claimed = zimgasol_load_claimed(load); /* pages of zeros that needn't be cleared, too */
+    claimed = told_claimed(load); /* pages of zeros that needn't be cleared, too */
     WANT(claimed <= 2 && claimed >= pages.normal + pages.zero);
     for (size_t i = 0; i < pages.normal + pages.zero; i++) {
         uint8_t *page = loaded + pages.pages[i] * PAGE;
@@ -221,10 +222,10 @@ static size_t take_packet(zimgasol_load *load, size_t source, const uint8_t *hea
     }
     status = zimgasol_load_take(load, source - 1, head, HEAD, contents, pages.normal);
     if (status == ZIMGASOL_NO_MEMORY) {
-        WANT(refusals == 1 && zimgasol_load_claimed(load) == claimed);
+        WANT(refusals == 1 && told_claimed(load) == claimed);
         status = zimgasol_load_take(load, source - 1, head, HEAD, contents, pages.normal);
     }
-    WANT(status == ZIMGASOL_RUNNING && zimgasol_load_claimed(load) == 0);
+    WANT(status == ZIMGASOL_RUNNING && told_claimed(load) == 0);
     return HEAD + pages.normal * PAGE;
 }
 
@@ -233,12 +234,12 @@ static size_t take_packet(zimgasol_load *load, size_t source, const uint8_t *hea
 static size_t feed_next(zimgasol_load *load, size_t source, size_t at) {
     size_t left = length[source] - at, len = source == 0 ? 100 : at == 0 ? 64 : HEAD, taken;
     zimgasol_fault fault;
-    uint32_t status = zimgasol_load_feed(load, into, 1, source, stream[source] + at,
+    uint32_t status = told_feed(load, into, 1, source, stream[source] + at,
         left < len ? left : len, &taken);
     if (status == ZIMGASOL_DONE) return taken;
     WANT(status == ZIMGASOL_NO_MEMORY && refusals == 1 && taken == 0);
     if (zimgasol_load_verdict(load, &fault) != ZIMGASOL_NO_MEMORY)
-        WANT(zimgasol_load_fed(load, source) == at);
+        WANT(told_fed(load, source) == at);
     return 0;
 }
 
@@ -277,7 +278,7 @@ static void load_claimed(zimgasol_table *table, bool zeros) {
         WANT(passes(&load));
     }
     WANT(zimgasol_load_verdict(&load, &fault) == ZIMGASOL_DONE && fault.number == 0);
-    WANT(zimgasol_load_rounds(&load) == 2 && memcmp(loaded, guest, sizeof guest) == 0);
+    WANT(told_rounds(&load) == 2 && memcmp(loaded, guest, sizeof guest) == 0);
     zimgasol_load_free(&load);
 }
 

@@ -2,6 +2,7 @@
  * and pages, by whole packets, and by each in turn: the streams are the same, and are loaded. Each
  * status of zimgasol_worker_head is asked for, and what stands after it. */
 #include "sends.h"
+#include "standing.h"
 #include "zimgasol.h"
 #include <stdio.h>
 #include <stdlib.h>
@@ -216,14 +217,14 @@ static int load_guest(zimgasol_table *table, const streams *from) {
         for (size_t s = 0; s <= CHANNELS; s++) {
             size_t len = from->len[s] - given[s];
             if (len == 0 || !zimgasol_load_takes(&load, s)) continue;
-            WANT(zimgasol_load_feed(&load, into, 2, s, from->bytes[s] + given[s], len, &taken) ==
+            WANT(told_feed(&load, into, 2, s, from->bytes[s] + given[s], len, &taken) ==
                 ZIMGASOL_DONE);
             given[s] += taken;
             moved = moved || taken > 0;
         }
     }
     for (size_t s = 0; s <= CHANNELS; s++) WANT(zimgasol_load_end(&load, s) == ZIMGASOL_DONE);
-    WANT(zimgasol_load_verdict(&load, &fault) == ZIMGASOL_DONE && zimgasol_load_rounds(&load) == 2);
+    WANT(zimgasol_load_verdict(&load, &fault) == ZIMGASOL_DONE && told_rounds(&load) == 2);
     WANT(memcmp(loaded[0], guest[0], PAGES * page_len) == 0 &&
         memcmp(loaded[1], guest[1], OTHER * page_len) == 0);
     zimgasol_load_free(&load);

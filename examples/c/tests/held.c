@@ -7,6 +7,7 @@
  * what the process takes more at its peak is the load's, with the buffers of this program.
  */
 #define _GNU_SOURCE
+#include "standing.h"
 #include "zimgasol.h"
 #include <fcntl.h>
 #include <stdbool.h>
@@ -70,7 +71,7 @@ static void take_turn(zimgasol_load *load, source *sources, size_t s) {
         return;
     }
     status =
-        zimgasol_load_feed(load, &block, 1, s, of->bytes + of->from, of->to - of->from, &taken);
+        told_feed(load, &block, 1, s, of->bytes + of->from, of->to - of->from, &taken);
     if (status != ZIMGASOL_DONE) give_up(zimgasol_status_text(status));
     of->from += taken;
 }

@@ -33,10 +33,10 @@ static int load_page(zimgasol_table *table, const uint8_t *stream, size_t len, u
     zimgasol_buffer block = {page, 4096};
     zimgasol_load load = {0};
     zimgasol_fault fault;
-    size_t taken;
+    zimgasol_fed fed;
     int done = zimgasol_load_new(&load, table, stream, 0, 0, &settings) == ZIMGASOL_DONE &&
-        zimgasol_load_feed(&load, &block, 1, ZIMGASOL_MAIN, stream, len, &taken) == ZIMGASOL_DONE &&
-        zimgasol_load_verdict(&load, &fault) == ZIMGASOL_DONE && taken == len;
+        zimgasol_load_feed(&load, &block, 1, ZIMGASOL_MAIN, stream, len, &fed) == ZIMGASOL_DONE &&
+        zimgasol_load_verdict(&load, &fault) == ZIMGASOL_DONE && fed.taken == len;
     zimgasol_load_free(&load);
     return done;
 }

@@ -4,6 +4,7 @@
  * loaded record by record, and by whole sections. Each argument that no load is made of is tried,
  * in the order in which they are refused. */
 #include "sends.h"
+#include "standing.h"
 #include "zimgasol.h"
 #include <stdio.h>
 #include <string.h>
@@ -126,16 +127,16 @@ static int ask_foreign(zimgasol_load *load, size_t source) {
     zimgasol_fault found = before;
     size_t taken = 7;
     uint64_t at = 7;
-    WANT(!zimgasol_load_takes(load, source) && zimgasol_load_fed(load, source) == 0);
-    WANT(zimgasol_load_feed(load, into, 1, source, single, 1, &taken) == ZIMGASOL_BAD_SOURCE &&
+    WANT(!zimgasol_load_takes(load, source) && told_fed(load, source) == 0);
+    WANT(told_feed(load, into, 1, source, single, 1, &taken) == ZIMGASOL_BAD_SOURCE &&
         taken == 0);
     taken = 7;
-    WANT(zimgasol_load_feed(load, into, 0, source, single, 1, &taken) == ZIMGASOL_BAD_SOURCE &&
+    WANT(told_feed(load, into, 0, source, single, 1, &taken) == ZIMGASOL_BAD_SOURCE &&
         taken == 0);
     WANT(zimgasol_load_end(load, source) == ZIMGASOL_BAD_SOURCE);
     WANT(zimgasol_load_fault_of(load, source, &found) == ZIMGASOL_BAD_SOURCE &&
         memcmp(&found, &before, sizeof found) == 0);
-    WANT(!zimgasol_load_valid_up_to(load, source, &at) && at == 7);
+    WANT(!told_valid_up_to(load, source, &at) && at == 7);
     return 0;
 }
 
@@ -165,17 +166,17 @@ static int ask_others_of_one(zimgasol_load *load) {
     for (size_t i = 0; i < OTHERS; i++)
         if (ask_foreign(load, others[i])) return 1;
     if (ask_no_packet(load, 0) || ask_no_packet(load, 1) || ask_no_packet(load, SIZE_MAX)) return 1;
-    WANT(zimgasol_load_claimed(load) == 0);
+    WANT(told_claimed(load) == 0);
     if (is_whole()) WANT(zimgasol_load_page_read(load, into, 1) == ZIMGASOL_OUT_OF_TURN);
     return 0;
 }
 
 /* Feeds the main stream, all of which is taken. */
 static int feed_main(zimgasol_load *load, const uint8_t *bytes, size_t len) {
-    uint64_t before = zimgasol_load_fed(load, ZIMGASOL_MAIN);
+    uint64_t before = told_fed(load, ZIMGASOL_MAIN);
     size_t taken = 7;
-    WANT(zimgasol_load_feed(load, into, 1, ZIMGASOL_MAIN, bytes, len, &taken) == ZIMGASOL_DONE);
-    WANT(taken == len && zimgasol_load_fed(load, ZIMGASOL_MAIN) == before + len);
+    WANT(told_feed(load, into, 1, ZIMGASOL_MAIN, bytes, len, &taken) == ZIMGASOL_DONE);
+    WANT(taken == len && told_fed(load, ZIMGASOL_MAIN) == before + len);
     return 0;
 }
 
@@ -191,10 +192,10 @@ static int ask_running(zimgasol_load *load) {
     WANT(zimgasol_load_takes(load, ZIMGASOL_MAIN));
     WANT(zimgasol_load_wanted(load, &next) == !is_whole());
     if (is_whole()) WANT(next.len == 7 && next.is_page == 0 && next.offset == 7);
-    WANT(!zimgasol_load_has_all_rounds(load));
-    WANT(zimgasol_load_closed_at(load, &at) == ZIMGASOL_RUNNING && at == 7);
-    WANT(zimgasol_load_valid_up_to(load, ZIMGASOL_MAIN, &at) &&
-        at <= zimgasol_load_fed(load, ZIMGASOL_MAIN));
+    WANT(!told_has_all_rounds(load));
+    WANT(told_closed_at(load, &at) == ZIMGASOL_RUNNING && at == 7);
+    WANT(told_valid_up_to(load, ZIMGASOL_MAIN, &at) &&
+        at <= told_fed(load, ZIMGASOL_MAIN));
     return ask_others_of_one(load);
 }
 
@@ -204,11 +205,11 @@ static int ask_failed(zimgasol_load *load, zimgasol_status wanted, uint64_t roun
     zimgasol_next next = {.len = 7};
     uint64_t at = 7;
     WANT(zimgasol_load_verdict(load, &verdict) == wanted && verdict.number == wanted);
-    WANT(verdict.round == round && zimgasol_load_rounds(load) == round);
+    WANT(verdict.round == round && told_rounds(load) == round);
     WANT(zimgasol_load_fault_of(load, ZIMGASOL_MAIN, &found) == wanted &&
         memcmp(&found, &verdict, sizeof found) == 0);
-    WANT(!zimgasol_load_takes(load, ZIMGASOL_MAIN) && !zimgasol_load_has_all_rounds(load));
-    WANT(zimgasol_load_closed_at(load, &at) == ZIMGASOL_RUNNING && at == 7);
+    WANT(!zimgasol_load_takes(load, ZIMGASOL_MAIN) && !told_has_all_rounds(load));
+    WANT(told_closed_at(load, &at) == ZIMGASOL_RUNNING && at == 7);
     if (wanted != ZIMGASOL_STREAM_TRUNCATED)
         WANT(!zimgasol_load_wanted(load, &next) && next.len == 7);
     return ask_others_of_one(load);
@@ -216,14 +217,14 @@ static int ask_failed(zimgasol_load *load, zimgasol_status wanted, uint64_t roun
 
 /* Ends a load of one stream, twice, which then takes no bytes, whatever its blocks. */
 static int end_main(zimgasol_load *load) {
-    uint64_t fed = zimgasol_load_fed(load, ZIMGASOL_MAIN);
+    uint64_t fed = told_fed(load, ZIMGASOL_MAIN);
     size_t taken = 7;
     for (int turn = 0; turn < 2; turn++)
         WANT(zimgasol_load_end(load, ZIMGASOL_MAIN) == ZIMGASOL_DONE);
-    WANT(zimgasol_load_feed(load, into, 0, ZIMGASOL_MAIN, single, 1, &taken) == ZIMGASOL_IS_OVER &&
+    WANT(told_feed(load, into, 0, ZIMGASOL_MAIN, single, 1, &taken) == ZIMGASOL_IS_OVER &&
         taken == 0);
     WANT(!zimgasol_load_takes(load, ZIMGASOL_MAIN));
-    WANT(zimgasol_load_fed(load, ZIMGASOL_MAIN) == fed);
+    WANT(told_fed(load, ZIMGASOL_MAIN) == fed);
     return 0;
 }
 
@@ -235,7 +236,7 @@ static int load_single(zimgasol_table *table) {
     uint64_t at = 7;
     memset(loaded, 0xEE, sizeof loaded);
     WANT(zimgasol_load_new(&load, table, uuid, 0, 0, loads_with) == ZIMGASOL_DONE);
-    WANT(zimgasol_load_rounds(&load) == 0 && zimgasol_load_missing(&load) == PAGES);
+    WANT(told_rounds(&load) == 0 && told_missing(&load) == PAGES);
     if (ask_running(&load) || feed_main(&load, single, 0) || ask_running(&load)) return 1;
     for (size_t len = single_len - 1, fed = 0; fed < len; fed += len / 2) {
         size_t left = len - fed;
@@ -247,16 +248,16 @@ static int load_single(zimgasol_table *table) {
         WANT(zimgasol_load_verdict(&load, &found) == ZIMGASOL_DONE && found.number == 0);
         WANT(zimgasol_load_fault_of(&load, ZIMGASOL_MAIN, &found) == ZIMGASOL_DONE &&
             found.number == 0);
-        WANT(!zimgasol_load_takes(&load, ZIMGASOL_MAIN) && zimgasol_load_has_all_rounds(&load));
+        WANT(!zimgasol_load_takes(&load, ZIMGASOL_MAIN) && told_has_all_rounds(&load));
         WANT(!zimgasol_load_wanted(&load, &next) && next.len == 7);
-        WANT(zimgasol_load_closed_at(&load, &at) == ZIMGASOL_DONE && at == single_len);
-        WANT(zimgasol_load_valid_up_to(&load, ZIMGASOL_MAIN, &at) && at == single_len);
-        WANT(zimgasol_load_rounds(&load) == 3 && zimgasol_load_missing(&load) == 1);
+        WANT(told_closed_at(&load, &at) == ZIMGASOL_DONE && at == single_len);
+        WANT(told_valid_up_to(&load, ZIMGASOL_MAIN, &at) && at == single_len);
+        WANT(told_rounds(&load) == 3 && told_missing(&load) == 1);
         if (ask_others_of_one(&load)) return 1;
         if (turn == 0 && feed_main(&load, (const uint8_t *)"\4ab", 3)) return 1;
         if (turn == 1 && end_main(&load)) return 1;
     }
-    WANT(zimgasol_load_fed(&load, ZIMGASOL_MAIN) == single_len + 3);
+    WANT(told_fed(&load, ZIMGASOL_MAIN) == single_len + 3);
     zimgasol_load_free(&load);
     WANT(memcmp(loaded, guest, 2 * PAGE) == 0 && loaded[2 * PAGE] == 0xEE);
     return 0;
@@ -269,12 +270,12 @@ static int load_failing(zimgasol_table *table, const uint8_t *bytes, size_t len,
     uint64_t valid = 7, at = 7;
     WANT(zimgasol_load_new(&load, table, uuid, 0, 0, loads_with) == ZIMGASOL_DONE);
     if (feed_main(&load, bytes, len) || ask_failed(&load, wanted, round)) return 1;
-    WANT(zimgasol_load_valid_up_to(&load, ZIMGASOL_MAIN, &valid) ==
+    WANT(told_valid_up_to(&load, ZIMGASOL_MAIN, &valid) ==
         (wanted != ZIMGASOL_OTHER_TABLE));
     if (feed_main(&load, single, 9) || ask_failed(&load, wanted, round)) return 1;
     if (end_main(&load) || ask_failed(&load, wanted, round)) return 1;
-    if (wanted == ZIMGASOL_OTHER_TABLE) WANT(valid == 7 && zimgasol_load_missing(&load) == PAGES);
-    else WANT(zimgasol_load_valid_up_to(&load, ZIMGASOL_MAIN, &at) && at == valid && valid < len);
+    if (wanted == ZIMGASOL_OTHER_TABLE) WANT(valid == 7 && told_missing(&load) == PAGES);
+    else WANT(told_valid_up_to(&load, ZIMGASOL_MAIN, &at) && at == valid && valid < len);
     zimgasol_load_free(&load);
     return 0;
 }
@@ -284,7 +285,7 @@ static int load_cut(zimgasol_table *table, size_t len) {
     zimgasol_load load = {0};
     WANT(zimgasol_load_new(&load, table, uuid, 0, 0, loads_with) == ZIMGASOL_DONE);
     if (feed_main(&load, single, len) || ask_running(&load)) return 1;
-    uint64_t round = zimgasol_load_rounds(&load);
+    uint64_t round = told_rounds(&load);
     if (end_main(&load) || ask_failed(&load, ZIMGASOL_STREAM_TRUNCATED, round)) return 1;
     zimgasol_load_free(&load);
     return 0;
@@ -329,7 +330,7 @@ static int load_other(const zimgasol_settings *settings) {
 static int ask_others_of_several(zimgasol_load *load) {
     zimgasol_next next = {.len = 7, .is_page = 8, .block = 9, .offset = 10};
     for (size_t i = 0; i < OTHERS; i++)
-        if (zimgasol_load_claimed(load) == 0 && ask_foreign(load, others[i])) return 1;
+        if (told_claimed(load) == 0 && ask_foreign(load, others[i])) return 1;
     if (ask_no_packet(load, 1) || ask_no_packet(load, SIZE_MAX)) return 1;
     WANT(!zimgasol_load_wanted(load, &next) && next.len == 7 && next.is_page == 8 &&
         next.block == 9 && next.offset == 10);
@@ -342,7 +343,7 @@ static int ask_others_of_several(zimgasol_load *load) {
 static int feed_and_ask(zimgasol_load *load, size_t source, size_t at, size_t len) {
     size_t taken = 7;
     WANT(zimgasol_load_takes(load, source));
-    WANT(zimgasol_load_feed(load, into, 1, source, stream[source] + at, len, &taken) ==
+    WANT(told_feed(load, into, 1, source, stream[source] + at, len, &taken) ==
             ZIMGASOL_DONE &&
         taken == len);
     return ask_others_of_several(load);
@@ -357,9 +358,9 @@ static int take_packet(zimgasol_load *load) {
     size_t taken = 7;
     WANT(zimgasol_load_claim(load, 0, head, HEAD, &pages) == ZIMGASOL_RUNNING);
     WANT(pages.normal == 1 && pages.zero == 1 && pages.pages[0] == 0 && pages.pages[1] == 1);
-    WANT(zimgasol_load_claimed(load) == 2);
+    WANT(told_claimed(load) == 2);
     for (size_t source = 0; source < 3; source++) {
-        WANT(zimgasol_load_feed(load, into, 1, source, stream[0], 1, &taken) ==
+        WANT(told_feed(load, into, 1, source, stream[0], 1, &taken) ==
                 ZIMGASOL_OUT_OF_TURN &&
             taken == 0);
         taken = 7;
@@ -368,7 +369,7 @@ static int take_packet(zimgasol_load *load) {
     memcpy(loaded, head + HEAD, PAGE);
     memset(loaded + PAGE, 0, PAGE);
     WANT(zimgasol_load_take(load, 0, head, HEAD, &content, 1) == ZIMGASOL_RUNNING);
-    WANT(zimgasol_load_claimed(load) == 0);
+    WANT(told_claimed(load) == 0);
     return ask_others_of_several(load);
 }
 
@@ -382,7 +383,7 @@ static int feed_packet(zimgasol_load *load) {
         WANT(zimgasol_load_claim(load, 0, head, HEAD, &pages) == ZIMGASOL_TO_FEED);
         WANT(pages.block == 7 && pages.normal == 8 && pages.zero == 9 && pages.pages[0] == 0);
         WANT(zimgasol_load_take(load, 0, head, HEAD, &content, 1) == ZIMGASOL_OUT_OF_TURN);
-        WANT(zimgasol_load_claimed(load) == 0);
+        WANT(told_claimed(load) == 0);
         if (turn == 0 && feed_and_ask(load, ZIMGASOL_CHANNEL(0), ZIMGASOL_HELLO_LEN, HEAD + PAGE))
             return 1;
     }
@@ -397,24 +398,24 @@ static int load_several(zimgasol_table *table, const zimgasol_settings *settings
     zimgasol_fault found;
     memset(loaded, 0xEE, sizeof loaded);
     WANT(zimgasol_load_new(&load, table, uuid, 16, 1, settings) == ZIMGASOL_DONE);
-    WANT(zimgasol_load_missing(&load) == PAGES);
+    WANT(told_missing(&load) == PAGES);
     if (ask_others_of_several(&load)) return 1;
     if (feed_and_ask(&load, ZIMGASOL_CHANNEL(0), 0, ZIMGASOL_HELLO_LEN)) return 1;
     WANT(!zimgasol_load_takes(&load, ZIMGASOL_CHANNEL(0)));
     if (feed_and_ask(&load, ZIMGASOL_MAIN, 0, length[0])) return 1;
     if (settings->whole_rounds ? feed_packet(&load) : take_packet(&load)) return 1;
-    WANT(!zimgasol_load_has_all_rounds(&load));
+    WANT(!told_has_all_rounds(&load));
     if (feed_and_ask(&load, ZIMGASOL_CHANNEL(0), packet, HEAD)) return 1;
-    WANT(zimgasol_load_has_all_rounds(&load));
+    WANT(told_has_all_rounds(&load));
     WANT(zimgasol_load_verdict(&load, &found) == ZIMGASOL_RUNNING);
     for (size_t source = 0; source < 2; source++) {
         WANT(zimgasol_load_end(&load, source) == ZIMGASOL_DONE);
-        WANT(zimgasol_load_fed(&load, source) == length[source]);
-        WANT(zimgasol_load_feed(&load, into, 0, source, stream[0], 1, &taken) == ZIMGASOL_IS_OVER &&
+        WANT(told_fed(&load, source) == length[source]);
+        WANT(told_feed(&load, into, 0, source, stream[0], 1, &taken) == ZIMGASOL_IS_OVER &&
             taken == 0);
     }
     WANT(zimgasol_load_verdict(&load, &found) == ZIMGASOL_DONE && found.number == 0);
-    WANT(zimgasol_load_rounds(&load) == 1 && zimgasol_load_missing(&load) == 1);
+    WANT(told_rounds(&load) == 1 && told_missing(&load) == 1);
     if (ask_others_of_several(&load)) return 1;
     zimgasol_load_free(&load);
     WANT(memcmp(loaded, guest, 2 * PAGE) == 0 && loaded[2 * PAGE] == 0xEE);

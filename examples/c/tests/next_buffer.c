@@ -9,6 +9,7 @@
  * page each, which lie at page boundaries of the file; and of plain reads of 1 MiB.
  */
 #define _GNU_SOURCE
+#include "standing.h"
 #include "zimgasol.h"
 #include <fcntl.h>
 #include <stdio.h>
@@ -40,7 +41,7 @@ static zimgasol_status read_page(zimgasol_load *load, zimgasol_buffer *block,
     if (len < (ssize_t)next->len) return ZIMGASOL_STREAM_TRUNCATED;
     zimgasol_status status = zimgasol_load_page_read(load, block, 1);
     if (status != ZIMGASOL_DONE) return status;
-    return zimgasol_load_feed(load, block, 1, ZIMGASOL_MAIN, head, (size_t)len - next->len, &taken);
+    return told_feed(load, block, 1, ZIMGASOL_MAIN, head, (size_t)len - next->len, &taken);
 }
 
 /* Reads other bytes of the stream. */
@@ -50,7 +51,7 @@ static zimgasol_status read_bytes(zimgasol_load *load, zimgasol_buffer *block, s
     size_t taken;
     ssize_t count = read(file, piece, len < sizeof piece ? len : sizeof piece);
     if (count <= 0) return ZIMGASOL_STREAM_TRUNCATED;
-    return zimgasol_load_feed(load, block, 1, ZIMGASOL_MAIN, piece, (size_t)count, &taken);
+    return told_feed(load, block, 1, ZIMGASOL_MAIN, piece, (size_t)count, &taken);
 }
 
 static int load_pages(int file) {

@@ -4,6 +4,7 @@
  * comes of it is the same as with no refusal, and no block is left. One stream by whole sections is
  * also cut everywhere, has faults, and is of another table. */
 #include "sends.h"
+#include "standing.h"
 #include "zimgasol.h"
 #include "refusing.h"
 #include <string.h>
@@ -155,7 +156,7 @@ static void check_fed_alone(zimgasol_load *load) {
         memcmp(&pages, &untouched, sizeof pages) == 0);
     WANT(zimgasol_load_take(load, 0, text, ZIMGASOL_HEAD_LEN(PAGE), &content, 1) ==
         ZIMGASOL_BAD_SOURCE);
-    WANT(zimgasol_load_claimed(load) == 0);
+    WANT(told_claimed(load) == 0);
 }
 
 /* What a load of these first bytes of the stream says, and its blocks. */
@@ -163,17 +164,17 @@ static void check_sections(zimgasol_load *load, uint64_t fed) {
     zimgasol_fault fault;
     uint64_t sections = sections_in(fed), at = 7;
     int is_closed = fed >= text_len;
-    WANT(zimgasol_load_fed(load, ZIMGASOL_MAIN) == fed && has_sections(sections));
-    WANT(zimgasol_load_rounds(load) == sections &&
-        zimgasol_load_missing(load) == (sections > 1 ? 3 : 5));
+    WANT(told_fed(load, ZIMGASOL_MAIN) == fed && has_sections(sections));
+    WANT(told_rounds(load) == sections &&
+        told_missing(load) == (sections > 1 ? 3 : 5));
     WANT(zimgasol_load_verdict(load, &fault) == (is_closed ? ZIMGASOL_DONE : ZIMGASOL_RUNNING) &&
         fault.round == (is_closed ? 0 : sections) && fault.source == 0 && fault.first == 0);
     WANT(zimgasol_load_fault_of(load, ZIMGASOL_MAIN, &fault) == ZIMGASOL_DONE);
     WANT(zimgasol_load_takes(load, ZIMGASOL_MAIN) == !is_closed &&
-        zimgasol_load_has_all_rounds(load) == is_closed);
-    WANT(zimgasol_load_closed_at(load, &at) == (is_closed ? ZIMGASOL_DONE : ZIMGASOL_RUNNING) &&
+        told_has_all_rounds(load) == is_closed);
+    WANT(told_closed_at(load, &at) == (is_closed ? ZIMGASOL_DONE : ZIMGASOL_RUNNING) &&
         at == (is_closed ? text_len : 7));
-    WANT(zimgasol_load_valid_up_to(load, ZIMGASOL_MAIN, &at) && at <= fed &&
+    WANT(told_valid_up_to(load, ZIMGASOL_MAIN, &at) && at <= fed &&
         (!is_closed || at == text_len));
 }
 
@@ -182,11 +183,11 @@ static void check_sections(zimgasol_load *load, uint64_t fed) {
 static void feed_sections(zimgasol_load *load, size_t at, size_t len) {
     size_t taken = 7;
     zimgasol_status status =
-        zimgasol_load_feed(load, into, 2, ZIMGASOL_MAIN, text + at, len, &taken);
+        told_feed(load, into, 2, ZIMGASOL_MAIN, text + at, len, &taken);
     if (status == ZIMGASOL_NO_MEMORY) {
         WANT(refusals == 1 && taken == 0);
         check_sections(load, at);
-        status = zimgasol_load_feed(load, into, 2, ZIMGASOL_MAIN, text + at, len, &taken);
+        status = told_feed(load, into, 2, ZIMGASOL_MAIN, text + at, len, &taken);
     }
     WANT(status == ZIMGASOL_DONE && taken == len);
     WANT(into[0].bytes == first_block && into[0].len == sizeof first_block &&
@@ -199,16 +200,16 @@ static void end_sections(zimgasol_load *load) {
     zimgasol_fault fault;
     uint64_t at = 7;
     size_t taken = 7;
-    AGAIN(zimgasol_load_feed(load, into, 2, ZIMGASOL_MAIN, text, 9, &taken));
-    WANT(taken == 9 && zimgasol_load_fed(load, ZIMGASOL_MAIN) == text_len + 9);
-    WANT(zimgasol_load_closed_at(load, &at) == ZIMGASOL_DONE && at == text_len);
+    AGAIN(told_feed(load, into, 2, ZIMGASOL_MAIN, text, 9, &taken));
+    WANT(taken == 9 && told_fed(load, ZIMGASOL_MAIN) == text_len + 9);
+    WANT(told_closed_at(load, &at) == ZIMGASOL_DONE && at == text_len);
     for (int turn = 0; turn < 2; turn++)
         WANT(zimgasol_load_end(load, ZIMGASOL_MAIN) == ZIMGASOL_DONE);
-    WANT(zimgasol_load_feed(load, into, 0, ZIMGASOL_MAIN, text, 1, &taken) == ZIMGASOL_IS_OVER &&
+    WANT(told_feed(load, into, 0, ZIMGASOL_MAIN, text, 1, &taken) == ZIMGASOL_IS_OVER &&
         taken == 0);
     check_fed_alone(load);
     WANT(zimgasol_load_verdict(load, &fault) == ZIMGASOL_DONE && fault.number == 0 &&
-        zimgasol_load_rounds(load) == 4 && zimgasol_load_missing(load) == 3);
+        told_rounds(load) == 4 && told_missing(load) == 3);
     zimgasol_load_free(load);
     WANT(load->full == 0 && load->at == NULL && has_sections(4));
 }
@@ -220,15 +221,15 @@ static void load_sections(const zimgasol_settings *settings, size_t cut) {
     make_in_place(&load, settings);
     for (size_t at = 0; at < text_len; at += cut) {
         size_t len = text_len - at < cut ? text_len - at : cut;
-        WANT(zimgasol_load_feed(&load, into, 1, ZIMGASOL_MAIN, text + at, len, &taken) ==
+        WANT(told_feed(&load, into, 1, ZIMGASOL_MAIN, text + at, len, &taken) ==
                 ZIMGASOL_BAD_LENGTH &&
             taken == 0);
         into[1].len--;
-        WANT(zimgasol_load_feed(&load, into, 2, ZIMGASOL_MAIN, text + at, len, &taken) ==
+        WANT(told_feed(&load, into, 2, ZIMGASOL_MAIN, text + at, len, &taken) ==
                 ZIMGASOL_BAD_LENGTH &&
             taken == 0);
         into[1].len++;
-        WANT(zimgasol_load_feed(&load, into, 2, ZIMGASOL_CHANNEL(0), text + at, len, &taken) ==
+        WANT(told_feed(&load, into, 2, ZIMGASOL_CHANNEL(0), text + at, len, &taken) ==
                 ZIMGASOL_BAD_SOURCE &&
             taken == 0);
         check_fed_alone(&load);
@@ -266,22 +267,22 @@ static void fail_section(size_t cut, size_t len, zimgasol_status wanted, uint64_
         size_t taken = 0;
         make_in_place(&load, is_whole ? &whole : &plain);
         for (size_t from = 0; from < len; from += taken)
-            AGAIN(zimgasol_load_feed(&load, into, 2, ZIMGASOL_MAIN, text + from,
+            AGAIN(told_feed(&load, into, 2, ZIMGASOL_MAIN, text + from,
                 len - from < cut ? len - from : cut, &taken));
         memcpy(before[0], first_block, sizeof first_block);
         memcpy(before[1], second_block, sizeof second_block);
         if (wanted == ZIMGASOL_STREAM_TRUNCATED) WANT(zimgasol_load_takes(&load, ZIMGASOL_MAIN));
-        else AGAIN(zimgasol_load_feed(&load, into, 2, ZIMGASOL_MAIN, text, text_len, &taken));
+        else AGAIN(told_feed(&load, into, 2, ZIMGASOL_MAIN, text, text_len, &taken));
         WANT(zimgasol_load_end(&load, ZIMGASOL_MAIN) == ZIMGASOL_DONE);
         WANT(zimgasol_load_verdict(&load, &fault) == wanted && fault.number == wanted &&
             fault.round == sections && fault.source == ZIMGASOL_MAIN);
         WANT(zimgasol_load_fault_of(&load, ZIMGASOL_MAIN, &fault) == wanted &&
             fault.round == sections);
-        WANT(zimgasol_load_rounds(&load) == sections && zimgasol_load_missing(&load) == 3 &&
-            !zimgasol_load_takes(&load, ZIMGASOL_MAIN) && !zimgasol_load_has_all_rounds(&load));
-        WANT(zimgasol_load_valid_up_to(&load, ZIMGASOL_MAIN, &at) && at == valid);
+        WANT(told_rounds(&load) == sections && told_missing(&load) == 3 &&
+            !zimgasol_load_takes(&load, ZIMGASOL_MAIN) && !told_has_all_rounds(&load));
+        WANT(told_valid_up_to(&load, ZIMGASOL_MAIN, &at) && at == valid);
         at = 7;
-        WANT(zimgasol_load_closed_at(&load, &at) == ZIMGASOL_RUNNING && at == 7);
+        WANT(told_closed_at(&load, &at) == ZIMGASOL_RUNNING && at == 7);
         if (is_whole) check_fed_alone(&load);
         zimgasol_load_free(&load);
         /* record by record the page of the second PART is there */
@@ -333,7 +334,7 @@ static void load_other_sections(size_t cut) {
     make_in_place(&load, &whole);
     id[0] = 'q';
     for (size_t from = 0; from < text_len; from += taken) {
-        AGAIN(zimgasol_load_feed(&load, into, 2, ZIMGASOL_MAIN, text + from,
+        AGAIN(told_feed(&load, into, 2, ZIMGASOL_MAIN, text + from,
             text_len - from < cut ? text_len - from : cut, &taken));
         if (from + taken < START) continue;
         WANT(zimgasol_load_verdict(&load, &fault) == ZIMGASOL_OTHER_TABLE && fault.round == 0 &&
@@ -341,13 +342,13 @@ static void load_other_sections(size_t cut) {
     }
     long then = held;
     for (int more = 0; more < 9; more++)
-        AGAIN(zimgasol_load_feed(&load, into, 2, ZIMGASOL_MAIN, text, text_len, &taken));
-    WANT(held == then && zimgasol_load_fed(&load, ZIMGASOL_MAIN) == 10 * text_len);
+        AGAIN(told_feed(&load, into, 2, ZIMGASOL_MAIN, text, text_len, &taken));
+    WANT(held == then && told_fed(&load, ZIMGASOL_MAIN) == 10 * text_len);
     WANT(zimgasol_load_fault_of(&load, ZIMGASOL_MAIN, &fault) == ZIMGASOL_OTHER_TABLE);
-    WANT(zimgasol_load_rounds(&load) == 0 && zimgasol_load_missing(&load) == 5 &&
-        !zimgasol_load_takes(&load, ZIMGASOL_MAIN) && !zimgasol_load_has_all_rounds(&load));
-    WANT(!zimgasol_load_valid_up_to(&load, ZIMGASOL_MAIN, &at) &&
-        zimgasol_load_closed_at(&load, &at) == ZIMGASOL_RUNNING && at == 7);
+    WANT(told_rounds(&load) == 0 && told_missing(&load) == 5 &&
+        !zimgasol_load_takes(&load, ZIMGASOL_MAIN) && !told_has_all_rounds(&load));
+    WANT(!told_valid_up_to(&load, ZIMGASOL_MAIN, &at) &&
+        told_closed_at(&load, &at) == ZIMGASOL_RUNNING && at == 7);
     check_fed_alone(&load);
     WANT(zimgasol_load_end(&load, ZIMGASOL_MAIN) == ZIMGASOL_DONE);
     WANT(zimgasol_load_verdict(&load, &fault) == ZIMGASOL_OTHER_TABLE);
@@ -366,43 +367,43 @@ static uint32_t feed_in_place(zimgasol_load *load, size_t cut) {
     zimgasol_fault fault;
     for (size_t at = 0; at < text_len; at += cut) {
         size_t len = text_len - at < cut ? text_len - at : cut, taken = 7;
-        WANT(zimgasol_load_feed(load, blocks, 1, ZIMGASOL_MAIN, text + at, len, &taken) ==
+        WANT(told_feed(load, blocks, 1, ZIMGASOL_MAIN, text + at, len, &taken) ==
                 ZIMGASOL_BAD_LENGTH &&
             taken == 0);
         blocks[1].len--;
-        WANT(zimgasol_load_feed(load, blocks, 2, ZIMGASOL_MAIN, text + at, len, &taken) ==
+        WANT(told_feed(load, blocks, 2, ZIMGASOL_MAIN, text + at, len, &taken) ==
                 ZIMGASOL_BAD_LENGTH &&
             taken == 0);
         blocks[1].len++;
-        WANT(zimgasol_load_fed(load, ZIMGASOL_MAIN) == at);
+        WANT(told_fed(load, ZIMGASOL_MAIN) == at);
         uint32_t status =
-            zimgasol_load_feed(load, blocks, 2, ZIMGASOL_MAIN, text + at, len, &taken);
+            told_feed(load, blocks, 2, ZIMGASOL_MAIN, text + at, len, &taken);
         if (status == ZIMGASOL_NO_MEMORY) {
             WANT(refusals == 1 && taken == 0);
             if (zimgasol_load_verdict(load, &fault) == ZIMGASOL_NO_MEMORY) {
-                WANT(fault.source == ZIMGASOL_ROUND && fault.round == zimgasol_load_rounds(load));
+                WANT(fault.source == ZIMGASOL_ROUND && fault.round == told_rounds(load));
                 WANT(zimgasol_load_fault_of(load, ZIMGASOL_MAIN, &fault) == ZIMGASOL_NO_MEMORY);
                 WANT(!zimgasol_load_takes(load, ZIMGASOL_MAIN) &&
-                    !zimgasol_load_has_all_rounds(load));
+                    !told_has_all_rounds(load));
                 /* it has failed for good, and only counts */
-                WANT(zimgasol_load_fed(load, ZIMGASOL_MAIN) == at + len);
-                WANT(zimgasol_load_feed(load, blocks, 2, ZIMGASOL_MAIN, text, 1, &taken) ==
+                WANT(told_fed(load, ZIMGASOL_MAIN) == at + len);
+                WANT(told_feed(load, blocks, 2, ZIMGASOL_MAIN, text, 1, &taken) ==
                         ZIMGASOL_DONE &&
-                    zimgasol_load_fed(load, ZIMGASOL_MAIN) == at + len + 1);
+                    told_fed(load, ZIMGASOL_MAIN) == at + len + 1);
                 WANT(zimgasol_load_verdict(load, &fault) == ZIMGASOL_NO_MEMORY);
                 return status;
             }
-            WANT(fault.number == ZIMGASOL_RUNNING && zimgasol_load_fed(load, ZIMGASOL_MAIN) == at);
-            status = zimgasol_load_feed(load, blocks, 2, ZIMGASOL_MAIN, text + at, len, &taken);
+            WANT(fault.number == ZIMGASOL_RUNNING && told_fed(load, ZIMGASOL_MAIN) == at);
+            status = told_feed(load, blocks, 2, ZIMGASOL_MAIN, text + at, len, &taken);
         }
         WANT(status == ZIMGASOL_DONE && taken == len &&
-            zimgasol_load_fed(load, ZIMGASOL_MAIN) == at + len);
+            told_fed(load, ZIMGASOL_MAIN) == at + len);
         WANT(blocks[0].bytes == first_block && blocks[1].bytes == second_block &&
             blocks[0].len == sizeof first_block && blocks[1].len == sizeof second_block);
     }
     size_t taken = 7;
     WANT(zimgasol_load_end(load, ZIMGASOL_MAIN) == ZIMGASOL_DONE);
-    WANT(zimgasol_load_feed(load, blocks, 0, ZIMGASOL_MAIN, text, 1, &taken) == ZIMGASOL_IS_OVER &&
+    WANT(told_feed(load, blocks, 0, ZIMGASOL_MAIN, text, 1, &taken) == ZIMGASOL_IS_OVER &&
         taken == 0);
     return ZIMGASOL_DONE;
 }
@@ -417,12 +418,12 @@ static uint32_t read_in_place(zimgasol_load *load) {
     size_t at = 0, pages = 0, taken;
     while (zimgasol_load_wanted(load, &next)) {
         WANT(at < text_len && next.len > 0 && next.len <= text_len - at &&
-            zimgasol_load_fed(load, ZIMGASOL_MAIN) == at);
+            told_fed(load, ZIMGASOL_MAIN) == at);
         if (!next.is_page) {
             WANT(next.block == 0 && next.offset == 0 &&
                 zimgasol_load_page_read(load, blocks, 2) == ZIMGASOL_OUT_OF_TURN);
             uint32_t status =
-                zimgasol_load_feed(load, blocks, 2, ZIMGASOL_MAIN, text + at, next.len, &taken);
+                told_feed(load, blocks, 2, ZIMGASOL_MAIN, text + at, next.len, &taken);
             if (status == ZIMGASOL_NO_MEMORY) {
                 WANT(refusals == 1);
                 if (zimgasol_load_verdict(load, &fault) == ZIMGASOL_NO_MEMORY) {
@@ -431,7 +432,7 @@ static uint32_t read_in_place(zimgasol_load *load) {
                     return status;
                 }
                 status =
-                    zimgasol_load_feed(load, blocks, 2, ZIMGASOL_MAIN, text + at, next.len, &taken);
+                    told_feed(load, blocks, 2, ZIMGASOL_MAIN, text + at, next.len, &taken);
             }
             WANT(status == ZIMGASOL_DONE);
         } else {
@@ -461,14 +462,14 @@ static void load_in_place(size_t cut) {
     uint64_t at = 7;
     make_in_place(&load, &plain);
     if ((cut > 0 ? feed_in_place(&load, cut) : read_in_place(&load)) == ZIMGASOL_NO_MEMORY) {
-        WANT(zimgasol_load_closed_at(&load, &at) == ZIMGASOL_RUNNING && at == 7);
+        WANT(told_closed_at(&load, &at) == ZIMGASOL_RUNNING && at == 7);
         zimgasol_load_free(&load);
         make_in_place(&load, &plain);
         WANT((cut > 0 ? feed_in_place(&load, cut) : read_in_place(&load)) == ZIMGASOL_DONE);
     }
-    WANT(zimgasol_load_closed_at(&load, &at) == ZIMGASOL_DONE && at == text_len);
+    WANT(told_closed_at(&load, &at) == ZIMGASOL_DONE && at == text_len);
     WANT(zimgasol_load_verdict(&load, &fault) == ZIMGASOL_DONE && fault.number == 0 &&
-        zimgasol_load_rounds(&load) == 4 && zimgasol_load_missing(&load) == 3);
+        told_rounds(&load) == 4 && told_missing(&load) == 3);
     zimgasol_load_free(&load);
     WANT(load.at == NULL);
     WANT(is_filled(first_block, 2 * PAGE, 0xEE) && first_block[2 * PAGE] == 3 &&
@@ -486,12 +487,12 @@ static void cut_in_place(void) {
     size_t page_end = 0, taken;
     make_in_place(&load, &plain);
     while (first_block[2 * PAGE] != 1)
-        AGAIN(zimgasol_load_feed(&load, blocks, 2, ZIMGASOL_MAIN, text + page_end++, 1, &taken));
+        AGAIN(told_feed(&load, blocks, 2, ZIMGASOL_MAIN, text + page_end++, 1, &taken));
     WANT(is_filled(first_block, 2 * PAGE, 0xEE) &&
         is_filled(first_block + 2 * PAGE + 1, PAGE - 1, 7) &&
         is_filled(second_block, 2 * PAGE, 0xEE));
     WANT(zimgasol_load_verdict(&load, &fault) == ZIMGASOL_RUNNING && fault.round == 1 &&
-        zimgasol_load_rounds(&load) == 1 && zimgasol_load_missing(&load) == 4);
+        told_rounds(&load) == 1 && told_missing(&load) == 4);
     WANT(zimgasol_load_end(&load, ZIMGASOL_MAIN) == ZIMGASOL_DONE);
     WANT(zimgasol_load_verdict(&load, &fault) == ZIMGASOL_STREAM_TRUNCATED && fault.round == 1 &&
         first_block[2 * PAGE] == 1);
@@ -564,7 +565,8 @@ static void make_several(zimgasol_load *load, uint64_t waiting) {
     zimgasol_settings settings = {.waiting = waiting, .zero_blocks = 1, .whole_rounds = 1};
     zimgasol_table table = {0};
     zimgasol_block block;
-    AGAIN(zimgasol_table_of_stream(&table, PAGE, ZIMGASOL_FRAME_RAM, main_text, main_len));
+    uint64_t at;
+    AGAIN(zimgasol_table_of_stream(&table, PAGE, ZIMGASOL_FRAME_RAM, main_text, main_len, &at));
     WANT(zimgasol_table_blocks(&table) == 1 &&
         zimgasol_table_block(&table, 0, &block) == ZIMGASOL_DONE);
     WANT(block.pages == 2 && block.id[0] == 'a' && block.id[1] == 0);
@@ -578,15 +580,15 @@ static void make_several(zimgasol_load *load, uint64_t waiting) {
 static uint32_t after_refusal(zimgasol_load *load, size_t source, uint64_t fed) {
     zimgasol_fault fault;
     size_t taken = 7;
-    WANT(refusals == 1 && has_rounds(zimgasol_load_rounds(load)));
+    WANT(refusals == 1 && has_rounds(told_rounds(load)));
     if (zimgasol_load_verdict(load, &fault) == ZIMGASOL_RUNNING) {
-        WANT(zimgasol_load_fed(load, source) == fed);
+        WANT(told_fed(load, source) == fed);
         return ZIMGASOL_DONE;
     }
     WANT(fault.number == ZIMGASOL_NO_MEMORY && fault.source == ZIMGASOL_ROUND &&
-        fault.round == zimgasol_load_rounds(load));
-    WANT(zimgasol_load_feed(load, only, 1, source, page, 1, &taken) == ZIMGASOL_DONE && taken == 0);
-    WANT(has_rounds(zimgasol_load_rounds(load)));
+        fault.round == told_rounds(load));
+    WANT(told_feed(load, only, 1, source, page, 1, &taken) == ZIMGASOL_DONE && taken == 0);
+    WANT(has_rounds(told_rounds(load)));
     return ZIMGASOL_NO_MEMORY;
 }
 
@@ -601,12 +603,12 @@ static uint32_t feed_several(zimgasol_load *load, size_t cut) {
             size_t s = 1 - turn, left = lengths[s] - fed[s], len = left < cut ? left : cut;
             if (len == 0 || !zimgasol_load_takes(load, s)) continue;
             moved = 1;
-            uint32_t status = zimgasol_load_feed(load, only, 1, s, texts[s] + fed[s], len, &taken);
+            uint32_t status = told_feed(load, only, 1, s, texts[s] + fed[s], len, &taken);
             WANT(status == ZIMGASOL_DONE || (status == ZIMGASOL_NO_MEMORY && taken == 0));
             if (status == ZIMGASOL_NO_MEMORY && after_refusal(load, s, fed[s]) != ZIMGASOL_DONE)
                 return status;
             fed[s] += taken;
-            WANT(zimgasol_load_fed(load, s) == fed[s] && has_rounds(zimgasol_load_rounds(load)));
+            WANT(told_fed(load, s) == fed[s] && has_rounds(told_rounds(load)));
         }
     }
     WANT(zimgasol_load_end(load, ZIMGASOL_MAIN) == ZIMGASOL_DONE &&
@@ -623,7 +625,7 @@ static void load_several(size_t cut) {
     sent_byte = 9;
     make_several(&load, 0);
     WANT(zimgasol_load_verdict(&load, &fault) == ZIMGASOL_RUNNING);
-    WANT(zimgasol_load_missing(&load) == 2);
+    WANT(told_missing(&load) == 2);
     uint32_t found = feed_several(&load, cut);
     if (found == ZIMGASOL_NO_MEMORY) {
         WANT(zimgasol_load_verdict(&load, &fault) == ZIMGASOL_NO_MEMORY);
@@ -633,11 +635,11 @@ static void load_several(size_t cut) {
     }
     WANT(found == ZIMGASOL_DONE && zimgasol_load_verdict(&load, &fault) == ZIMGASOL_DONE &&
         fault.number == 0);
-    WANT(zimgasol_load_feed(&load, only, 1, ZIMGASOL_MAIN, page, 1, &taken) == ZIMGASOL_IS_OVER &&
+    WANT(told_feed(&load, only, 1, ZIMGASOL_MAIN, page, 1, &taken) == ZIMGASOL_IS_OVER &&
         taken == 0);
-    WANT(zimgasol_load_feed(&load, only, 1, 2, page, 1, &taken) == ZIMGASOL_BAD_SOURCE &&
+    WANT(told_feed(&load, only, 1, 2, page, 1, &taken) == ZIMGASOL_BAD_SOURCE &&
         taken == 0);
-    WANT(zimgasol_load_rounds(&load) == 1 && zimgasol_load_missing(&load) == 0 && has_rounds(1));
+    WANT(told_rounds(&load) == 1 && told_missing(&load) == 0 && has_rounds(1));
     zimgasol_load_free(&load);
     WANT(load.full == 0 && has_rounds(1));
 }
@@ -655,12 +657,12 @@ static void limit_one_stream(uint64_t waiting, bool is_whole) {
     size_t taken;
     uint64_t at = 7;
     make_in_place(&load, &settings);
-    WANT(zimgasol_load_feed(&load, into, 2, ZIMGASOL_MAIN, text, text_len, &taken) ==
+    WANT(told_feed(&load, into, 2, ZIMGASOL_MAIN, text, text_len, &taken) ==
         ZIMGASOL_DONE);
     uint32_t wanted = waiting == 1 ? ZIMGASOL_STREAM_WAITING : ZIMGASOL_DONE;
     uint64_t valid = waiting == 1 ? second : text_len;
     WANT(zimgasol_load_verdict(&load, &fault) == wanted &&
-        zimgasol_load_valid_up_to(&load, ZIMGASOL_MAIN, &at) && at == valid);
+        told_valid_up_to(&load, ZIMGASOL_MAIN, &at) && at == valid);
     /* record by record the first record is there */
     if (is_whole || waiting > 1) WANT(has_sections(waiting == 1 ? 1 : 4));
     else WANT(first_block[2 * PAGE] == 1 && is_filled(second_block, 2 * PAGE, 0xEE));
@@ -677,12 +679,12 @@ static void limit_one_stream(uint64_t waiting, bool is_whole) {
     /* of a stream of another table it isn't known how much is valid */
     make_in_place(&load, &settings);
     text[START - 13 - 8 - 6]++;
-    WANT(zimgasol_load_feed(&load, into, 2, ZIMGASOL_MAIN, text, text_len, &taken) ==
+    WANT(told_feed(&load, into, 2, ZIMGASOL_MAIN, text, text_len, &taken) ==
             ZIMGASOL_DONE &&
         zimgasol_load_verdict(&load, &fault) == ZIMGASOL_OTHER_TABLE);
     text[START - 13 - 8 - 6]--;
     at = 7;
-    WANT(!zimgasol_load_valid_up_to(&load, ZIMGASOL_MAIN, &at) && at == 7);
+    WANT(!told_valid_up_to(&load, ZIMGASOL_MAIN, &at) && at == 7);
     zimgasol_load_free(&load);
 }
 
@@ -701,20 +703,20 @@ static void limit_channels(uint64_t waiting) {
     channel_len += 64;
     sent_byte = 0;
     make_several(&load, waiting);
-    WANT(zimgasol_load_closed_at(&load, &at) == ZIMGASOL_RUNNING && at == 7);
+    WANT(told_closed_at(&load, &at) == ZIMGASOL_RUNNING && at == 7);
     WANT(feed_several(&load, MOST) == ZIMGASOL_DONE);
     WANT(zimgasol_load_verdict(&load, &fault) ==
         (waiting == 1 ? ZIMGASOL_STREAM_WAITING : ZIMGASOL_DONE));
-    WANT(zimgasol_load_valid_up_to(&load, ZIMGASOL_MAIN, &at) &&
+    WANT(told_valid_up_to(&load, ZIMGASOL_MAIN, &at) &&
         at == (waiting == 1 ? 56 + 5 + 11 : main_len));
     at = 7;
-    WANT(zimgasol_load_closed_at(&load, &at) ==
+    WANT(told_closed_at(&load, &at) ==
             (waiting == 1 ? ZIMGASOL_RUNNING : ZIMGASOL_DONE) &&
         at == (waiting == 1 ? 7 : main_len));
     at = 7;
-    WANT(!zimgasol_load_valid_up_to(&load, ZIMGASOL_CHANNEL(1), &at) &&
-        !zimgasol_load_valid_up_to(&load, ZIMGASOL_ROUND, &at) && at == 7);
-    WANT(zimgasol_load_rounds(&load) == waiting - 1 && has_rounds(waiting - 1));
+    WANT(!told_valid_up_to(&load, ZIMGASOL_CHANNEL(1), &at) &&
+        !told_valid_up_to(&load, ZIMGASOL_ROUND, &at) && at == 7);
+    WANT(told_rounds(&load) == waiting - 1 && has_rounds(waiting - 1));
     zimgasol_load_free(&load);
     put_main();
 }
@@ -733,8 +735,8 @@ static void wrong_packet(void) {
     WANT(feed_several(&load, MOST) == ZIMGASOL_DONE);
     WANT(zimgasol_load_verdict(&load, &fault) == ZIMGASOL_CHANNEL_PACKET_MAGIC &&
         fault.source == ZIMGASOL_CHANNEL(0));
-    WANT(zimgasol_load_valid_up_to(&load, fault.source, &at) && at == second);
-    WANT(zimgasol_load_rounds(&load) == 0 && has_rounds(0));
+    WANT(told_valid_up_to(&load, fault.source, &at) && at == second);
+    WANT(told_rounds(&load) == 0 && has_rounds(0));
     zimgasol_load_free(&load);
 }
 

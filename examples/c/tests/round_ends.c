@@ -2,6 +2,7 @@
  * here by hand: a table of 4 pages, and two channels with an empty round first, a round of pages,
  * and in two of them an empty round last. It is loaded as it comes and by whole rounds, cut into
  * pieces, by each setting. The round of pages has a zero record on the main stream. */
+#include "standing.h"
 #include "zimgasol.h"
 #include <stdio.h>
 #include <stdlib.h>
@@ -137,18 +138,18 @@ static uint32_t load(zimgasol_table *table, way by, int is_own, uint64_t *rounds
         for (size_t s = 0; s < 3; s++) {
             size_t left = length[s] - fed[s], len = left < by.cut ? left : by.cut, taken = 0;
             if (len == 0) continue;
-            if (zimgasol_load_feed(&load, into, 1, s, stream[s] + fed[s], len, &taken) !=
+            if (told_feed(&load, into, 1, s, stream[s] + fed[s], len, &taken) !=
                 ZIMGASOL_DONE)
                 return 1001;
             fed[s] += taken;
             moves |= taken > 0;
-            if (by.whole_rounds && is_own && !has_rounds(zimgasol_load_rounds(&load))) return 1003;
+            if (by.whole_rounds && is_own && !has_rounds(told_rounds(&load))) return 1003;
         }
     }
     for (size_t s = 0; s < 3; s++)
         if (fed[s] == length[s] && zimgasol_load_end(&load, s) != ZIMGASOL_DONE) return 1002;
     uint32_t verdict = zimgasol_load_verdict(&load, &fault);
-    *rounds = zimgasol_load_rounds(&load);
+    *rounds = told_rounds(&load);
     zimgasol_load_free(&load);
     return verdict;
 }

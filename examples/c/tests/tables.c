@@ -3,6 +3,7 @@
  * load into blocks of it reads the stream. */
 #include "refusing.h"
 #include "sends.h"
+#include "standing.h"
 #include "zimgasol.h"
 #include <string.h>
 
@@ -59,8 +60,10 @@ static int has_blocks(zimgasol_table *table) {
 static int in_frame(zimgasol_frame frame, size_t table_at) {
     zimgasol_table table = {0};
     for (size_t n = 0; n <= stream_len; n += n < 2 * table_at ? 1 : 1000) {
-        zimgasol_status status = zimgasol_table_of_stream(&table, PAGE, frame, stream, n);
+        uint64_t at = UINT64_MAX;
+        zimgasol_status status = zimgasol_table_of_stream(&table, PAGE, frame, stream, n, &at);
         WANT(status == (n < table_at ? ZIMGASOL_RUNNING : ZIMGASOL_DONE));
+        WANT(at <= n && (n >= table_at || at < table_at));
         if (status == ZIMGASOL_DONE && has_blocks(&table)) return 1;
         zimgasol_table_free(&table);
     }
@@ -76,10 +79,11 @@ static int is_loaded(void) {
     zimgasol_load load = {0};
     zimgasol_fault found;
     size_t taken;
-    WANT(zimgasol_table_of_stream(&table, PAGE, ZIMGASOL_FRAME_RAM, stream, stream_len) ==
+    uint64_t at;
+    WANT(zimgasol_table_of_stream(&table, PAGE, ZIMGASOL_FRAME_RAM, stream, stream_len, &at) ==
          ZIMGASOL_DONE);
     WANT(zimgasol_load_new(&load, &table, guest, 0, 0, &settings) == ZIMGASOL_DONE);
-    WANT(zimgasol_load_feed(&load, into, 2, ZIMGASOL_MAIN, stream, stream_len, &taken) ==
+    WANT(told_feed(&load, into, 2, ZIMGASOL_MAIN, stream, stream_len, &taken) ==
          ZIMGASOL_DONE);
     WANT(zimgasol_load_verdict(&load, &found) == ZIMGASOL_DONE && taken == stream_len);
     WANT(memcmp(ram, guest, sizeof ram) == 0);
@@ -89,23 +93,32 @@ static int is_loaded(void) {
     return 0;
 }
 
-/* Wrong arguments, and a fault before the table. None behind it counts. */
+static zimgasol_status first_bytes(zimgasol_table *table, const uint8_t *bytes, size_t len,
+    uint64_t *at) {
+    return zimgasol_table_of_stream(table, PAGE, ZIMGASOL_FRAME_RAM, bytes, len, at);
+}
+
+/* Wrong arguments, and a fault before the table, at the byte where its item begins. None behind it
+ * counts. */
 static int faults(void) {
     zimgasol_table table = {0};
     zimgasol_frame none = (zimgasol_frame)7;
     uint8_t bytes[2 * TABLE_AT];
+    uint64_t at = 7;
     memcpy(bytes, stream, sizeof bytes);
-    WANT(zimgasol_table_of_stream(&table, 4095, none, bytes, 0) == ZIMGASOL_BAD_PAGE_SIZE);
-    WANT(zimgasol_table_of_stream(&table, PAGE, none, bytes, 0) == ZIMGASOL_BAD_FRAME);
+    WANT(zimgasol_table_of_stream(&table, 4095, none, bytes, 0, &at) == ZIMGASOL_BAD_PAGE_SIZE);
+    WANT(zimgasol_table_of_stream(&table, PAGE, none, bytes, 0, &at) == ZIMGASOL_BAD_FRAME);
+    WANT(at == 7);
     bytes[0] = 'q';
-    WANT(zimgasol_table_of_stream(&table, PAGE, ZIMGASOL_FRAME_RAM, bytes, 3) == ZIMGASOL_RUNNING);
-    WANT(zimgasol_table_of_stream(&table, PAGE, ZIMGASOL_FRAME_RAM, bytes, TABLE_AT) == 11);
+    WANT(first_bytes(&table, bytes, 3, &at) == ZIMGASOL_RUNNING && at == 0);
+    WANT(first_bytes(&table, bytes, TABLE_AT, &at) == 11 && at == 0);
     bytes[0] = 'Q', bytes[7] = 4;
-    WANT(zimgasol_table_of_stream(&table, PAGE, ZIMGASOL_FRAME_RAM, bytes, TABLE_AT) == 12);
+    WANT(first_bytes(&table, bytes, TABLE_AT, &at) == 12 && at == 0); /* the header is one item */
+    bytes[7] = 3, bytes[8] = 9; /* the section type of START */
+    WANT(first_bytes(&table, bytes, TABLE_AT, &at) == 13 && at == 8);
     WANT(table.full == 0);
-    bytes[7] = 3, bytes[TABLE_AT] = 0xFF;
-    WANT(zimgasol_table_of_stream(&table, PAGE, ZIMGASOL_FRAME_RAM, bytes, sizeof bytes) ==
-         ZIMGASOL_DONE);
+    bytes[8] = 1, bytes[TABLE_AT] = 0xFF;
+    WANT(first_bytes(&table, bytes, sizeof bytes, &at) == ZIMGASOL_DONE);
     zimgasol_table_free(&table);
     return 0;
 }
@@ -114,11 +127,13 @@ static int faults(void) {
 static int refusals_of(void) {
     zimgasol_table table = {0};
     zimgasol_status status = ZIMGASOL_NO_MEMORY;
+    uint64_t at = 7;
     long before = held;
     for (long nth = 1; status != ZIMGASOL_DONE; nth++) {
         counted = 0, refused = nth;
-        status = zimgasol_table_of_stream(&table, PAGE, ZIMGASOL_FRAME_RAM, stream, stream_len);
+        status = first_bytes(&table, stream, stream_len, &at);
         refused = 0;
+        WANT(status == ZIMGASOL_DONE || at == 7);
         WANT(status == (counted < nth ? ZIMGASOL_DONE : ZIMGASOL_NO_MEMORY));
         WANT(status == ZIMGASOL_DONE || (held == before && table.full == 0));
     }

@@ -3,6 +3,7 @@
  * memory that they have after each round. They are fed in pieces of many lengths, by turns; with a
  * fault in each round; and with each allocation refused in turn. A load without the setting is fed
  * the same pieces, and reports the same. */
+#include "standing.h"
 #include "zimgasol.h"
 #include "refusing.h"
 #include <string.h>
@@ -255,17 +256,17 @@ static void check_twin(run *r) {
     uint64_t at = 7, other_at = 7;
     WANT(zimgasol_load_verdict(load, &fault) == zimgasol_load_verdict(twin, &other) &&
         same(&fault, &other));
-    WANT(zimgasol_load_rounds(load) == zimgasol_load_rounds(twin) &&
-        zimgasol_load_missing(load) == zimgasol_load_missing(twin) &&
-        zimgasol_load_has_all_rounds(load) == zimgasol_load_has_all_rounds(twin));
-    WANT(zimgasol_load_closed_at(load, &at) == zimgasol_load_closed_at(twin, &other_at) &&
+    WANT(told_rounds(load) == told_rounds(twin) &&
+        told_missing(load) == told_missing(twin) &&
+        told_has_all_rounds(load) == told_has_all_rounds(twin));
+    WANT(told_closed_at(load, &at) == told_closed_at(twin, &other_at) &&
         at == other_at);
     for (size_t source = 0; source <= SOURCES; source++) {
         at = other_at = 7;
         WANT(zimgasol_load_takes(load, source) == zimgasol_load_takes(twin, source) &&
-            zimgasol_load_fed(load, source) == zimgasol_load_fed(twin, source));
-        WANT(zimgasol_load_valid_up_to(load, source, &at) ==
-                zimgasol_load_valid_up_to(twin, source, &other_at) &&
+            told_fed(load, source) == told_fed(twin, source));
+        WANT(told_valid_up_to(load, source, &at) ==
+                told_valid_up_to(twin, source, &other_at) &&
             at == other_at);
         WANT(zimgasol_load_fault_of(load, source, &fault) ==
                 zimgasol_load_fault_of(twin, source, &other) &&
@@ -277,9 +278,9 @@ static void check_twin(run *r) {
 static void check(run *r) {
     uint64_t rounds = rounds_of(r->taken);
     if (rounds > r->lawful) rounds = r->lawful;
-    WANT(zimgasol_load_rounds(&r->load) == rounds);
+    WANT(told_rounds(&r->load) == rounds);
     WANT(memcmp(memory, expected[rounds], sizeof memory) == 0);
-    WANT(zimgasol_load_missing(&r->load) == missing_of(rounds));
+    WANT(told_missing(&r->load) == missing_of(rounds));
     WANT(blocks[0].bytes == memory && blocks[0].len == FIRST * PAGE &&
         blocks[1].bytes == memory + FIRST * PAGE && blocks[1].len == (PAGES - FIRST) * PAGE);
     if (r->twin.full != 0) check_twin(r);
@@ -296,7 +297,7 @@ static void check_claims(run *r, size_t channel, const uint8_t *head, size_t len
     WANT(zimgasol_load_take(&r->load, channel, head, len, contents, 1) == ZIMGASOL_OUT_OF_TURN);
     WANT(zimgasol_load_claim(&r->load, CHANNELS, head, len, &pages) == ZIMGASOL_BAD_SOURCE &&
         zimgasol_load_take(&r->load, CHANNELS, head, len, contents, 1) == ZIMGASOL_BAD_SOURCE);
-    WANT(memcmp(&pages, &untouched, sizeof pages) == 0 && zimgasol_load_claimed(&r->load) == 0);
+    WANT(memcmp(&pages, &untouched, sizeof pages) == 0 && told_claimed(&r->load) == 0);
 }
 
 /* The calls for pages of one stream. */
@@ -310,21 +311,21 @@ static void check_wanted(run *r) {
 /* A load that has ended takes nothing more, and leaves the blocks as they are. */
 static void check_over(run *r) {
     static uint8_t before[sizeof memory];
-    uint64_t rounds = zimgasol_load_rounds(&r->load);
+    uint64_t rounds = told_rounds(&r->load);
     memcpy(before, memory, sizeof memory);
     for (size_t source = 0; source < SOURCES; source++) {
         size_t taken = 7, len = sent.len[source];
         WANT(!zimgasol_load_takes(&r->load, source));
         if (!r->ended[source])
-            WANT(zimgasol_load_feed(&r->load, blocks, 2, source, sent.bytes[source], len, &taken) ==
+            WANT(told_feed(&r->load, blocks, 2, source, sent.bytes[source], len, &taken) ==
                     ZIMGASOL_DONE &&
                 taken == 0);
         WANT(zimgasol_load_end(&r->load, source) == ZIMGASOL_DONE);
-        WANT(zimgasol_load_feed(&r->load, blocks, 2, source, sent.bytes[source], len, &taken) ==
+        WANT(told_feed(&r->load, blocks, 2, source, sent.bytes[source], len, &taken) ==
                 ZIMGASOL_IS_OVER &&
             taken == 0);
     }
-    WANT(memcmp(memory, before, sizeof memory) == 0 && zimgasol_load_rounds(&r->load) == rounds);
+    WANT(memcmp(memory, before, sizeof memory) == 0 && told_rounds(&r->load) == rounds);
 }
 
 /* An allocation was refused. If the load goes on nothing has changed. If it has failed the blocks
@@ -332,7 +333,7 @@ static void check_over(run *r) {
 static void check_refused(run *r, size_t source, size_t len) {
     size_t reached[SOURCES];
     zimgasol_fault fault;
-    uint64_t rounds = zimgasol_load_rounds(&r->load), fed = zimgasol_load_fed(&r->load, source);
+    uint64_t rounds = told_rounds(&r->load), fed = told_fed(&r->load, source);
     WANT(refusals == 1);
     if (is_running(r)) {
         WANT(fed == r->taken[source]);
@@ -356,7 +357,7 @@ static bool feed(run *r, size_t source, size_t len) {
     const uint8_t *piece = r->from->bytes[source] + r->taken[source];
     size_t left = r->from->len[source] - r->taken[source], taken = 7, twin_taken = 7;
     if (source != ZIMGASOL_MAIN) check_claims(r, source - 1, piece, left < HEAD ? left : HEAD);
-    zimgasol_status status = zimgasol_load_feed(&r->load, blocks, 2, source, piece, len, &taken);
+    zimgasol_status status = told_feed(&r->load, blocks, 2, source, piece, len, &taken);
     if (status == ZIMGASOL_NO_MEMORY) {
         WANT(taken == 0);
         check_refused(r, source, len);
@@ -364,11 +365,11 @@ static bool feed(run *r, size_t source, size_t len) {
     }
     WANT(status == ZIMGASOL_DONE && taken <= len);
     if (r->twin.full != 0)
-        WANT(zimgasol_load_feed(&r->twin, twin_blocks, 2, source, piece, len, &twin_taken) ==
+        WANT(told_feed(&r->twin, twin_blocks, 2, source, piece, len, &twin_taken) ==
                 ZIMGASOL_DONE &&
             twin_taken == taken);
     r->taken[source] += taken;
-    WANT(zimgasol_load_fed(&r->load, source) == r->taken[source]);
+    WANT(told_fed(&r->load, source) == r->taken[source]);
     check(r);
     return taken > 0;
 }
@@ -402,14 +403,14 @@ static void feed_by_turns(run *r, size_t most, bool ends) {
 /* All bytes were taken: the load has all rounds, and is done once its sources are ended. */
 static void finish(run *r) {
     zimgasol_fault fault;
-    WANT(is_running(r) && zimgasol_load_has_all_rounds(&r->load));
+    WANT(is_running(r) && told_has_all_rounds(&r->load));
     WANT(memcmp(memory, expected[ROUNDS], sizeof memory) == 0);
     for (size_t source = 0; source < SOURCES; source++) {
         WANT(r->taken[source] == r->from->len[source]);
         end(r, source);
     }
     WANT(zimgasol_load_verdict(&r->load, &fault) == ZIMGASOL_DONE && fault.number == 0);
-    WANT(zimgasol_load_rounds(&r->load) == ROUNDS && zimgasol_load_missing(&r->load) == 1);
+    WANT(told_rounds(&r->load) == ROUNDS && told_missing(&r->load) == 1);
     check_over(r);
     check(r);
     zimgasol_load_free(&r->load);
@@ -436,7 +437,7 @@ static void feed_unclaimed(zimgasol_table *table) {
     feed(&r, ZIMGASOL_MAIN, sent.opening);
     for (size_t j = 0; j < CHANNELS; j++) feed(&r, ZIMGASOL_CHANNEL(j), HELLO);
     WANT(zimgasol_load_claim(&r.twin, 0, head, HEAD, &pages) == ZIMGASOL_RUNNING &&
-        zimgasol_load_claimed(&r.twin) == 2);
+        told_claimed(&r.twin) == 2);
     check_claims(&r, 0, head, HEAD);
     zimgasol_load_free(&r.twin);
     feed_by_turns(&r, MOST, false);
@@ -456,8 +457,8 @@ static void make(zimgasol_table *table) {
     WANT(zimgasol_load_new(&load, table, uuid, sizeof uuid, 1, &wrong) == ZIMGASOL_BAD_FRAME);
     WANT(load.full == 0 && load.at == NULL);
     WANT(zimgasol_load_new(&load, table, uuid, sizeof uuid, 255, &settings) == ZIMGASOL_DONE);
-    WANT(zimgasol_load_rounds(&load) == 0 && zimgasol_load_missing(&load) == PAGES &&
-        zimgasol_load_claimed(&load) == 0);
+    WANT(told_rounds(&load) == 0 && told_missing(&load) == PAGES &&
+        told_claimed(&load) == 0);
     zimgasol_load_free(&load);
 }
 
@@ -473,13 +474,13 @@ static void load_other(void) {
     zimgasol_table_free(&table);
     for (size_t source = 0; source < SOURCES; source++) {
         size_t taken;
-        WANT(zimgasol_load_feed(&r.load, blocks, 2, source, sent.bytes[source], sent.len[source],
+        WANT(told_feed(&r.load, blocks, 2, source, sent.bytes[source], sent.len[source],
                  &taken) == ZIMGASOL_DONE &&
             zimgasol_load_end(&r.load, source) == ZIMGASOL_DONE);
         WANT(memcmp(memory, expected[0], sizeof memory) == 0);
     }
     WANT(zimgasol_load_verdict(&r.load, &fault) == ZIMGASOL_OTHER_TABLE && fault.round == 0 &&
-        zimgasol_load_rounds(&r.load) == 0);
+        told_rounds(&r.load) == 0);
     zimgasol_load_free(&r.load);
 }
 
@@ -549,7 +550,7 @@ static int load_fault(zimgasol_table *table, fault_in *make_fault, size_t round,
     feed_by_turns(&r, most, true);
     WANT(zimgasol_load_verdict(&r.load, &fault) == wanted && fault.number == wanted &&
         fault.round == round);
-    WANT(zimgasol_load_rounds(&r.load) == round && !zimgasol_load_has_all_rounds(&r.load));
+    WANT(told_rounds(&r.load) == round && !told_has_all_rounds(&r.load));
     WANT(memcmp(memory, expected[round], sizeof memory) == 0);
     check_over(&r);
     WANT(memcmp(memory, expected[round], sizeof memory) == 0);
@@ -578,7 +579,7 @@ static void give_up(zimgasol_table *table) {
         cut.len[ZIMGASOL_CHANNEL(1)] = cut.round_end[ZIMGASOL_CHANNEL(1)][round] - 1;
         run r = begin(table, &cut, ROUNDS, true, false);
         feed_by_turns(&r, 3000, false);
-        WANT(is_running(&r) && zimgasol_load_rounds(&r.load) == round);
+        WANT(is_running(&r) && told_rounds(&r.load) == round);
         zimgasol_load_free(&r.load);
         WANT(memcmp(memory, expected[round], sizeof memory) == 0);
     }

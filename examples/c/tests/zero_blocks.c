@@ -6,6 +6,7 @@
  * how many pages no round had. */
 #define _DEFAULT_SOURCE
 #include "sends.h"
+#include "standing.h"
 #include "zimgasol.h"
 #include <stdio.h>
 #include <string.h>
@@ -128,13 +129,13 @@ static int load_pieces(zimgasol_table *table, size_t channels, const zimgasol_se
     zimgasol_fault fault;
     size_t fed[2] = {0}, taken;
     WANT(zimgasol_load_new(&load, table, uuid, 16, channels, with) == ZIMGASOL_DONE);
-    WANT(zimgasol_load_missing(&load) == PAGES);
+    WANT(told_missing(&load) == PAGES);
     for (bool moved = true; moved;) {
         moved = false;
         for (size_t s = 0; s <= channels; s++) {
             size_t len = length[s] - fed[s] < PIECE ? length[s] - fed[s] : PIECE;
             if (len == 0 || !zimgasol_load_takes(&load, s)) continue;
-            WANT(zimgasol_load_feed(&load, into, 1, s, stream[s] + fed[s], len, &taken) ==
+            WANT(told_feed(&load, into, 1, s, stream[s] + fed[s], len, &taken) ==
                 ZIMGASOL_DONE);
             fed[s] += taken;
             moved = moved || taken > 0;
@@ -143,7 +144,7 @@ static int load_pieces(zimgasol_table *table, size_t channels, const zimgasol_se
     for (size_t s = 0; s <= channels; s++)
         WANT(fed[s] == length[s] && zimgasol_load_end(&load, s) == ZIMGASOL_DONE);
     WANT(zimgasol_load_verdict(&load, &fault) == ZIMGASOL_DONE);
-    WANT(zimgasol_load_missing(&load) == PAGES - SENT);
+    WANT(told_missing(&load) == PAGES - SENT);
     zimgasol_load_free(&load);
     return 0;
 }
@@ -160,14 +161,14 @@ static int load_wanted(zimgasol_table *table) {
             memcpy(into[0].bytes + next.offset, stream[0] + at, next.len);
             WANT(zimgasol_load_page_read(&load, into, 1) == ZIMGASOL_DONE);
         } else {
-            WANT(zimgasol_load_feed(&load, into, 1, ZIMGASOL_MAIN, stream[0] + at, next.len,
+            WANT(told_feed(&load, into, 1, ZIMGASOL_MAIN, stream[0] + at, next.len,
                      &taken) == ZIMGASOL_DONE);
         }
         at += next.len;
     }
     WANT(zimgasol_load_end(&load, ZIMGASOL_MAIN) == ZIMGASOL_DONE);
     WANT(at == length[0] && zimgasol_load_verdict(&load, &fault) == ZIMGASOL_DONE);
-    WANT(zimgasol_load_missing(&load) == PAGES - SENT);
+    WANT(told_missing(&load) == PAGES - SENT);
     zimgasol_load_free(&load);
     return 0;
 }
@@ -198,7 +199,7 @@ static int step_channel(zimgasol_load *load, size_t *at, size_t *cleared) {
         *cleared += pages.zero;
         if (take(load, next, &pages, &read)) return 1;
     } else {
-        WANT(zimgasol_load_feed(load, into, 1, ZIMGASOL_CHANNEL(0), next, len, &read) ==
+        WANT(told_feed(load, into, 1, ZIMGASOL_CHANNEL(0), next, len, &read) ==
             ZIMGASOL_DONE);
     }
     *at += read;
@@ -214,7 +215,7 @@ static int load_claimed(zimgasol_table *table) {
     while (fed < length[0] || at < length[1]) {
         if (fed < length[0] && zimgasol_load_takes(&load, ZIMGASOL_MAIN)) {
             size_t len = length[0] - fed < 50 ? length[0] - fed : 50;
-            WANT(zimgasol_load_feed(&load, into, 1, ZIMGASOL_MAIN, stream[0] + fed, len, &taken) ==
+            WANT(told_feed(&load, into, 1, ZIMGASOL_MAIN, stream[0] + fed, len, &taken) ==
                     ZIMGASOL_DONE &&
                 taken == len);
             fed += len;
@@ -225,7 +226,7 @@ static int load_claimed(zimgasol_table *table) {
     }
     for (size_t s = 0; s < 2; s++) WANT(zimgasol_load_end(&load, s) == ZIMGASOL_DONE);
     WANT(zimgasol_load_verdict(&load, &fault) == ZIMGASOL_DONE);
-    WANT(cleared == 1 && zimgasol_load_missing(&load) == PAGES - SENT);
+    WANT(cleared == 1 && told_missing(&load) == PAGES - SENT);
     zimgasol_load_free(&load);
     return 0;
 }

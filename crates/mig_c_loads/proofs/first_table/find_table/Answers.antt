@@ -34,6 +34,7 @@ returns-in-Some c =
       is_part = c.pieces.invariant.0;
       has_table = subst (HasTable given (take n c.args.bytes.now)) (search rules) (c.table.ensures given (front c.args.bytes.now n) c.pieces.invariant.1);
       has_state = c.state-state.ensures given (front c.args.bytes.now n) c.pieces.invariant.1;
+      has_valid = c.valid_up_to-valid.ensures given (front c.args.bytes.now n) c.pieces.invariant.1;
       goes_on = λ none state. search rules;
     }
 
@@ -46,5 +47,6 @@ returns-then-read-bytes c =
       is_part = c.pieces.invariant.0;
       has_table = subst (HasTable given (take n c.args.bytes.now)) (search rules) (c.table.ensures given (front c.args.bytes.now n) c.pieces.invariant.1);
       has_state = c.state-state.ensures given (front c.args.bytes.now n) c.pieces.invariant.1;
+      has_valid = c.valid_up_to-valid.ensures given (front c.args.bytes.now n) c.pieces.invariant.1;
       goes_on = λ none state. search rules;
     }
