@@ -1,1 +1,5 @@
+mod Completing
+mod Counting
 mod Images
+mod Surveying
+mod Wholes

@@ -1,15 +1,16 @@
 -- When a saved guest is complete.
-use Rattle.std.specs.Prelude.{◌≡◌, ◌⊎◌, length, Bool, IsTrue, IfSome}
-use Rattle.mig_mem.specs.RamTable.{total_pages}
+use Rattle.std.specs.Prelude.{◌≡◌, ◌⊎◌, Bool, IsTrue, IfSome}
+use Rattle.mig_mem.specs.declared.place.Place.{Place}
+use Rattle.mig_mem.specs.Place.{IsPlace, has_place}
 use Rattle.mig_stream.specs.declared.item.StreamState.TheVariants as state
 use Rattle.mig_answer.specs.declared.verdict.Verdict.TheVariants as verdict
 use Rattle.zimgasol_reading.specs.declared.blocks.Blocks.{Blocks}
 use Rattle.zimgasol_reading.specs.declared.survey.Survey.{Survey}
 use Rattle.zimgasol_reading.specs.declared.several.Several.{Several}
 
--- Each page of the table has a record or is a packet's: the set has as many pages as the table.
+-- Each page of the table has a record or is a packet's.
 abbrev pub IsWhole : Blocks → Type 0
-IsWhole blocks = length blocks.recorded.marked ≡ total_pages blocks.recorded.table.blocks
+IsWhole blocks = (p : Place) → IsPlace blocks.recorded.table p → IsTrue (has_place blocks.recorded.marked p)
 
 -- Pages may lack if the stream is applied to existing memory, or if only a part is meant.
 abbrev pub HasItsPages : Bool → Bool → Type 0 → Type 0

@@ -1,1 +1,3 @@
 pub mod Coverage
+pub mod Recorded
+pub mod Surveyed

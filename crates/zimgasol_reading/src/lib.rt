@@ -7,7 +7,7 @@
 //!
 //! | Modules | What they do |
 //! |---|---|
-//! | `survey`, `libvirt`, `heads`, `place` | read a single stream, and locate its fault |
+//! | `survey`, `noting`, `libvirt`, `heads`, `place` | read a single stream, and locate its fault |
 //! | `several`, `main_stream`, `channel`, `lane`, `several_place` | the same of channels |
 //! | `load`, `passing`, `shadow` | load the channels, and pass the pages on |
 //! | `notes` | notes what is between RAM's sections |
@@ -25,6 +25,7 @@ mod libvirt;
 mod load;
 mod main_stream;
 mod notes;
+mod noting;
 mod passing;
 mod place;
 mod several;

@@ -1,10 +1,12 @@
 //! Locates the fault of a single stream: byte, section and block.
 
-ghost use Rattle.std.specs.Prelude.{◌≡◌, ◌↔◌, IsNone, IsTrue, IfSome};
+ghost use Rattle.std.specs.Prelude.{◌≡◌, ◌↔◌, ◌<◌, ◌^◌, ℕ, List, All, IsNone, IsTrue, IfSome};
 ghost use Rattle.mig_stream.specs.declared.fault.StreamFault.{StreamFault};
 ghost use Rattle.mig_stream.specs.declared.fault.StreamFault.TheVariants as fault;
 ghost use Rattle.mig_stream.specs.declared.item.StreamState.TheVariants as state;
+ghost use Rattle.mig_stream.specs.Reading.{Settings};
 ghost use Rattle.zimgasol_reading.specs.Coverage.{IsComplete};
+ghost use Rattle.zimgasol_reading.specs.Surveyed.{IsSurveyed, IsCompleteStream};
 
 use crate::notes::SectionKind;
 use crate::survey::Survey;
@@ -47,7 +49,9 @@ pub fn fault_of(survey: &Survey) -> Option<FaultPlace>
 /// Returns whether a stream that was read to its end is complete: it is closed, and each of its
 /// pages has a record or needn't have one.
 pub fn is_complete(survey: &Survey) -> bool
-    ensures { IsTrue result ↔ IsComplete survey.now }
+    ensures pages { IsTrue result ↔ IsComplete survey.now }
+    ensures stream { (given : Settings) (text : List ℕ) (s : IsSurveyed given text survey.now.state survey.now.sections survey.now.valid survey.now.blocks)
+        → All (λ byte. byte < 2 ^ 8) text → IsTrue result ↔ IsCompleteStream s.reading survey.now.is_laid_over survey.now.is_partial }
 {
     match fault_of(survey) {
         Some(_) => false,

@@ -1,22 +1,30 @@
 //! Reads a single stream in pieces. Passes each page on as it is read, counts the stream's items,
 //! and finds its fault.
 
-ghost use Rattle.std.specs.Prelude.{◌≡◌, ◌↔◌, ◌≤◌, ◌^◌, length, IfOk, IfSome, IsTrue};
-ghost use Rattle.mig_stream.specs.Giving.{HasNoneLeft};
+ghost use Rattle.std.specs.Prelude.{◌≡◌, ◌↔◌, ◌<◌, ◌≤◌, ◌++◌, ◌^◌, ℕ, List, [], length, take, drop, Some, IfOk, OnOk, IfSome, IsTrue};
+ghost use Rattle.std.specs.Io.KnownBytes.{IsAtEnd};
+ghost use Rattle.mig_mem.specs.PageSize.{IsPageSize};
+ghost use Rattle.mig_stream.specs.declared.item.Mode.TheVariants.{Single};
+ghost use Rattle.mig_stream.specs.Reading.{Settings, settings, in_frame};
+ghost use Rattle.zimgasol_course.specs.Course.{Stands};
 ghost use Rattle.zimgasol_reading.specs.Coverage.{IsWhole, HasItsPages};
+ghost use Rattle.zimgasol_reading.specs.Recorded.{AreCounted};
+ghost use Rattle.zimgasol_reading.specs.Surveyed.{IsSurveyed, before_of};
 
 use crate::blocks::{Blocks, Coverage};
 use crate::heads::Head;
 use crate::libvirt::{LibvirtHeader, header_of};
 use crate::notes::Notes;
+use crate::noting::Noting;
 use crate::sink::GuestSink;
 use crate::tail::{Ending, Tail};
 use mig_mem::Place;
-use mig_stream::{Frame, Pause, RecordEvent, RecordReader, Report, StreamState};
+use mig_stream::{Frame, StreamState};
 use std::alloc::{AllocGlobal, Global};
 use std::fs::{File, Files, Metadata, OpenFile};
 use std::io::{Read, Write};
 use std::rt::Clock;
+use zimgasol_course::Course;
 use zimgasol_files::{StreamWords, Trouble, Watch, piece_buffer, read_piece};
 
 /// The survey of a stream.
@@ -37,6 +45,8 @@ pub struct Survey {
     pub head: Head,
     /// Whether the stream is closed, has a fault, or has ended too early.
     pub state: StreamState,
+    /// The complete sections.
+    pub sections: u64,
     /// The bytes of the stream that are complete items without a fault.
     pub valid: u64,
     /// The bytes of the input that were read, with libvirt's header and the bytes after the stream.
@@ -51,14 +61,8 @@ pub struct Survey {
     pub is_laid_over: bool,
     /// Whether pages without a record are meant (`--partial`).
     pub is_partial: bool,
-    // whether the sink has the table
-    is_begun: bool,
-    // the reader for the next piece; None after the stream's end or fault
-    pause: Option<Pause>,
-    // what it passed over
-    report: Report,
-    // the number of the stream's bytes that were read
-    fed: u64,
+    /// The most bytes of guest memory that the size list may have.
+    pub limit: u64,
     // the bytes after RAM
     tail: Tail,
     // whether the input's end was reached, and the length of the file that it is
@@ -68,7 +72,10 @@ pub struct Survey {
 
 impl Survey {
     /// Creates the survey of a stream before its first byte was read.
-    pub fn new(alloc: Global, words: &StreamWords<'_>, watch: Watch) -> Survey {
+    pub fn new(alloc: Global, words: &StreamWords<'_>, watch: Watch) -> Survey
+        ensures page_size { IsPageSize result.page_size }
+        ensures limit { result.limit ≤ 2 ^ 40 }
+    {
         let page_size = words.page_size.bytes();
         Survey {
             frame: words.frame,
@@ -79,16 +86,14 @@ impl Survey {
             notes: Notes::new(alloc),
             head: Head::new(alloc),
             state: StreamState::Reading,
+            sections: 0,
             valid: 0,
             len: 0,
             ending: Ending::unchecked(),
             watch,
             is_laid_over: false,
             is_partial: words.partial,
-            is_begun: false,
-            pause: Some(Pause::new(alloc, words.frame, page_size, words.limit(), None)),
-            report: Report::new(alloc),
-            fed: 0,
+            limit: words.limit(),
             tail: Tail::new(alloc, words.checks_tail()),
             is_over: false,
             file_len: None,
@@ -96,7 +101,9 @@ impl Survey {
     }
 
     /// Returns the number of bytes before the stream: those of libvirt's header.
-    pub fn before(&self) -> u64 {
+    pub fn before(&self) -> u64
+        ensures { result ≡ before_of self.now.libvirt }
+    {
         match self.libvirt {
             Some(header) => header.len,
             None => 0,
@@ -125,7 +132,10 @@ impl Survey {
     }
 
     /// Takes the length of the file that the stream is read from.
-    pub fn expect_file(&mut self, metadata: &Metadata) {
+    pub fn expect_file(&mut self, metadata: &Metadata)
+        ensures page_size { self.new.page_size ≡ self.old.page_size }
+        ensures limit { self.new.limit ≡ self.old.limit }
+    {
         if metadata.is_file() {
             self.file_len = Some(metadata.len());
             self.watch.expect_total(metadata.len());
@@ -141,7 +151,8 @@ impl Survey {
         self.file_len
     }
 
-    /// Reads `input` to its end, or to a fault, and passes the pages of its stream to `sink`.
+    /// Reads `input` to its end, or to a fault, and passes the pages of its stream to `sink`. What
+    /// it finds is what the one reading of the bytes after libvirt's header has.
     ///
     /// # Errors
     ///
@@ -154,178 +165,74 @@ impl Survey {
         buffer: &mut [u8],
         sink: &mut S,
         errors: &mut E,
-    ) -> Result<(), Trouble> {
-        let mut len = read_piece(input, buffer)?;
+    ) -> Result<(), Trouble>
+        requires room { 0 < length buffer.old }
+        requires page_size { IsPageSize self.old.page_size }
+        requires limit { self.old.limit ≤ 2 ^ 40 }
+        ensures { OnOk result ((text : List ℕ) → R.remaining input.old ≡ Some text → length text < 2 ^ 63
+            → IsSurveyed (in_frame self.old.frame (settings Single self.old.page_size self.old.limit)) (drop (before_of self.new.libvirt) text) self.new.state self.new.sections self.new.valid self.new.blocks) }
+    {
+        let len = read_piece(input, buffer)?;
         self.libvirt = header_of(&buffer[..len])?;
-        let mut skip = self.before();
-        'pieces: for _ in 0..u64::MAX {
-            if len == 0 {
-                self.is_over = true;
-                break;
-            }
-            self.len = self.len.saturating_add(len as u64);
-            let skipped = skip.min(len as u64);
-            skip -= skipped;
-            self.feed(rt, &buffer[skipped as usize..len], sink)?;
-            self.watch.show(rt, errors, self.len);
-            if let StreamState::Bad(_) = self.state {
-                break;
-            }
-            len = read_piece(input, buffer)?;
-        }
-        self.end_tail()
-    }
-
-    // Notes what is known of the bytes after RAM, if the stream has them.
-    fn end_tail(&mut self) -> Result<(), Trouble> {
-        if let StreamState::Closed = self.state {
-            self.ending = self.tail.ending()?;
-        }
-        Ok(())
-    }
-
-    // Reads the next piece of the stream.
-    fn feed<H: AllocGlobal + Files, S: GuestSink<H>>(
-        &mut self,
-        rt: &H,
-        piece: &[u8],
-        sink: &mut S,
-    ) -> Result<(), Trouble> {
-        let Some(pause) = self.pause.take() else {
-            self.tail.look(piece)?;
-            return Ok(());
+        let before = self.before();
+        let course = Course::new(rt.alloc(), self.frame, self.page_size, self.limit);
+        let noting = Noting {
+            rt,
+            sink,
+            errors,
+            last: &mut self.last,
+            notes: &mut self.notes,
+            head: &mut self.head,
+            tail: &mut self.tail,
+            watch: &mut self.watch,
+            len: &mut self.len,
+            blocks: None,
+            fed: 0,
         };
-        let start = self.fed;
-        self.fed = start.saturating_add(piece.len() as u64);
-        self.read_by(rt, pause.resume(piece), piece, start, sink)?;
-        self.begin_tail(piece, start)
-    }
-
-    // Takes the bytes of `piece` after the stream's end, if it has that. `piece` begins at the
-    // stream's byte `start`.
-    fn begin_tail(&mut self, piece: &[u8], start: u64) -> Result<(), Trouble> {
-        let StreamState::Closed = self.state else {
-            return Ok(());
-        };
-        let from = self.valid.saturating_sub(start);
-        self.tail.look(piece.get(from as usize..).unwrap_or(&[]))?;
-        Ok(())
-    }
-
-    // Reads `piece`, which begins at the stream's byte `start`, by `reader`.
-    fn read_by<H: AllocGlobal + Files, S: GuestSink<H>>(
-        &mut self,
-        rt: &H,
-        mut reader: RecordReader<'_>,
-        piece: &[u8],
-        start: u64,
-        sink: &mut S,
-    ) -> Result<(), Trouble> {
-        let found = self.take_piece(rt, &mut reader, piece, start, sink)?;
-        if let StreamState::Reading = found {
-            self.keep(reader.pause()?);
-        }
-        Ok(())
-    }
-
-    // Keeps the reader for the next piece.
-    fn keep(&mut self, pause: Pause) {
-        self.pause = Some(pause);
-    }
-
-    // Takes all records that `reader` returns from `piece`, which begins at the stream's byte
-    // `start`, and where the stream stands after it.
-    fn take_piece<H: AllocGlobal + Files, S: GuestSink<H>>(
-        &mut self,
-        rt: &H,
-        reader: &mut RecordReader<'_>,
-        piece: &[u8],
-        start: u64,
-        sink: &mut S,
-    ) -> Result<StreamState, Trouble>
-        ensures { IfOk result (λ found. HasNoneLeft found reader.new) }
-    {
-        let found = self.take_records(rt, reader, sink)?;
-        self.valid = reader.valid_up_to();
-        self.head.look(piece, start, self.valid)?;
-        self.state = found;
-        Ok(found)
-    }
-
-    // Takes all records that `reader` returns from its piece.
-    fn take_records<H: AllocGlobal + Files, S: GuestSink<H>>(
-        &mut self,
-        rt: &H,
-        reader: &mut RecordReader<'_>,
-        sink: &mut S,
-    ) -> Result<StreamState, Trouble>
-        ensures { IfOk result (λ found. HasNoneLeft found reader.new) }
-    {
-        'records: loop {
-            let gave = reader.read_on_reporting(&mut self.report)?;
-            self.notes.take(&mut self.report)?;
-            self.list_blocks(rt, reader)?;
-            if let RecordEvent::End(found) = gave {
-                return Ok(found);
-            }
-            self.begin(rt, reader, sink)?;
-            self.take_given(reader, sink)?;
-        }
-    }
-
-    // Lists the blocks, as soon as `reader` has the table: also if no record follows it.
-    fn list_blocks<H: AllocGlobal>(
-        &mut self,
-        rt: &H,
-        reader: &RecordReader<'_>,
-    ) -> Result<(), Trouble> {
-        if self.blocks.is_some() {
-            return Ok(());
-        }
-        if let Some(table) = reader.table() {
-            self.blocks = Some(Blocks::new(rt.alloc(), table.try_copy()?)?);
-        }
-        Ok(())
-    }
-
-    // Passes the table to `sink`, before the first records.
-    fn begin<H: AllocGlobal + Files, S: GuestSink<H>>(
-        &mut self,
-        rt: &H,
-        reader: &RecordReader<'_>,
-        sink: &mut S,
-    ) -> Result<(), Trouble> {
-        if self.is_begun {
-            return Ok(());
-        }
-        if let Some(table) = reader.table() {
-            sink.begin(rt, table)?;
-            self.is_begun = true;
-        }
-        Ok(())
-    }
-
-    // Counts the records that `reader` returned last, and passes them to `sink`.
-    fn take_given<H: Files, S: GuestSink<H>>(
-        &mut self,
-        reader: &RecordReader<'_>,
-        sink: &mut S,
-    ) -> Result<(), Trouble> {
-        let given = reader.given();
-        for i in 0..given.len() {
-            let (place, content) = given.record(i);
-            sink.take_page(place, content)?;
-            self.last = Some(place);
-            if let Some(blocks) = &mut self.blocks {
-                blocks.count(place, content.is_none())?;
-            }
-        }
+        let (course, blocks, is_over) = read_course(course, input, buffer, len, before, noting)?;
+        self.blocks = blocks;
+        self.is_over = is_over;
+        self.state = course.state;
+        self.sections = course.sections;
+        self.valid = course.valid;
+        self.ending = ending_of(&self.tail, self.state)?;
         Ok(())
     }
 }
 
+// Returns what is known of the bytes after RAM, if the stream has them.
+fn ending_of(tail: &Tail, found: StreamState) -> Result<Ending, Trouble> {
+    match found {
+        StreamState::Closed => tail.ending(),
+        _ => Ok(Ending::unchecked()),
+    }
+}
+
+// Reads a stream. Returns how far it was read, its blocks, and whether the input's end was reached.
+fn read_course<H: AllocGlobal + Files + Clock, R: Read, S: GuestSink<H>, E: Write>(
+    mut course: Course,
+    input: &mut R,
+    buffer: &mut [u8],
+    len: usize,
+    before: u64,
+    mut noting: Noting<'_, H, S, E>,
+) -> Result<(Course, Option<Blocks>, bool), Trouble>
+    requires room { 0 < length buffer.old }
+    requires within { len ≤ length buffer.old }
+    requires end { len < length buffer.old → IsAtEnd (R.remaining input.old) }
+    ensures { IfOk result (λ r. (given : Settings) (rest : List ℕ) → R.remaining input.old ≡ Some rest → length (take len buffer.old ++ rest) < 2 ^ 63
+        → Stands (AreCounted noting.entry.blocks) given [] course.pause course.state course.sections course.valid course.has_begun
+        → Stands (AreCounted r.1) given (drop before (take len buffer.old ++ rest)) r.0.pause r.0.state r.0.sections r.0.valid r.0.has_begun) }
+{
+    let is_over = course.read(input, buffer, len, before, &mut noting)?;
+    Ok((course, noting.blocks.take(), is_over))
+}
+
 // Takes the length of `file`.
-fn expect_len<F: OpenFile>(survey: &mut Survey, file: &F) {
+fn expect_len<F: OpenFile>(survey: &mut Survey, file: &F)
+    ensures page_size { survey.new.page_size ≡ survey.old.page_size }
+    ensures limit { survey.new.limit ≡ survey.old.limit }
+{
     if let Ok(metadata) = file.metadata() {
         survey.expect_file(&metadata);
     }
@@ -339,7 +246,11 @@ fn read_named<H: AllocGlobal + Files + Clock, S: GuestSink<H>, E: Write>(
     buffer: &mut [u8],
     sink: &mut S,
     errors: &mut E,
-) -> Result<(), Trouble> {
+) -> Result<(), Trouble>
+    requires room { 0 < length buffer.old }
+    requires page_size { IsPageSize survey.old.page_size }
+    requires limit { survey.old.limit ≤ 2 ^ 40 }
+{
     let mut file = File::open(rt, name).map_err(Trouble::Unread)?;
     expect_len(survey, &file);
     survey.read(rt, &mut file, buffer, sink, errors)
@@ -353,7 +264,10 @@ fn read_whole<H: AllocGlobal + Files + Clock, R: Read, S: GuestSink<H>, E: Write
     input: &mut R,
     sink: &mut S,
     errors: &mut E,
-) -> Result<(), Trouble> {
+) -> Result<(), Trouble>
+    requires page_size { IsPageSize survey.old.page_size }
+    requires limit { survey.old.limit ≤ 2 ^ 40 }
+{
     let mut buffer = piece_buffer(rt.alloc())?;
     if name == "-" {
         return survey.read(rt, input, &mut buffer, sink, errors);

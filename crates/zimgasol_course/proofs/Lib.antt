@@ -1,0 +1,2 @@
+mod Taking
+mod Reading

@@ -1,0 +1,20 @@
+use Rattle.std.proofs.Common.{◌≡◌, ◌++◌, ◌<◌, ◌^◌, ℕ, ◌-◌, List, length, take, drop, min, sym, ap, ◌∙◌, subst}
+use Rattle.std.proofs.lemmas.List.{drop_min, length-take-le, length-drop}
+use Rattle.std.proofs.Math.Seq.{take-length}
+use Rattle.zimgasol_course.proofs.Taking.{stands_kept}
+use Rattle.zimgasol_course.proofs.Reading.{StandsAt}
+use Rattle.zimgasol_course.proofs.course.Course.feed_part.Goals as goal
+
+pub returns-clause-ok : goal.returns-clause-ok
+returns-clause-ok g c = λ given text few s.
+    let p : List ℕ = take c.args.len c.args.buffer.now in
+    let k : ℕ = c.min-skipped.result in
+    let same : take (length p - k) (drop k p) ≡ drop c.args.skip p =
+    ap (λ n. take n (drop k p)) (sym (length-drop k p)) ∙ take-length (drop k p) ∙
+    ap (λ n. drop n p) (c.min-skipped.ensures ∙ ap (λ n. min c.args.skip n) (sym (length-take-le c.args.len c.args.buffer.now c.requires))) ∙ drop_min
+    c.args.skip p in
+    let fed : StandsAt (g.T.Taker.holds c.feed.new.taker) given (text ++ drop c.args.skip p) c.feed.new.self =
+    subst (λ (x : List ℕ). StandsAt (g.T.Taker.holds c.feed.new.taker) given (text ++ x) c.feed.new.self) same
+    (c.in_ok-feed.ensures given text (subst (λ (x : List ℕ). length (text ++ x) < 2 ^ 63) (sym same) few) s) in
+    stands_kept (g.T.Taker.holds c.feed.new.taker) (g.T.Taker.holds c.progress.new.self) given (text ++ drop c.args.skip p) c.feed.new.self.pause
+    c.feed.new.self.state c.feed.new.self.sections c.feed.new.self.valid c.feed.new.self.has_begun c.progress.ensures fed

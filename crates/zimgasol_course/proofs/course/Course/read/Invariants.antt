@@ -1,0 +1,13 @@
+use Rattle.std.proofs.Common.{◌≡◌, ◌≤◌, ◌<◌, length, take}
+use Rattle.std.specs.Io.KnownBytes.{IsAtEnd}
+use Rattle.zimgasol_course.proofs.Reading.{ReadsTo}
+use Rattle.zimgasol_course.proofs.course.Course.read.Given as goal
+
+abbrev pub invariant-pieces : goal.invariant-pieces
+invariant-pieces g l = record {
+  within : l.len ≤ length l.buffer;
+  same : length l.buffer ≡ length l.fn.buffer;
+  end : l.len < length l.buffer → IsAtEnd (g.R.Read.remaining l.input);
+  so_far : ReadsTo (g.T.Taker.holds l.fn.taker) (g.R.Read.remaining l.fn.input) l.before (take l.fn.len l.fn.buffer) l.fn.self (g.T.Taker.holds l.taker)
+      (g.R.Read.remaining l.input) l.skip (take l.len l.buffer) l.self;
+}

@@ -1,0 +1,34 @@
+-- What the survey of a single stream says of its bytes.
+use Rattle.std.specs.Prelude.{◌≡◌, ℕ, ◌<◌, ◌^◌, List, [], ◌++◌, length, Option, Some, None, All, IfSome, IsSomeAnd, Bool}
+use Rattle.mig_stream.specs.declared.item.StreamState.{StreamState}
+use Rattle.mig_stream.specs.declared.item.StreamState.TheVariants.{Closed}
+use Rattle.mig_stream.specs.Reading.{Settings, StreamReading, IsReading}
+use Rattle.mig_stream.specs.Reader.{IsValidUpTo}
+use Rattle.zimgasol_reading.specs.declared.blocks.Blocks.{Blocks}
+use Rattle.zimgasol_reading.specs.declared.libvirt.LibvirtHeader.{LibvirtHeader}
+use Rattle.zimgasol_reading.specs.Coverage.{HasItsPages}
+use Rattle.zimgasol_reading.specs.Recorded.{AreNamed, NameEachPage, records_of}
+
+-- the bytes before the stream
+abbrev pub before_of : Option LibvirtHeader → ℕ
+before_of None = 0
+before_of (Some header) = header.len
+
+-- The state, the complete sections and the valid bytes are those of the one reading of the stream.
+pub record IsSurveyed (given : Settings) (text : List ℕ) (state : StreamState) (sections valid : ℕ) (blocks : Option Blocks) : Type 0 where
+  pub reading : StreamReading
+  pub is_reading : IsReading given text reading
+  pub has_state : state ≡ reading.state
+  pub has_sections : sections ≡ length reading.rounds
+  pub has_valid : IsValidUpTo given text valid
+  -- In the blocks a page is marked exactly if a record names it: one of a complete section, or of
+  -- the open one, which a closed stream doesn't have.
+  pub has_pages : IfSome blocks (λ b. AreNamed b.recorded.table (records_of reading.rounds ++ is_reading.to.records) b)
+  pub has_none_open : state ≡ Closed → is_reading.to.records ≡ []
+  -- The blocks of a closed stream are those of its table.
+  pub has_table : state ≡ Closed → All (λ byte. byte < 2 ^ 8) text → IsSomeAnd blocks (λ b. reading.table ≡ Some b.recorded.table)
+
+-- The stream is closed, and a record of it names each page of its table, unless pages may lack.
+abbrev pub IsCompleteStream : StreamReading → Bool → Bool → Type 0
+IsCompleteStream reading is_laid_over is_partial =
+    (reading.state ≡ Closed) × HasItsPages is_laid_over is_partial (NameEachPage reading.table (records_of reading.rounds))
