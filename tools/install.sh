@@ -8,7 +8,8 @@
 #
 #   of `make lib`      header, archive, shared library where there is one, pkg-config file, CMake
 #                      package, docs/C.md
-#   of `make program`  bin/zimgasol, docs/ZIMGASOL.md
+#   of `make program`  bin/zimgasol, docs/ZIMGASOL.md, and below share the man page zimgasol.1 and
+#                      the completions for bash, zsh and fish, which tools/manual.py writes
 #
 # and the licence. Libraries go to LIBDIR, or else PREFIX/lib, and the header to INCLUDEDIR, or else
 # PREFIX/include. PREFIX/share/doc/zimgasol/installed lists what was put, and the folders that were
@@ -141,12 +142,19 @@ relative() {
 }
 
 mkdir -p "$DESTDIR/"
-trap save EXIT
+made=$(mktemp -d)
+trap 'save; rm -rf "$made"' EXIT
 folder "$doc"
 put_file 644 LICENSE "$doc/LICENSE"
 if test -f $program; then
     put_file 755 $program "$prefix/bin/zimgasol"
     put_file 644 docs/ZIMGASOL.md "$doc/ZIMGASOL.md"
+    tools/manual.py $program "$made"
+    share=$prefix/share
+    put_file 644 "$made/zimgasol.1" "$share/man/man1/zimgasol.1"
+    put_file 644 "$made/zimgasol.bash" "$share/bash-completion/completions/zimgasol"
+    put_file 644 "$made/_zimgasol" "$share/zsh/site-functions/_zimgasol"
+    put_file 644 "$made/zimgasol.fish" "$share/fish/vendor_completions.d/zimgasol.fish"
     echo "installed: $DESTDIR$prefix/bin/zimgasol"
 fi
 test -f $library || exit 0

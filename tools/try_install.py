@@ -50,6 +50,9 @@ LIBRARY = {
     "cmake/zimgasol/zimgasolConfigVersion.cmake": None,
 }
 DOCUMENTS = ["LICENSE", "C.md", "installed"]
+# the files of the program below a prefix, but for its page
+PROGRAMS = ["bin/zimgasol", "share/man/man1/zimgasol.1", "share/bash-completion/completions/zimgasol", "share/zsh/site-functions/_zimgasol",
+            "share/fish/vendor_completions.d/zimgasol.fish"]
 
 PROJECT = """cmake_minimum_required(VERSION 3.10)
 project(installed C)
@@ -94,7 +97,7 @@ def wanted(prefix, libdir, includedir):
     names[f"{includedir}/zimgasol.h"] = None
     documents = DOCUMENTS + ["ZIMGASOL.md"] * PROGRAM.is_file()
     names.update({f"{prefix}/share/doc/zimgasol/{name}": None for name in documents})
-    return {**names, **({f"{prefix}/bin/zimgasol": None} if PROGRAM.is_file() else {})}
+    return {**names, **({f"{prefix}/{name}": None for name in PROGRAMS} if PROGRAM.is_file() else {})}
 
 
 def compare(what, found, expected):

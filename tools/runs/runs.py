@@ -11,6 +11,7 @@ took them from an earlier run of the same files. KIND is one of
     tool       the files of cases of the tool, runs/tool
     zimgasol   the commands of docs/ZIMGASOL.md and more, runs/zimgasol
     captures   QEMU's own migrations, runs/captures
+    manual     the man page of `zimgasol`, and its completions
     refused    allocations refused: of both programs, and of the cases that `mig_rows` plays;
                with proved programs alone
     falsified  each of the others on an expectation that was falsified, which has to fail
@@ -28,6 +29,7 @@ from pathlib import Path
 
 import cases
 import commands
+import manuals
 import refused
 
 sys.path.insert(1, str(Path(__file__).resolve().parent.parent))
@@ -39,7 +41,7 @@ RUNS = TOP / "runs"
 PROGRAMS = ("mig_tool", "zimgasol_cli", "mig_rows")
 # Of each kind the programs that it runs.
 NEEDS = {"tool": ("mig_tool",), "zimgasol": ("zimgasol_cli",), "captures": ("zimgasol_cli",),
-         "refused": PROGRAMS, "falsified": ("mig_tool", "zimgasol_cli")}
+         "manual": ("zimgasol_cli",), "refused": PROGRAMS, "falsified": ("mig_tool", "zimgasol_cli")}
 
 
 def play_tool(found, data):
@@ -52,6 +54,10 @@ def play_zimgasol(found, data):
 
 def play_captures(found, data):
     return captures.play(found["zimgasol_cli"], data / "captures")
+
+
+def play_manual(found, _):
+    return manuals.play(found["zimgasol_cli"])
 
 
 def play_refused(found, data):
@@ -107,8 +113,8 @@ def play_falsified(found, data):
     return count - failed, failed
 
 
-PLAYS = {"tool": play_tool, "zimgasol": play_zimgasol, "captures": play_captures, "refused": play_refused,
-         "falsified": play_falsified}
+PLAYS = {"tool": play_tool, "zimgasol": play_zimgasol, "captures": play_captures, "manual": play_manual,
+         "refused": play_refused, "falsified": play_falsified}
 
 
 def play(kinds, found):
