@@ -5,7 +5,7 @@ WORDS ?=
 CRATES ?=
 PREFIX ?= /usr/local
 
-.PHONY: help run check build program lib install uninstall example bench header try runs mutants interop promises documents site test gate
+.PHONY: help run check build program lib install uninstall example bindings bench header try runs mutants interop promises documents site test gate
 
 help: ## at once | lists the targets
 	@echo "Times on 4 processors, from a fresh clone:"
@@ -45,6 +45,9 @@ example: lib ## some minutes, after lib | builds and runs the C programs of exam
 	@tools/example.py
 	@tools/try_install.py
 
+bindings: lib ## some minutes, after lib | checks and tests the Rust crates of bindings/rust, by the system's cargo
+	@tools/try_bindings.py
+
 bench: ## at once, after lib | builds the benchmarks of the library for C: out/bench
 	@test -f out/libzimgasol.a || { echo "out/libzimgasol.a isn't there: make lib" >&2; exit 1; }
 	@$(CC) -O2 -Wall -Wextra -Wpedantic -pthread -Iinclude -o out/bench bench/*.c out/libzimgasol.a
@@ -71,6 +74,7 @@ documents: header ## at once | compares header, case lists, contracts, examples 
 	@tools/zimgasol_page.py --check
 	@tools/quotes.py
 	@tools/widths.py
+	@tools/bindings.py --check
 
 site: ## at once | builds the documents as HTML into out/site, and checks their links
 	@tools/site.py
