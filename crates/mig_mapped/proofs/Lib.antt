@@ -1,0 +1,9 @@
+pub mod Heads
+pub mod One
+pub mod Tabled
+pub mod Longer
+pub mod Loading
+pub mod HeadTaken
+pub mod Clearing
+pub mod Steps
+pub mod Whole

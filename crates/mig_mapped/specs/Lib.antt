@@ -1,0 +1,9 @@
+-- Read these first, in this order.
+pub mod Bitmap
+pub mod Block
+pub mod Head
+pub mod Reading
+pub mod Index
+pub mod Load
+pub mod Law
+pub mod FaultNumber

@@ -1,0 +1,24 @@
+//! Big-endian numbers at their offsets in some bytes, for `head`.
+
+ghost use Rattle.std.specs.Prelude.{◌≡◌, ◌+◌, ◌≤◌, length};
+ghost use Rattle.mig_stream.specs.Fields.{be32_at, be64_at};
+
+#[tactic(auto, unfolding(mig_stream::specs::Fields::be32_at))]
+pub(crate) fn be32(bytes: &[u8], at: usize) -> u32
+    requires { at + 4 ≤ length bytes.now }
+    ensures { result ≡ be32_at at bytes.now }
+{
+    let part = &bytes[at..at + 4];
+    u32::from_be_bytes([part[0], part[1], part[2], part[3]])
+}
+
+#[tactic(auto, unfolding(mig_stream::specs::Fields::be64_at))]
+pub(crate) fn be64(bytes: &[u8], at: usize) -> u64
+    requires { at + 8 ≤ length bytes.now }
+    ensures { result ≡ be64_at at bytes.now }
+{
+    let part = &bytes[at..at + 8];
+    u64::from_be_bytes([
+        part[0], part[1], part[2], part[3], part[4], part[5], part[6], part[7],
+    ])
+}
