@@ -5,7 +5,7 @@ WORDS ?=
 CRATES ?=
 PREFIX ?= /usr/local
 
-.PHONY: help run check build program lib install uninstall example bindings bench header try runs mutants interop promises documents site test gate
+.PHONY: help run check build program lib install uninstall example bindings fleet bench header try runs mutants interop promises documents site test gate
 
 help: ## at once | lists the targets
 	@echo "Times on 4 processors, from a fresh clone:"
@@ -45,8 +45,11 @@ example: lib ## some minutes, after lib | builds and runs the C programs of exam
 	@tools/example.py
 	@tools/try_install.py
 
-bindings: lib ## some minutes, after lib | checks and tests the Rust crates of bindings/rust, by the system's cargo
+bindings: lib ## some minutes, after lib | checks and tests bindings/rust and bindings/python, by the system's cargo and Python
 	@tools/try_bindings.py
+
+fleet: ## some minutes, after lib | tests examples/fleet: four workers of Dask, one killed, and GNU parallel
+	@tools/try_fleet.py
 
 bench: ## at once, after lib | builds the benchmarks of the library for C: out/bench
 	@test -f out/libzimgasol.a || { echo "out/libzimgasol.a isn't there: make lib" >&2; exit 1; }

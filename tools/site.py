@@ -22,7 +22,7 @@ SITE = TOP / "out" / "site"
 GROUPS = {
     "": "README",
     "Use it": "docs/EMBEDDING docs/C docs/contracts/zimgasol docs/TOOL docs/ZIMGASOL docs/INTEROP "
-              "docs/FAULTS docs/BENCHMARKS",
+              "docs/FAULTS docs/BENCHMARKS docs/SCALE",
     "Proof": "docs/PROMISES docs/CONTRACTS docs/FORMATS docs/EXAMPLES",
     "The project": "docs/ARCHITECTURE docs/DECISIONS docs/TOOLCHAIN CONTRIBUTING", "More": ""}
 # What the navigation calls pages whose headings say too little there.

@@ -1,14 +1,17 @@
 #!/usr/bin/env python3
-"""Tries the bindings of the library for C: bindings/rust.
+"""Tries the bindings of the library for C: bindings/rust and bindings/python.
 
-    tools/try_bindings.py
+    tools/try_bindings.py [rust] [python]
 
 It comes after `make lib`. The crates are formatted, checked by clippy without a warning, tested over
 the shared library and over the archive, and documented, by the system's cargo and without a
 registry. Their examples read QEMU's captures of runs/captures, from files and over TCP, and the
 memory has to be QEMU's. The crate over `vm-memory` is tried over Debian's (`apt-get install
-librust-vm-memory-dev`); without it that is said. Without cargo nothing is tried, and the status
-is 2.
+librust-vm-memory-dev`); without it that is said. The Python package is checked by mypy, tested by
+pytest on the captures and beside the program `zimgasol`, if that is built, and tested once more as
+a wheel that is built and installed without a registry (`apt-get install python3-pytest
+python3-numpy mypy python3-pip python3-venv python3-wheel`). PYTHON names another interpreter than
+/usr/bin/python3. What isn't installed is said. If a binding isn't tried at all, the status is 2.
 """
 import hashlib
 import os
@@ -23,6 +26,9 @@ from pathlib import Path
 
 TOP = Path(__file__).resolve().parent.parent
 RUST = TOP / "bindings/rust"
+PACKAGE = TOP / "bindings/python"
+# (Debian's packages are those of the system's Python)
+PYTHON = os.environ.get("PYTHON") or ("/usr/bin/python3" if Path("/usr/bin/python3").exists() else sys.executable)
 CAPTURES = TOP / "runs/captures"
 DATA = TOP / "runs/zimgasol/data"
 DEBIAN = Path("/usr/share/cargo/registry")
@@ -134,13 +140,73 @@ def received(target):
     return 2
 
 
-def main():
+def python(*words, folder=PACKAGE, by=PYTHON, **environment):
+    """Runs Python. Returns what it prints."""
+    env = {**os.environ, "PYTHONDONTWRITEBYTECODE": "1", **environment}
+    ran = subprocess.run([by, *map(str, words)], cwd=folder, env=env, capture_output=True, text=True, timeout=SECONDS)
+    if ran.returncode:
+        sys.exit(f"{by} {' '.join(map(str, words))}: status {ran.returncode}\n{ran.stdout}{ran.stderr}")
+    return ran.stdout + ran.stderr
+
+
+def has(*modules):
+    """Whether the system's Python has these modules."""
+    code = f"import importlib.util as it, sys; sys.exit(not all(map(it.find_spec, {list(modules)})))"
+    return subprocess.run([PYTHON, "-c", code], capture_output=True).returncode == 0
+
+
+def typed():
+    """Checks the package's types. Returns what is said of it."""
+    if not has("mypy"):
+        return "its types aren't checked: mypy isn't installed"
+    python("-m", "mypy", "--cache-dir", os.devnull, "zimgasol")
+    return "checked by mypy"
+
+
+def tested(by=PYTHON, folder=PACKAGE, **environment):
+    """Runs the tests of the package. Returns how many passed, and how many were skipped."""
+    words = ["-m", "pytest", "-q", "--no-header", "-p", "no:cacheprovider", "--rootdir", PACKAGE, PACKAGE / "tests"]
+    return python(*words, by=by, folder=folder, **environment).strip().splitlines()[-1]
+
+
+def wheel(room):
+    """Builds a wheel with the library in it, installs it, and has it read a guest and pass the tests. Returns what is said of it."""
+    if not has("pip", "wheel", "setuptools", "venv", "ensurepip"):
+        return "no wheel is built: python3-pip, python3-venv or python3-wheel isn't installed"
+    source = room / "source"
+    shutil.copytree(PACKAGE, source, ignore=shutil.ignore_patterns("build", "*.egg-info", "__pycache__"))
+    library = str((TOP / "out/libzimgasol.so").resolve())
+    alone = ["--no-index", "--no-deps"]
+    python("-m", "pip", "wheel", "-q", *alone, "--no-build-isolation", "-w", room, source, ZIMGASOL_LIBRARY=library)
+    (built,) = room.glob("zimgasol-*-py3-none-linux_x86_64.whl")
+    python("-m", "venv", "--system-site-packages", room / "venv")
+    there = room / "venv/bin/python"
+    python("-m", "pip", "install", "-q", *alone, built, by=there)
+    code = "from zimgasol import _library as it; it.library(); print(it._path())"
+    found = python("-c", code, by=there, folder=room, ZIMGASOL_LIBRARY="").strip()
+    want("the library of the wheel", Path(found).is_relative_to(room / "venv"), True)
+    return f"as a wheel: {tested(there, room, ZIMGASOL_LIBRARY=found)}"
+
+
+def try_python():
+    """Tries the Python package. Returns whether it was tried."""
+    if not has("pytest"):
+        print("pytest isn't installed: bindings/python isn't tried", file=sys.stderr)
+        return False
+    if not has("numpy"):
+        print("bindings/python: numpy isn't installed, so views as its arrays aren't tried")
+    library = str(TOP / "out/libzimgasol.so")
+    print(f"bindings/python: {typed()}; {tested(PYTHONPATH=str(PACKAGE), ZIMGASOL_LIBRARY=library)}")
+    with tempfile.TemporaryDirectory(prefix="bindings-") as at:
+        print(f"bindings/python: {wheel(Path(at))}")
+    return True
+
+
+def try_rust():
+    """Tries the crates. Returns whether they were tried."""
     if not shutil.which("cargo"):
         print("cargo isn't installed: bindings/rust isn't tried", file=sys.stderr)
-        return 2
-    if not (TOP / "out/libzimgasol.so").exists():
-        print("make lib comes first", file=sys.stderr)
-        return 2
+        return False
     with tempfile.TemporaryDirectory(prefix="bindings-") as at:
         room, target = Path(at), Path(at) / "target"
         cargo(target, "fmt", "--check")
@@ -151,7 +217,16 @@ def main():
         cargo(target, "build", "--offline", "--examples")
         print(f"bindings/rust: {counted(shared + archive)} tests passed, {files(target, room)} files were read, {received(target)} guests received")
         print(f"bindings/rust: {vm_memory(Path(at) / 'vm')}")
-    return 0
+    return True
+
+
+def main():
+    if not (TOP / "out/libzimgasol.so").exists():
+        print("make lib comes first", file=sys.stderr)
+        return 2
+    asked = sys.argv[1:] or ["rust", "python"]
+    found = [{"rust": try_rust, "python": try_python}[it]() for it in asked]
+    return 0 if all(found) else 2
 
 
 if __name__ == "__main__":
