@@ -116,7 +116,7 @@ def lay(found, name, offset, content):
 
 def facts(main, channels):
     """Returns the memory of each block, the page records of each, the rounds, what each channel has, and where RAM ends."""
-    found = {"memory": {}, "counts": {}, "notes": [], "channels": [], "pages": {}, "form": stream_facts.PLAIN}
+    found = {"before": 0, "memory": {}, "counts": {}, "notes": [], "channels": [], "pages": {}, "form": stream_facts.PLAIN}
     rounds = stream_rounds(main, found)
     assert not rounds.pop()
     each = [channel_rounds(it) for it in channels]

@@ -56,6 +56,7 @@ def size_list(reader, found, total):
             reader.take(8)
         found["memory"][name], found["counts"][name], found["pages"][name] = bytearray(length), [0, 0], set()
         total -= length
+    found["list_end"] = reader.at
 
 
 def records(reader, found):
@@ -119,7 +120,7 @@ def command(reader, found, sections, at):
 
 def facts(data):
     """Returns the memory of each block, the records of each and the offsets of their pages, the sections,
-    the notes, and where RAM ends."""
+    the notes, the id of RAM's section, and where the size list and RAM end."""
     before = libvirt_len(data)
     reader = Reader(data, before)
     assert reader.take(8) == b"QEVM\0\0\0\3"

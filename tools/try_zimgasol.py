@@ -47,6 +47,8 @@ OTHER_COMPARE = ("zimgasol: .zimgasol-compare.partial: note: another `compare` i
                  "if not, delete it\n")
 SAVE = "zimgasol save --block ram=memory/ram.bin"
 LINKED = "ln -s $PWD/beside"
+# a file of `virsh save` whose XML has 64 MiB
+LONG = "(cat long.head; head -c 67108864 /dev/zero; cat guest.sav)"
 # ids that would lead out of a folder, hide a file or an option, or be too long for a name
 IDS = ["../evil", "/etc/x", "..", ".", ".hidden", "a/b", 'q"q', "a b", "%41", "*", "~", "$x", "-rf",
        "blocks.json", "x" * 255, "%" * 255]
@@ -72,7 +74,7 @@ STREAMS = (
     ("", "zimgasol compare memory memory > /dev/full", OUTPUT + FULL, 3),
     ("", f"{SAVE} - > /dev/full", OUTPUT + FULL, 3),
     ("full output, the files stay", "zimgasol extract guest.sav full > /dev/full; echo $?; ls full",
-     f"{OUTPUT}{FULL}3\nblocks.json\nram.bin\n", 0),
+     f"{OUTPUT}{FULL}3\nblocks.json\nram.bin\nstate\n", 0),
     ("output that ends early", "zimgasol inspect guest.sav | head -1", "file guest.sav, 87406 bytes\n", 0),
     ("", "(sleep 0.3; zimgasol inspect guest.sav; echo $? >&2) | true", "3\n", 0),
     ("", "(sleep 0.3; zimgasol verify guest.sav guest.sav; echo $? >&2) | true", "3\n", 0),
@@ -86,10 +88,17 @@ STREAMS = (
     ("full error output", "zimgasol verify cut.sav 2> /dev/full", "", 1),
     # the line of --progress must not go into a file that has the number of the error output
     ("closed error output, --progress",
-     "(head -c 90000 sparse.sav; sleep 1.2; tail -c +90001 sparse.sav; sleep 1.2) |"
+     "(head -c 90000 sparse.sav; sleep 10.2; tail -c +90001 sparse.sav; sleep 0.2) |"
      " zimgasol extract - quiet --progress --quiet 2>&-; echo $?;"
      " zimgasol extract sparse.sav plain --quiet; cmp quiet/ram.bin plain/ram.bin && echo same",
      "0\nsame\n", 0),
+    ("progress on a terminal, which is removed",
+     on_terminal("sh -c '(head -c 90000 sparse.sav; sleep 1.2; tail -c +90001 sparse.sav) | zimgasol verify - -p -q'"),
+     re.compile(r"-: \d+ bytes, \d+ KiB/s\x1b\[K\x1b\[K0\n"), 0),
+    ("progress in a log",
+     "(head -c 90000 sparse.sav; sleep 1.2; tail -c +90001 sparse.sav; sleep 6) | zimgasol verify - -p -q", "", 0),
+    ("", "(head -c 90000 sparse.sav; sleep 10.2; tail -c +90001 sparse.sav) | zimgasol verify - -p -q",
+     re.compile(r"-: \d+ bytes, \d+ KiB/s\n"), 0),
     ("closed output, a file", f"{SAVE} closed.sav >&-; echo $?; zimgasol verify --frame ram closed.sav",
      f"{OUTPUT}{BAD_NUMBER}3\nclosed.sav: complete: sections 3, blocks 1, memory 131072 bytes, "
      "the stream ends at byte 86382, 0 bytes follow\n", 0),
@@ -109,7 +118,7 @@ STREAMS = (
 )
 IDENTS = (
     ("ids", "zimgasol extract ids.sav deep/ids --quiet; echo $?; ls -A . .. deep | grep -c -e evil -e hidden;"
-     " ls -A deep/ids", "0\n0\n" + "".join(f"{it}\n" for it in sorted([*(f"{it}.bin" for it in NAMES), "blocks.json"])), 0),
+     " ls -A deep/ids", "0\n0\n" + "".join(f"{it}\n" for it in sorted([*(f"{it}.bin" for it in NAMES), "blocks.json", "state"])), 0),
     ("", "zimgasol extract ids.sav one --block ../evil --quiet; echo $?; ls -A one",
      "0\n%2E%2E%2Fevil.bin\nblocks.json\n", 0),
     ("", "zimgasol extract guest.sav none --block $'\\e[2J'; echo $?; ls none",
@@ -139,9 +148,9 @@ PLACES = (
     ("files that exist", "zimgasol extract guest.sav memory", f"zimgasol: memory/blocks.json: {EXISTS}", 3),
     ("", "mkdir old; echo old > old/ram.bin; zimgasol extract guest.sav old; echo $?; ls old; cat old/ram.bin",
      f"zimgasol: old/ram.bin: {EXISTS}3\nram.bin\nold\n", 0),
-    ("", "zimgasol extract guest.sav old --replace; ls old", f"{WHOLE}blocks.json\nram.bin\n", 0),
+    ("", "zimgasol extract guest.sav old --replace; ls old", f"{WHOLE}blocks.json\nram.bin\nstate\n", 0),
     ("a fault keeps old files", "zimgasol extract cut.sav old --replace; echo $?; ls old; cmp old/ram.bin memory/ram.bin",
-     f"zimgasol: cut.sav: {CUT}1\nblocks.json\nram.bin\n", 0),
+     f"zimgasol: cut.sav: {CUT}1\nblocks.json\nram.bin\nstate\n", 0),
     ("", f"echo old > old.sav; {SAVE} old.sav; echo $?; {SAVE} --since nowhere --replace old.sav; cat old.sav",
      f"zimgasol: old.sav: {EXISTS}3\nzimgasol: nowhere/blocks.json: {NOTHING}old\n", 0),
     ("a folder in place of a file", "mkdir -p dir/ram.bin; zimgasol extract guest.sav dir --replace; echo $?; ls dir",
@@ -152,7 +161,7 @@ PLACES = (
     ("a link in place of a file", f"mkdir link; {LINKED} link/ram.bin; zimgasol extract guest.sav link --replace; echo $?; ls beside",
      f"zimgasol: link/ram.bin: {UNPLAIN}3\nls: cannot access 'beside': No such file or directory\n", 2),
     ("", f"mkdir linked; {LINKED} linked/ram.bin.partial; zimgasol extract guest.sav linked --quiet; echo $?; ls beside linked",
-     "0\nls: cannot access 'beside': No such file or directory\nlinked:\nblocks.json\nram.bin\n", 2),
+     "0\nls: cannot access 'beside': No such file or directory\nlinked:\nblocks.json\nram.bin\nstate\n", 2),
     ("", f"{LINKED} linked.sav; {SAVE} --replace linked.sav; echo $?; ls beside",
      f"zimgasol: linked.sav: {UNPLAIN}3\nls: cannot access 'beside': No such file or directory\n", 2),
     ("a pipe in place of a file", f"mkfifo pipe; {SAVE} --replace pipe", f"zimgasol: pipe: {UNPLAIN}", 3),
@@ -177,12 +186,38 @@ PLACES = (
     ("", "zimgasol compare memory zstd.save; ls -A | grep -c compare", f"{PACKED}0\n", 1),
     ("a program that is killed", "bash -c '(head -c 300000 noise.sav; sleep 1.5) |"
      " timeout -s KILL 0.7 zimgasol extract - killed' 2> /dev/null; ls killed;"
-     " zimgasol extract guest.sav killed; ls killed", f"ram.bin.partial\n{WHOLE}blocks.json\nram.bin\n", 0),
+     " zimgasol extract guest.sav killed; ls killed", f"ram.bin.partial\nstate\n{WHOLE}blocks.json\nram.bin\nstate\n", 0),
     ("", "bash -c '(head -c 300000 noise.sav; sleep 1.5) | timeout -s KILL 0.7 zimgasol extract - left' 2> /dev/null;"
-     " zimgasol extract ids.sav left --block '*'; ls left",
-     "ids.sav: complete: sections 3, blocks 16, memory 65536 bytes, RAM ends at byte 67041, devices: none, 1 bytes\n"
-     "zimgasol: left/ram.bin.partial: note: another `extract` is running; if not, delete it\n"
-     "%2A.bin\nblocks.json\nram.bin.partial\n", 0),
+     " zimgasol extract ids.sav left --block '*' 2>&1 | sort; ls left left/state",
+     "ids.sav: complete: sections 3, blocks 16, memory 65536 bytes, RAM ends at byte 67041, devices: none, 1 bytes\n" +
+     "".join(f"zimgasol: left/{it}.partial: note: another `extract` is running; if not, delete it\n"
+             for it in ("ram.bin", "state/after.bin", "state/before.bin")) +
+     "left:\n%2A.bin\nblocks.json\nram.bin.partial\nstate\n\nleft/state:\nafter.bin.partial\nbefore.bin.partial\n", 0),
+    ("a file in place of the state", "mkdir file; echo old > file/state; zimgasol extract guest.sav file; echo $?; ls file",
+     "zimgasol: file/state/before.bin.partial: Not a directory (os error 20)\n3\nstate\n", 0),
+    ("", "zimgasol extract guest.sav file --block ram --quiet; echo $?; ls file; cat file/state",
+     "0\nblocks.json\nram.bin\nstate\nold\n", 0),
+    ("a state that exists", "mkdir -p had/state; echo old > had/state/libvirt.bin; zimgasol extract guest.sav had; echo $?; find had",
+     f"zimgasol: had/state/libvirt.bin: {EXISTS}3\nhad\nhad/state\nhad/state/libvirt.bin\n", 0),
+    ("a fault keeps an old state", "zimgasol extract cut.sav had --replace; echo $?; find had; cat had/state/libvirt.bin",
+     f"zimgasol: cut.sav: {CUT}1\nhad\nhad/state\nhad/state/libvirt.bin\nold\n", 0),
+    ("a folder in place of the state's file", "mkdir -p held/state/after.bin; zimgasol extract guest.sav held --replace; echo $?; ls held",
+     f"zimgasol: held/state/after.bin: {UNPLAIN}3\nstate\n", 0),
+    ("a link in place of it", f"mkdir -p led/state; {LINKED} led/state/before.bin;"
+     " zimgasol extract guest.sav led --block ram --replace; echo $?; ls led beside",
+     f"zimgasol: led/state/before.bin: {UNPLAIN}3\nls: cannot access 'beside': No such file or directory\nled:\nstate\n", 2),
+    ("a state that is restored", "zimgasol save --state memory state.sav --quiet; zimgasol compare state.sav guest.sav",
+     "state.sav and guest.sav: the same: blocks 1, memory 131072 bytes\n", 0),
+    ("", "(zimgasol save --state memory -; echo $? >&2) | head -c 1 > /dev/null", f"{BROKEN}3\n", 0),
+    ("a state that is torn", "cp -r memory torn; head -c 50 /dev/zero > torn/state/before.bin; zimgasol save --state torn t.sav;"
+     " echo $?; ls t.sav*", "zimgasol: torn/state/before.bin: isn't a machine's stream up to the end of RAM's size list\n1\n"
+     "ls: cannot access 't.sav*': No such file or directory\n", 2),
+    ("", "rm torn/state/before.bin; mkdir torn/state/before.bin; zimgasol save --state torn t.sav",
+     f"zimgasol: torn/state/before.bin: {FOLDER}", 3),
+    ("more than 64 MiB before RAM", f"{LONG} | zimgasol extract - long; echo $?; ls long",
+     "zimgasol: -: has 67108956 bytes or more before RAM, and `extract` keeps at most 67108864; "
+     "`--block` extracts without them\n1\nls: cannot access 'long': No such file or directory\n", 2),
+    ("", f"{LONG} | zimgasol extract - long --block ram --quiet; echo $?; cmp long/ram.bin memory/ram.bin", "0\n", 0),
 )
 DISKS = (
     ("full disk", "zimgasol extract ../guest.sav memory; echo $?; ls -A", f"zimgasol: memory/ram.bin.partial: {FULL}3\n", 0),
@@ -194,6 +229,9 @@ DISKS = (
      f"zimgasol: out.sav.0.partial: {FULL}3\n", 0),
     ("", "echo > beside; zimgasol compare ../guest.sav ./guest.sav; echo $?; ls -A; rm beside",
      f"zimgasol: ./.zimgasol-compare.partial/a/ram.bin.partial: {FULL}3\nbeside\n", 0),
+    ("full disk, the state", "head -c 70000 /dev/zero > fill 2> /dev/null; zimgasol extract ../machine.sav memory; echo $?; ls -A; rm fill",
+     f"zimgasol: memory/state/before.bin.partial: {FULL}3\nfill\n", 0),
+    ("", "zimgasol save --state ../memory out.sav; echo $?; ls -A", f"zimgasol: out.sav.partial: {FULL}3\n", 0),
     ("full disk, an output", "zimgasol inspect ../guest.sav > listing; head -c 70000 /dev/zero > fill 2> /dev/null;"
      " zimgasol inspect ../guest.sav --json > more; echo $?; rm *", f"{OUTPUT}{FULL}3\n", 0),
     ("read-only disk", "mount -o remount,ro none . && zimgasol extract ../guest.sav memory",
@@ -216,9 +254,9 @@ def stream(blocks, machine="none"):
     return opening(sizes, machine) + part(records) + b"\x03" + be("I", 1) + END_OF_RECORDS + b"\0"
 
 
-def libvirt(magic, form):
-    """The beginning of a file of `virsh save`."""
-    return magic + struct.pack("<19I", 2, 0, 1, form, *[0] * 15) + (DATA / "guest.sav").read_bytes()
+def libvirt(magic, form, length=0):
+    """The header of a file of `virsh save`, whose XML and cookie have this length."""
+    return magic + struct.pack("<19I", 2, length, 1, form, *[0] * 15)
 
 
 def lay_out(room):
@@ -229,7 +267,8 @@ def lay_out(room):
              "noise.sav": stream({"ram": (100, range(100))}),
              "ids.sav": stream({it: (1, [0]) for it in IDS}), "steering.sav": stream({"\x1b[2J": (1, [0])}),
              "machine.sav": stream({"ram": (1, [0])}, '\x1b[2J"x'),
-             "never.save": libvirt(b"LibvirtQemudPart", 0), "zstd.save": libvirt(b"LibvirtQemudSave", 5)}
+             "never.save": libvirt(b"LibvirtQemudPart", 0) + guest, "zstd.save": libvirt(b"LibvirtQemudSave", 5) + guest,
+             "long.head": libvirt(b"LibvirtQemudSave", 0, 1 << 26)}
     for name, content in files.items():
         (room / name).write_bytes(content)
     for name in ("deep", "disk"):

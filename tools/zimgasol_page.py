@@ -1,5 +1,5 @@
 #!/usr/bin/env python3
-"""The examples of docs/ZIMGASOL.md as commands to run, with what they print: runs/zimgasol.
+"""The examples of docs/use/ZIMGASOL.md as commands to run, with what they print: runs/zimgasol.
 
     tools/zimgasol_page.py            writes both and data/main.sav, and the output in the page
     tools/zimgasol_page.py --check    compares them, and fails if they differ
@@ -8,6 +8,7 @@ The expected output of a command is made here from the results of tools/stream_f
 tools/channel_facts.py on the files, and from streams that are written here: none of this shares
 anything with the library. tools/runs/runs.py runs the commands and compares their output with it.
 """
+import hashlib
 import json
 import re
 import struct
@@ -21,10 +22,11 @@ import tail_facts
 
 TOP = Path(__file__).resolve().parent.parent
 # In the order in which their examples run.
-PAGES = [TOP / "docs" / "ZIMGASOL.md"]
+PAGES = [TOP / "docs" / "use" / "ZIMGASOL.md"]
 RUNS = TOP / "runs" / "zimgasol"
 COMMANDS = {11: "SWITCHOVER_START"}
 SIX = " ".join(f"--block {it}=half.bin" for it in "abcdef")
+SIZES = "isn't a size from 1 to 1T: bytes, or a number with K, M, G or T behind"
 EXISTS = "is there already; `--replace` replaces it"
 CUT = "fault 34: the stream ends early; the file was cut, or the save didn't come to its end"
 UUID = "00112233-4455-6677-8899-aabbccddeeff"
@@ -44,6 +46,7 @@ NOT_PLUGGED = ("they may be unplugged memory of virtio-mem, free pages of virtio
                "since another one; `--partial` takes it as it is")
 NOT_READ = "a device that saves its state before RAM's END, which isn't read"
 LIBVIRT_HEAD = "LibvirtQemudSave" + r"\x02\0\0\0\x05\0\0\0\x01\0\0\0\x01\0\0\0"
+RAW_HEAD = LIBVIRT_HEAD.removesuffix(r"\x01\0\0\0") + r"\0\0\0\0"
 ADVISE = r"\x08\0\x03\0\x10\0\0\0\0\0\x20\0\0\0\0\0\0\0\0\x10\0"
 CAPABILITIES = r"\x05\x1aconfiguration/capabilities\0\0\0\1\0\0\0\2\x03xyz\x0fx-ignore-shared"
 HUGE = r"\0\0\0\0\0\x20\0\0"
@@ -64,6 +67,7 @@ NOTHING_READ = [*NO_BLOCK, "read up to byte 0"]
 POSTCOPY = "fault 49: unsupported COMMAND; a migration that went over to postcopy isn't complete in a file"
 TOTAL = "byte 34 (section 1, START): fault 20: RAM total is 0 or above the limit"
 PAIR = " --channel pair.sav.0 --channel pair.sav.1"
+NO_COMMAND = "(head -c 86372 {0}; tail -c +86378 {0})"
 THREE = "".join(f" --channel three.sav.{i}" for i in (2, 0, 1))
 SHORT = "zimgasol: short/ram.bin: has 65536 bytes, and `blocks.json` lists 131072"
 TWICE = "zimgasol: twice/blocks.json: lists an id twice"
@@ -82,6 +86,13 @@ CASES = [
     ("zimgasol extract guest.sav neither --digest --no-digest", (
         ["error: the argument '--digest' cannot be used with '--no-digest'", "",
          "Usage: zimgasol extract --digest <FILE> <DIR>", "", "For more information, try '--help'."], 2)),
+    ("zimgasol extract guest.sav fast --fast-digest", None),
+    ("cat fast/blocks.json", None),
+    ("zimgasol extract guest.sav digested --digest --fast-digest", None),
+    ("cat digested/blocks.json", None),
+    ("zimgasol extract guest.sav neither --fast-digest --no-digest", (
+        ["error: the argument '--fast-digest' cannot be used with '--no-digest'", "",
+         "Usage: zimgasol extract --fast-digest <FILE> <DIR>", "", "For more information, try '--help'."], 2)),
     ("zimgasol verify full.sav --frame ram --quiet", ([], 0)),
     # ---- several files: their statuses, of which the worst is that of the program
     ("zimgasol verify guest.sav cut.sav nowhere.sav main.sav 2>&1", (
@@ -104,6 +115,30 @@ CASES = [
     ("zimgasol verify - guest.sav < guest.sav", (
         [f"-: {WHOLE}", f"guest.sav: {WHOLE}", "2 files: 2 passed, 0 refused, 0 not read"], 0)),
     ("zimgasol verify - guest.sav -", (['zimgasol: FILE "-": only one FILE can be the standard input'], 2)),
+    # ---- the same at once
+    ("zimgasol verify -j 3 guest.sav cut.sav nowhere.sav main.sav", (
+        [f"guest.sav: {WHOLE}",
+         "main.sav: partial: sections 3, blocks 1, memory 131072 bytes, RAM ends at byte 221, devices: none, 1 bytes",
+         "4 files: 1 passed, 2 refused, 1 not read",
+         f"zimgasol: cut.sav: byte 50000 (section 2, PART, block \"ram\"): {CUT}",
+         "zimgasol: nowhere.sav: No such file or directory (os error 2)",
+         'zimgasol: main.sav: INCOMPLETE: 20 of 32 pages of block "pc.ram" have no record',
+         f"zimgasol: main.sav: INCOMPLETE: {NO_CONTENTS}"], 3)),
+    *((f"for i in 1 2 3; do zimgasol verify{jobs} cut.sav guest.sav main.sav --json; done 2>&1 > one; echo $?", (
+        [*[line for _ in range(3) for line in (
+            f"zimgasol: cut.sav: byte 50000 (section 2, PART, block \"ram\"): {CUT}",
+            'zimgasol: main.sav: INCOMPLETE: 20 of 32 pages of block "pc.ram" have no record',
+            f"zimgasol: main.sav: INCOMPLETE: {NO_CONTENTS}")], "1"], 0)) for jobs in ("", " --jobs 2", " -j 256")),
+    ("zimgasol verify -j 1 - guest.sav --quiet < guest.sav", ([], 0)),
+    ("zimgasol verify -j 2 - guest.sav < guest.sav", (
+        ['zimgasol: FILE "-": goes without `--jobs`, or is the only FILE'], 2)),
+    ("zimgasol verify -j 2 - --quiet < guest.sav", ([], 0)),
+    ("zimgasol verify -j 2 -p guest.sav", (
+        ["error: the argument '--jobs <N>' cannot be used with '--progress'", "",
+         "Usage: zimgasol verify --jobs <N> <FILE>...", "", "For more information, try '--help'."], 2)),
+    *((f"zimgasol verify -j {number} guest.sav", (
+        [f"error: invalid value '{number}' for '--jobs <N>': {number} is not in 1..=256", "",
+         "For more information, try '--help'."], 2)) for number in (0, 257)),
     ("zimgasol verify guest.sav main.sav --channel multi.sav.0", (
         ['zimgasol: --channel "multi.sav.0": goes with one FILE'], 2)),
     ("zimgasol verify guest.sav --json", None),
@@ -126,7 +161,7 @@ CASES = [
     ("zimgasol help save | awk 'length > 60 {wide = 1} END {print wide}'", (["1"], 0)),
     ("zimgasol help extract | grep -A 4 Examples:", (
         ["Examples:", "  zimgasol extract guest.sav memory", "  zimgasol extract day.sav restored \\",
-         "    --frame ram --since memory"], 0)),
+         "    --since memory"], 0)),
     ("zimgasol save --block ram=half.bin --block rom=later.bin two.sav", None),
     ("zimgasol verify two.sav --frame ram", None),
     ("head -c 66000 two.sav > cut.sav", None),
@@ -599,12 +634,112 @@ CASES = [
     ("zimgasol extract guest.sav limited --limit 131071", ([f"zimgasol: guest.sav: {TOTAL}"], 1)),
     ("cat limited/blocks.json", (["cat: limited/blocks.json: No such file or directory"], 1)),
     ("zimgasol verify pair.sav --limit 131071" + PAIR, ([f"zimgasol: pair.sav: {TOTAL.replace('(', '(round 1, ')}"], 1)),
-    ("zimgasol verify guest.sav --limit 0", (
-        ["error: invalid value '0' for '--limit <BYTES>': 0 is not in 1..=1099511627776", "",
-         "For more information, try '--help'."], 2)),
-    ("zimgasol verify guest.sav --limit 1G", (
-        ["error: invalid value '1G' for '--limit <BYTES>': invalid digit found in string", "",
-         "For more information, try '--help'."], 2)),
+    *((f"zimgasol verify guest.sav --quiet --limit {size}", ([], 0))
+      for size in ("128K", "1M", "1G", "1T", "1024G", "1099511627776")),
+    *((f"zimgasol verify guest.sav --limit {size}", ([f"zimgasol: guest.sav: {TOTAL}"], 1)) for size in ("1", "1K", "127K")),
+    *((f"zimgasol verify guest.sav --limit '{size}'", ([f'zimgasol: --limit "{size}": {SIZES}'], 2))
+      for size in ("", "0", "0K", "G", "1025G", "2T", "1g", "1KiB", "1.5G", "+1", "1 K", "99999999999999999999",
+                   "18446744073709551615T")),
+    # ---- the state of a machine: what is written around RAM has the bytes that were there, and RAM's sections its id
+    (f"{NO_COMMAND.format('guest.sav')} | cmp - resumed.sav", ([], 0)),
+    ("cp guest.sav second.sav; for at in 21 66 71 86371 86381 86394; do "
+     r"printf '\2' | dd of=second.sav bs=1 seek=$at conv=notrunc status=none; done", ([], 0)),
+    ("zimgasol extract second.sav second", ([f"second.sav: {WHOLE}"], 0)),
+    ("zimgasol save --state second second2.sav --quiet", ([], 0)),
+    (f"{NO_COMMAND.format('second.sav')} | cmp - second2.sav", ([], 0)),
+    ("zimgasol save --state second - < guest.sav | cmp - second2.sav", ([], 0)),
+    (f"(printf '{RAW_HEAD}'; head -c 60 /dev/zero; printf '<x/>'; head -c 1 /dev/zero) > header; cat header guest.sav > virsh.save",
+     ([], 0)),
+    ("zimgasol extract virsh.save virsh --quiet", ([], 0)),
+    ("ls virsh virsh/state; cmp header virsh/state/libvirt.bin", (
+        ["virsh:", "blocks.json", "ram.bin", "state", "", "virsh/state:", "after.bin", "before.bin", "libvirt.bin"], 0)),
+    ("zimgasol save --state virsh virsh2.save --quiet", ([], 0)),
+    ("cat header resumed.sav | cmp - virsh2.save", ([], 0)),
+    ("zimgasol extract guest.sav virsh --quiet --replace", ([], 0)),
+    ("ls virsh/state", (["after.bin", "before.bin"], 0)),
+    ("(cat guest.sav; head -c 512 /dev/zero) > filled.sav", ([], 0)),
+    ("zimgasol extract filled.sav filled", (
+        ["filled.sav: complete: sections 3, blocks 1, memory 131072 bytes, RAM ends at byte 86395, "
+         "devices: whole, 1523 bytes, 512 of them unknown"], 0)),
+    ("grep state filled/blocks.json", (['  "state": "extra"'], 0)),
+    ("zimgasol save --state filled out.sav", (
+        ["zimgasol: filled/state/after.bin: other bytes follow the end of the stream; cut them off"], 1)),
+    ("head -c 87000 guest.sav > unended.sav", ([], 0)),
+    ("zimgasol extract unended.sav cutstate --quiet", ([], 0)),
+    ("grep state cutstate/blocks.json", (['  "state": "cut"'], 0)),
+    ("zimgasol save --state cutstate out.sav", (
+        ["zimgasol: cutstate/state/after.bin: the description of the devices is cut"], 1)),
+    ("zimgasol extract full.sav alone --frame ram --quiet", ([], 0)),
+    ("zimgasol save --state alone out.sav", (
+        ["zimgasol: alone/blocks.json: lists no state: `extract` keeps that of a machine's stream, without `--block`"], 3)),
+    ("zimgasol save --state nowhere out.sav", (
+        ["zimgasol: nowhere/blocks.json: No such file or directory (os error 2)"], 3)),
+    ("zimgasol save --state memory --page 8192 out.sav", (
+        ["zimgasol: memory: has pages of 4096 bytes, and the stream would have pages of 8192; save with `--page 4096`"], 3)),
+    ("zimgasol save --state memory --frame ram out.sav", (
+        ['zimgasol: --state "memory": goes with `--frame machine`'], 2)),
+    ("zimgasol save --state memory --frame machine out.sav --quiet", ([], 0)),
+    ("cmp out.sav resumed.sav", ([], 0)),
+    *((f"zimgasol save --state memory {option} {value} other.out", (
+        [f"error: the argument '--state <DIR>' cannot be used with '{option} <{name}>'", "",
+         f"Usage: zimgasol save --state <DIR> <OUT>", "", "For more information, try '--help'."], 2))
+      for option, value, name in (("--machine", "none", "NAME"), ("--channels", "2", "N"))),
+    ("zimgasol save out.sav", (
+        ["error: the following required arguments were not provided:", "  --block <ID=FILE>", "",
+         "Usage: zimgasol save --block <ID=FILE> <OUT>", "", "For more information, try '--help'."], 2)),
+    ("zimgasol save --state memory resumed.sav", (["zimgasol: resumed.sav: " + EXISTS], 3)),
+    ("zimgasol save --state memory --block rom=half.bin other.out", (
+        ["zimgasol: rom: isn't a block of the machine in `--state`"], 1)),
+    ("zimgasol save --state memory --block ram=half.bin other.out", (
+        ["zimgasol: half.bin: has 65536 bytes, and the block of the machine in `--state` 131072"], 1)),
+    ("zimgasol save --state memory --block ram=later.bin --block ram=later.bin other.out", (
+        ['zimgasol: --block "ram": an earlier --block has this id'], 2)),
+    ("zimgasol save --state memory --uuid " + UUID + " other.out", (
+        [f'zimgasol: --uuid "{UUID}": goes with `--channels`'], 2)),
+    ("cp -r memory torn", ([], 0)),
+    *(case for size in (0, 8, 17, 40, 53) for case in (
+        (f"head -c {size} memory/state/before.bin > torn/state/before.bin", ([], 0)),
+        ("zimgasol save --state torn other.out", (
+            ["zimgasol: torn/state/before.bin: isn't a machine's stream up to the end of RAM's size list"], 1)))),
+    ("head -c 67 guest.sav > torn/state/before.bin", ([], 0)),
+    ("zimgasol save --state torn other.out", (
+        ["zimgasol: torn/state/before.bin: isn't a machine's stream up to the end of RAM's size list"], 1)),
+    ("cp memory/state/before.bin torn/state; head -c 10 guest.sav > torn/state/libvirt.bin", ([], 0)),
+    ("zimgasol save --state torn other.out", (
+        ["zimgasol: torn/state/libvirt.bin: isn't a complete header of libvirt's"], 1)),
+    ("rm torn/state/libvirt.bin torn/state/after.bin", ([], 0)),
+    ("zimgasol save --state torn other.out", (
+        ["zimgasol: torn/state/after.bin: No such file or directory (os error 2)"], 3)),
+    ("head -c 1 /dev/zero > torn/state/after.bin", ([], 0)),
+    ("zimgasol save --state torn bare.sav", (
+        ["bare.sav: saved: blocks 1, memory 131072 bytes, pages 32, stream 86391 bytes"], 0)),
+    ("cmp bare.sav machine.sav; ls other.out* 2>&1", (["ls: cannot access 'other.out*': No such file or directory"], 0)),
+    # ---- size lists with 8 bytes more, and a guest without its shared memory
+    (f"(head -c 17 guest.sav; printf '{ADVISE}'; tail -c +18 guest.sav | head -c 37; printf '{HUGE}'; "
+     "tail -c +55 guest.sav) > huge.sav", ([], 0)),
+    ("zimgasol extract huge.sav huge --quiet", ([], 0)),
+    ("zimgasol save --state huge huge2.sav --quiet", ([], 0)),
+    ("(head -c 86401 huge.sav; tail -c +86407 huge.sav) | cmp - huge2.sav", ([], 0)),
+    (f"(head -c 17 guest.sav; printf '{CAPABILITIES}'; tail -c +18 guest.sav | head -c 37; printf '{ADDRESS}'; "
+     "tail -c +55 guest.sav) > addressed.sav", ([], 0)),
+    ("zimgasol extract addressed.sav addressed --quiet", ([], 0)),
+    ("zimgasol save --state addressed other.out", (
+        ["zimgasol: addressed/state/before.bin: the machine left out shared memory (`x-ignore-shared`), "
+         "which isn't written again"], 1)),
+    # ---- the memory of one block, or of a stream without a state, isn't that of an old state
+    ("zimgasol extract later.sav back --frame ram --since memory --replace --quiet", ([], 0)),
+    ("ls back", (["blocks.json", "ram.bin"], 0)),
+    ("mkdir -p stale/state; cp memory/state/after.bin stale/state", ([], 0)),
+    ("zimgasol extract guest.sav stale", (["zimgasol: stale/state/after.bin: " + EXISTS], 3)),
+    ("zimgasol extract guest.sav stale --block ram", (["zimgasol: stale/state/after.bin: " + EXISTS], 3)),
+    ("find stale", (["stale", "stale/state", "stale/state/after.bin"], 0)),
+    ("zimgasol extract guest.sav stale --block ram --replace --quiet", ([], 0)),
+    ("ls stale", (["blocks.json", "ram.bin"], 0)),
+    ("zimgasol save --block ram=later.bin --channels 2 --frame machine --machine none joined.sav --quiet", ([], 0)),
+    ("zimgasol extract joined.sav withstate --channel joined.sav.0 --channel joined.sav.1 --quiet", ([], 0)),
+    ("zimgasol save --state withstate bare.sav --replace", (
+        ["bare.sav: saved: blocks 1, memory 131072 bytes, pages 32, stream 90486 bytes"], 0)),
+    ("zimgasol compare bare.sav now.sav --quiet", ([], 0)),
 ]
 
 def block_at_cut(data):
@@ -650,8 +785,14 @@ def record(block, page, content, last):
     return head + (b"\0" if zero else content)
 
 
-def part(records):
-    return b"\x02" + be("I", 1) + records + END_OF_RECORDS
+def pieces_digest(memory):
+    """The SHA-256 of the SHA-256s of the pieces of 64 KiB."""
+    pieces = [bytes(memory[at:at + 65536]) for at in range(0, len(memory), 65536)]
+    return hashlib.sha256(b"".join(hashlib.sha256(it).digest() for it in pieces)).hexdigest()
+
+
+def part(records, number=1):
+    return b"\x02" + be("I", number) + records + END_OF_RECORDS[:-4] + be("I", number)
 
 
 def main_stream():
@@ -687,10 +828,24 @@ def changed(content, before):
     return [(at, page if any(page) else None) for at, page in pages if before is None or page != before[at:at + 4096]]
 
 
-def saved(memory, before, machine, frame):
+def saved(memory, before, machine):
     """The stream that `save` makes: 256 pages of a block a section, only those that differ from `before`.
     Returns it with the number of pages in it."""
-    out, last, count = opening({it: len(content) for it, content in memory.items()}, machine), None, 0
+    out, count = sections(memory, before, 1)
+    return opening({it: len(content) for it, content in memory.items()}, machine) + out + b"\0", count
+
+
+def state_saved(memory, before, state):
+    """The stream of a machine that `save --state` makes, and the number of pages in it."""
+    number = struct.unpack(">I", state["before.bin"][state["before.bin"].index(b"\x03ram\0") - 4:][:4])[0]
+    out, count = sections(memory, before, number)
+    start_end = END_OF_RECORDS[:-4] + be("I", number)
+    return state.get("libvirt.bin", b"") + state["before.bin"] + start_end + out + state["after.bin"], count
+
+
+def sections(memory, before, number):
+    """RAM's sections after START, with this id, and the number of pages in them."""
+    out, last, count = b"", None, 0
     for block, content in memory.items():
         for start in range(0, len(content) // 4096, 256):
             records = b""
@@ -699,8 +854,8 @@ def saved(memory, before, machine, frame):
                 if before is None or content[at] != before[block][at]:
                     records += record(block, page, content[at], last)
                     last, count = block, count + 1
-            out += part(records) if records else b""
-    return out + b"\x03" + be("I", 1) + END_OF_RECORDS + b"\0", count
+            out += part(records, number) if records else b""
+    return out + b"\x03" + be("I", number) + END_OF_RECORDS[:-4] + be("I", number), count
 
 
 def lacking(found):
@@ -764,6 +919,8 @@ class Shell:
         if words[0] == "cat" and ">" in words:
             self.files[words[4]] = self.files[words[1]] + self.files[words[2]]
             return []
+        if words[0] == "ls":
+            return sorted(name[len(words[1]) + 1:] for name in self.files if name.startswith(f"{words[1]}/"))
         if words[0] == "cat":
             return self.files[words[1]].decode().splitlines()
         if words[1] in ("save", "compare"):
@@ -915,7 +1072,7 @@ class Shell:
         said = self.verify_several(name, words)
         status = self.status
         if not status:
-            self.lay_out(self.several(name, words), words)
+            self.lay_out(self.several(name, words), self.files[name], words)
         self.status = status
         return said
 
@@ -978,15 +1135,25 @@ class Shell:
                 blocks[block] = self.files[file]
             option[words[at]] = words[at + 1]
             at += 1 if words[at] == "--replace" else 2
+        state = self.state_in(option["--state"]) if "--state" in option else None
+        if state:
+            blocks = {it: blocks.get(it, content) for it, content in self.memory_of(option["--state"]).items()}
         before = None
         if "--since" in option:
             before = {it: self.files[f"{option['--since']}/{it}.bin"] for it in blocks}
         if "--channels" in option:
             return self.save_channels(words[at], blocks, before, option)
-        stream, pages = saved(blocks, before, option.get("--machine"), option.get("--frame", "ram"))
+        if state:
+            stream, pages = state_saved(blocks, before, state)
+        else:
+            stream, pages = saved(blocks, before, option.get("--machine"))
         name, total = words[at], sum(map(len, blocks.values()))
         self.files[name], self.status = stream, 0
         return [f"{name}: saved: blocks {len(blocks)}, memory {total} bytes, pages {pages}, stream {len(stream)} bytes"]
+
+    def state_in(self, folder):
+        """The files of a folder's state."""
+        return {name.rpartition("/")[2]: data for name, data in self.files.items() if name.startswith(f"{folder}/state/")}
 
     def save_channels(self, name, blocks, before, option):
         pages = [(it, changed(content, before and before[it])) for it, content in blocks.items()]
@@ -1076,11 +1243,11 @@ class Shell:
             return [f"zimgasol: {name}: {TOTAL}"]
         said = self.verify(name, data, words)
         if not self.status:
-            self.lay_out(self.facts(data), words)
+            self.lay_out(self.facts(data), data, words)
         return said
 
-    def lay_out(self, found, words):
-        """Puts the files of a folder: of each block its memory, over that in the folder of `--since`."""
+    def lay_out(self, found, data, words):
+        """Puts the files of a folder: of each block its memory, over that in the folder of `--since`, and the state."""
         folder, listed = words[3], f"{words[3]}/blocks.json"
         memories = dict(found["memory"])
         if "--since" in words:
@@ -1091,10 +1258,25 @@ class Shell:
                   for it, memory in memories.items()]
         if "--digest" not in words:
             blocks = [{key: it[key] for key in it if key != "sha256"} for it in blocks]
-        text = json.dumps({"page_size": 4096, "blocks": blocks}, indent=2, sort_keys=True) + "\n"
+        if "--fast-digest" in words:
+            blocks = [{**it, "sha256_64k": pieces_digest(memories[it["id"]])} for it in blocks]
+        state = self.lay_out_state(found, data, words)
+        text = json.dumps({"page_size": 4096, "blocks": blocks, **state}, indent=2, sort_keys=True) + "\n"
         self.files[listed] = text.encode()
         for it, memory in memories.items():
             self.files[f"{folder}/{it}.bin"] = bytes(memory)
+
+    def lay_out_state(self, found, data, words):
+        """Puts the files of the state of a machine's stream, and returns its member of the list; none where none is kept."""
+        for old in [it for it in self.files if it.startswith(f"{words[3]}/state/")]:
+            del self.files[old]
+        if "ram" in words or "--block" in words:
+            return {}
+        front, after = data[:found["list_end"]], data[found["end"]:]
+        files = {"libvirt.bin": front[:found["before"]], "before.bin": front[found["before"]:], "after.bin": after}
+        self.files.update({f"{words[3]}/state/{name}": content for name, content in files.items()
+                           if content or name != "libvirt.bin"})
+        return {"state": tail_facts.value(after)["tail"]["state"]}
 
     @staticmethod
     def over(memory, block, found):

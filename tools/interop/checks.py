@@ -2,13 +2,12 @@
 
 Each takes a `Bench`, and returns the text on what was compared, or raises `Differs`.
 """
-import time
 from dataclasses import dataclass
 from pathlib import Path
 
 import qemu
 from guests import MIB, NONE, PAGE, memory, memory_of, words_of
-from ours import (Differs, Programs, block_words, compare, extracted, fault_of, inspected,
+from ours import (Differs, Programs, block_words, compare, extracted, fault_of,
                   pages_that_differ, ran)
 
 # The rounds after which a guest that writes is stopped.
@@ -168,42 +167,3 @@ def chain(bench, other):
         loaded_as(status, {"ram": wanted}, {"ram": came})
         qemu.written_file(guest, last)
     return compare({"ram": wanted}, extracted(zimgasol, last, folder))
-
-
-def with_devices(bench, stream):
-    """A machine's file whose RAM `zimgasol` wrote anew, and whose devices are as in QEMU's."""
-    zimgasol, folder, out = bench.programs.zimgasol, bench.file("memory"), bench.file("chain.sav")
-    extracted(zimgasol, stream, folder)
-    found = inspected(zimgasol, stream)
-    machine = next(it["machine"] for it in found["notes"] if "machine" in it)
-    ran(zimgasol, "save", *block_words(folder), "--frame", "machine", "--machine", machine,
-        "--replace", out)
-    # (what `save` writes ends with the byte that ends it all)
-    out.write_bytes(out.read_bytes()[:-1] + stream.read_bytes()[found["end"]:])
-    return out
-
-
-def chain_devices(bench, kind):
-    """A machine's RAM goes through `zimgasol`, and QEMU loads it with the devices it had written.
-
-    A guest that ran runs on: the pages that its firmware writes change.
-    """
-    stream, wanted = write_file(bench, kind)
-    out = with_devices(bench, stream)
-    with bench.waiting(kind.mib * MIB, words_of(kind, bench.folder)) as guest:
-        status, ram = qemu.loaded_file(guest, out)
-        if status != "completed":
-            raise Differs(f"QEMU's load: {status}")
-        compared = compare_written(bench, kind, stream, wanted, guest.blocks())
-        if kind.writes:
-            guest.qmp.call("cont")
-            wait_for_change(guest, ram)
-    return compared
-
-
-def wait_for_change(guest, ram):
-    until = time.monotonic() + qemu.SECONDS
-    while guest.contents() == ram:
-        if time.monotonic() > until:
-            raise Differs("the guest doesn't run on")
-        time.sleep(0.05)

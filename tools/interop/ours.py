@@ -104,10 +104,6 @@ def block_words(folder):
     return [word for it in blocks for word in ("--block", f"{it['id']}={folder / it['file']}")]
 
 
-def inspected(zimgasol, stream):
-    return json.loads(ran(zimgasol, "inspect", stream, "--json"))
-
-
 def fault_of(said):
     """The number of the fault that a program printed; None where there is none."""
     found = re.search(r"\bfault (\d+)", said)

@@ -316,9 +316,10 @@ def loaded(guest, main, channels=()):
     return status, guest.contents()
 
 
-def loaded_file(guest, path):
-    """Has a guest that waits for a migration load a file. Returns what `loaded` returns."""
-    guest.qmp.call("migrate-incoming", uri=by_file(guest, path, "cat"))
+def loaded_file(guest, path, skip=0):
+    """Has a guest that waits for a migration load a file, from the byte `skip` on. Returns what `loaded` returns."""
+    uri = f"exec:tail -c +{skip + 1} {shlex.quote(str(path))}" if skip else by_file(guest, path, "cat")
+    guest.qmp.call("migrate-incoming", uri=uri)
     return guest.wait("completed", "failed"), guest.contents()
 
 

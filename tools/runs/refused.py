@@ -49,11 +49,13 @@ ZIMGASOL = ("verify guest.sav", "inspect guest.sav", "inspect guest.sav --json",
             "verify --frame ram two.sav --channel two.sav.0 --channel two.sav.1",
             "inspect --frame ram two.sav --channel two.sav.0 --channel two.sav.1",
             "extract --frame ram two.sav back --channel two.sav.0 --channel two.sav.1",
-            "save --block ram=memory/ram.bin --since back three.sav")
+            "save --block ram=memory/ram.bin --since back three.sav",
+            "extract guest.sav pieces --fast-digest", "save --state memory four.sav", "extract four.sav again --since memory", "save --state again --since memory five.sav")
 # Commands that end with status 3 since their files exist, and one that writes none; and what fails.
 UNSURE = ("extract guest.sav memory", "save --block ram=memory/ram.bin one.sav",
           "save --block ram=memory/ram.bin --channels 2 two.sav",
-          "extract --frame ram two.sav back --channel two.sav.0 --channel two.sav.1", "compare memory guest.sav")
+          "extract --frame ram two.sav back --channel two.sav.0 --channel two.sav.1", "compare memory guest.sav",
+          "save --state memory four.sav")
 ERRORS = (errno.EIO, errno.EACCES, errno.EINTR)
 
 

@@ -20,12 +20,13 @@ fn words_given(rt: &HostRuntime) -> io::Result<Vec<String>> {
     Ok(words)
 }
 
-// Returns what is known of the standard output.
+// Returns what is known of the standard output and the error output.
 fn screen(rt: &HostRuntime) -> Screen {
     let is_terminal = rt.stdout().is_terminal();
+    let has_error_terminal = rt.stderr().is_terminal();
     match env::var(rt, "COLUMNS") {
-        Ok(columns) => Screen::new(is_terminal, Some(&columns)),
-        Err(_) => Screen::new(is_terminal, None),
+        Ok(columns) => Screen::new(is_terminal, has_error_terminal, Some(&columns)),
+        Err(_) => Screen::new(is_terminal, has_error_terminal, None),
     }
 }
 

@@ -12,9 +12,11 @@ use std::alloc::{AllocError, AllocGlobal, Global};
 use std::fs::Files;
 use std::io::{self, ErrorKind, Read, Write};
 use std::rt::Clock;
+use std::thread::Threads;
 use zimgasol_files::{
-    CompareWords, ExtractWords, Folder, FolderBlock, PARTIAL, PIECE_PAGES, Packed, Pages, Reading,
-    StreamWords, Trouble, Unfit, open, path_in, read_folder, shown, shown_name, unfit, unwritten,
+    CompareWords, DigestWords, ExtractWords, Folder, FolderBlock, PARTIAL, PIECE_PAGES, Packed,
+    Pages, Reading, StreamWords, Trouble, Unfit, open, path_in, read_folder, shown, shown_name,
+    unfit, unwritten,
 };
 use zimgasol_output::put_wrongs;
 use zimgasol_reading::Survey;
@@ -173,7 +175,7 @@ fn of_stream(alloc: Global, name: &str, trouble: Trouble) -> Trouble {
 }
 
 // Extracts a stream, as `words` say. Adds its name to an error of reading it.
-fn named_survey<H: AllocGlobal + Files + Clock, R: Read, E: Write>(
+fn named_survey<H: AllocGlobal + Files + Clock + Threads + Sync, R: Read, E: Write>(
     rt: &H,
     words: &ExtractWords<'_>,
     input: &mut R,
@@ -198,7 +200,7 @@ fn put_wrongs_of<E: Write>(
 
 // Extracts a stream, as `words` say. Returns whether it is complete; a fault is written to
 // `errors`.
-fn is_extracted<H: AllocGlobal + Files + Clock, R: Read, E: Write>(
+fn is_extracted<H: AllocGlobal + Files + Clock + Threads + Sync, R: Read, E: Write>(
     rt: &H,
     words: &ExtractWords<'_>,
     input: &mut R,
@@ -210,7 +212,7 @@ fn is_extracted<H: AllocGlobal + Files + Clock, R: Read, E: Write>(
 
 // Extracts a stream into the folder `path`. Returns the list of its blocks; None if the stream has
 // a fault, which is written to `errors`.
-fn extracted<'a, H: AllocGlobal + Files + Clock, R: Read, E: Write>(
+fn extracted<'a, H: AllocGlobal + Files + Clock + Threads + Sync, R: Read, E: Write>(
     rt: &H,
     words: &StreamWords<'a>,
     path: &'a str,
@@ -223,8 +225,12 @@ fn extracted<'a, H: AllocGlobal + Files + Clock, R: Read, E: Write>(
         block: None,
         since: None,
         replace: false,
-        digest: false,
+        digest: DigestWords {
+            plain: false,
+            pieces: false,
+        },
         durable: false,
+        state: false,
     };
     if !is_extracted(rt, &extract, input, errors)? {
         return Ok(None);
@@ -245,7 +251,7 @@ fn is_folder<H: AllocGlobal + Files>(rt: &H, file: &str) -> Result<bool, Trouble
 
 // Returns the list of the blocks of `operand`. A stream is extracted first, into its folder of the
 // temporary one; None if it has a fault.
-fn blocks_of<H: AllocGlobal + Files + Clock, R: Read, E: Write>(
+fn blocks_of<H: AllocGlobal + Files + Clock + Threads + Sync, R: Read, E: Write>(
     rt: &H,
     words: &StreamWords<'_>,
     temporary: &mut Temporary,
@@ -487,7 +493,7 @@ fn compare_folders<H: AllocGlobal + Files, W: Write>(
 }
 
 // Reads both operands, and compares them. Returns whether both are complete and the same.
-fn compare_in<H: AllocGlobal + Files + Clock, R: Read, W: Write, E: Write>(
+fn compare_in<H: AllocGlobal + Files + Clock + Threads + Sync, R: Read, W: Write, E: Write>(
     rt: &H,
     words: &CompareWords<'_>,
     temporary: &mut Temporary,
@@ -511,7 +517,7 @@ fn compare_in<H: AllocGlobal + Files + Clock, R: Read, W: Write, E: Write>(
 /// `Trouble::Words` if both are the standard input, `Trouble::Unfit` if the page sizes differ or
 /// the temporary folders of 100 other runs exist, those of reading and extracting them, and
 /// `Trouble::Output`.
-pub(crate) fn compare<H: AllocGlobal + Files + Clock, R: Read, W: Write, E: Write>(
+pub(crate) fn compare<H: AllocGlobal + Files + Clock + Threads + Sync, R: Read, W: Write, E: Write>(
     rt: &H,
     words: &CompareWords<'_>,
     input: &mut R,

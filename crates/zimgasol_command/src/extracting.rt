@@ -2,26 +2,30 @@
 //!
 //! Pages are written to their places as they are read. A file gets its final name when the stream
 //! is complete and the file is synced to its disk. With `--since` each file begins as a copy of its
-//! block in another folder, and the stream's pages are written over it.
+//! block in another folder, and the stream's pages are written over it. The state of a machine beside
+//! its RAM is written into files of its own.
 
 use crate::leftovers::{leftovers, put_leftovers};
+use crate::state_files::StateFiles;
 use mig_mem::{Dirty, NoMemory, Place, Table};
 use mig_zero::is_zero;
-use serde_json::{Value, json};
+use serde_json::{Map, Value, put};
 use std::alloc::{AllocGlobal, Global};
 use std::fs::{Files, OpenFile};
 use std::io::{ErrorKind, Read, Write};
 use std::rt::Clock;
 use std::str;
+use std::thread::Threads;
 use zimgasol_files::{
-    BlockFile, BlockNames, ChannelWords, ExtractWords, Folder, LIST_NAME, PARTIAL, StreamWords,
-    Trouble, Unfit, block_value, complete_file, create, is_free, names_in, open, path_in,
-    piece_buffer, read_folder, rename, shown, shown_name, unfit, unwritten, write_at, write_text,
-    wrong,
+    BlockFile, BlockNames, ChannelWords, DigestWords, Digester, Digests, ExtractWords, Folder,
+    LIST_NAME, PARTIAL, StreamWords, Talk, Trouble, Unfit, Watch, block_value, complete_file,
+    create, is_free, names_in, open, path_in, piece_buffer, read_folder, rename, shown, shown_name,
+    unfit, unwritten, write_at, write_text, wrong,
 };
-use zimgasol_output::{put_judgement, put_several_judgement};
+use zimgasol_output::{put_judgement, put_several_judgement, tail_state};
 use zimgasol_reading::{
-    GuestSink, PageSink, Several, SinkTrouble, Survey, is_complete, read_several, read_stream,
+    Ending, GuestSink, PageSink, Several, SinkTrouble, Survey, is_complete, read_several,
+    read_stream,
 };
 
 /// The most bytes of consecutive pages that are written at once.
@@ -48,8 +52,11 @@ struct Extraction<H: Files> {
     block: Option<String>,
     // whether existing files are replaced
     replace: bool,
-    // whether the list has each file's digest
-    digest: bool,
+    // the digests of each file in the list
+    digest: DigestWords,
+    // the file that is read, and how its progress is shown
+    input: String,
+    talk: Talk,
     // whether a file is synced to its disk before it gets its final name
     durable: bool,
     // whether this run made the folder
@@ -62,6 +69,7 @@ struct Extraction<H: Files> {
     written: Option<Dirty>,
     run: Run,
     zeros: Vec<u8>,
+    state: StateFiles<H::File>,
 }
 
 impl<H: Files> Extraction<H> {
@@ -78,6 +86,8 @@ impl<H: Files> Extraction<H> {
             None => None,
         };
         let zeros = vec![in alloc; 0u8; 8192]?;
+        let input = String::from_str(alloc, words.stream.file)?;
+        let state = StateFiles::<H::File>::new(alloc, words.folder, words.keeps_state())?;
         let bytes = Vec::with_capacity(alloc, RUN_LEN)?;
         Ok(Extraction {
             alloc,
@@ -87,6 +97,8 @@ impl<H: Files> Extraction<H> {
             block,
             replace: words.replace,
             digest: words.digest,
+            input,
+            talk: words.stream.talk,
             durable: words.durable,
             made: false,
             page_size: words.stream.page_size.bytes(),
@@ -99,6 +111,7 @@ impl<H: Files> Extraction<H> {
                 bytes,
             },
             zeros,
+            state,
         })
     }
 
@@ -140,7 +153,7 @@ impl<H: Files> Extraction<H> {
             path,
             len,
             file,
-            digest: None,
+            digests: Digests::none(),
         })?;
         Ok(())
     }
@@ -206,27 +219,9 @@ impl<H: Files> Extraction<H> {
         Ok(true)
     }
 
-    // Completes all files, and renames them.
-    fn complete(&mut self, rt: &H) -> Result<(), Trouble> {
-        self.write_run()?;
-        let mut buffer = piece_buffer(self.alloc)?;
-        let digest = self.digest;
-        let durable = self.durable;
-        for file in &mut self.files {
-            match complete_file(file, durable, digest, &mut buffer) {
-                Ok(()) => {}
-                Err(Trouble::Unread(error)) => {
-                    return Err(unwritten(self.alloc, &file.partial_path, error));
-                }
-                Err(trouble) => return Err(trouble),
-            }
-        }
-        self.write_list(rt)?;
-        self.rename_all(rt)
-    }
-
     // Gives all files their final names, the list last.
     fn rename_all(&self, rt: &H) -> Result<(), Trouble> {
+        self.state.complete(rt)?;
         for file in &self.files {
             rename(rt, self.alloc, &file.partial_path, &file.path)?;
         }
@@ -234,8 +229,8 @@ impl<H: Files> Extraction<H> {
     }
 
     // Writes the list of blocks.
-    fn write_list(&self, rt: &H) -> Result<(), Trouble> {
-        let text = self.list()?.to_string_pretty(self.alloc)?;
+    fn write_list(&self, rt: &H, ending: &Ending) -> Result<(), Trouble> {
+        let text = self.list(ending)?.to_string_pretty(self.alloc)?;
         let mut file = create(rt, self.alloc, &self.list_partial)?;
         match write_text(&mut file, text.as_bytes()) {
             Ok(()) => Ok(()),
@@ -243,28 +238,26 @@ impl<H: Files> Extraction<H> {
         }
     }
 
-    // Returns the list of blocks.
-    fn list(&self) -> Result<Value, Trouble> {
+    // Returns the entries on the blocks.
+    fn entries(&self) -> Result<Value, Trouble> {
         let mut list = Vec::new(self.alloc);
         for file in &self.files {
             list.push(block_value(self.alloc, file)?)?;
         }
-        let list = Value::Array(list);
-        Ok(json!(in self.alloc; {"page_size": self.page_size, "blocks": list})?)
+        Ok(Value::Array(list))
     }
 
-    // Completes all files if the stream is complete. Removes them if it isn't, or if they can't be
-    // completed.
-    fn finish(&mut self, rt: &H, is_whole: bool) -> Result<(), Trouble> {
-        if !is_whole {
-            self.remove(rt);
-            return Ok(());
+    // Returns the list of blocks, with what is known of the state, if it was kept.
+    fn list(&self, ending: &Ending) -> Result<Value, Trouble> {
+        let alloc = self.alloc;
+        let mut list = Map::new(alloc);
+        put(&mut list, alloc, "page_size", Value::from(self.page_size))?;
+        put(&mut list, alloc, "blocks", self.entries()?)?;
+        if self.state.are_made() {
+            let state = Value::try_from_str(alloc, tail_state(ending))?;
+            put(&mut list, alloc, "state", state)?;
         }
-        let completed = self.complete(rt);
-        if completed.is_err() {
-            self.remove(rt);
-        }
-        completed
+        Ok(Value::Object(list))
     }
 
     // Removes the files that have no final name, and the folder if this run made it. It takes no
@@ -274,9 +267,100 @@ impl<H: Files> Extraction<H> {
             let _left = rt.remove_file(&file.partial_path);
         }
         let _left = rt.remove_file(&self.list_partial);
+        self.state.remove(rt);
         if self.made {
             let _left = rt.remove_dir(&self.folder);
         }
+    }
+}
+
+impl<H: Files + Clock + Threads + Sync> Extraction<H> {
+    // Sets the length of each file, and syncs it to its disk.
+    fn complete_files(&mut self) -> Result<(), Trouble> {
+        let durable = self.durable;
+        for file in &mut self.files {
+            match complete_file(file, durable) {
+                Ok(()) => {}
+                Err(Trouble::Unread(error)) => {
+                    return Err(unwritten(self.alloc, &file.partial_path, error));
+                }
+                Err(trouble) => return Err(trouble),
+            }
+        }
+        if durable {
+            self.state.sync()?;
+        }
+        Ok(())
+    }
+
+    // Computes the digests of each file by `digester`.
+    fn add_digests<E: Write>(
+        &mut self,
+        rt: &H,
+        digester: &mut Digester,
+        errors: &mut E,
+    ) -> Result<(), Trouble> {
+        for file in &mut self.files {
+            match digester.digests_of(rt, &mut file.file, errors) {
+                Ok(digests) => file.digests = digests,
+                Err(Trouble::Unread(error)) => {
+                    return Err(unwritten(self.alloc, &file.partial_path, error));
+                }
+                Err(trouble) => return Err(trouble),
+            }
+        }
+        Ok(())
+    }
+
+    // Computes the digests of each file, if there are to be some.
+    fn digest_files<E: Write>(&mut self, rt: &H, errors: &mut E) -> Result<(), Trouble> {
+        if !self.digest.are_some() {
+            return Ok(());
+        }
+        let mut total = 0u64;
+        for file in &self.files {
+            total = total.saturating_add(file.len);
+        }
+        let watch = Watch::new(rt, self.alloc, self.talk, &self.input)?;
+        let watch = watch.in_stage("digest: ", total);
+        let mut digester = Digester::new(self.alloc, self.digest, watch)?;
+        let added = self.add_digests(rt, &mut digester, errors);
+        digester.end(errors);
+        added
+    }
+
+    // Completes all files, and renames them. `ending` is what is known of the bytes after RAM.
+    fn complete<E: Write>(
+        &mut self,
+        rt: &H,
+        ending: &Ending,
+        errors: &mut E,
+    ) -> Result<(), Trouble> {
+        self.write_run()?;
+        self.complete_files()?;
+        self.digest_files(rt, errors)?;
+        self.write_list(rt, ending)?;
+        self.rename_all(rt)
+    }
+
+    // Completes all files if the stream is complete. Removes them if it isn't, or if they can't be
+    // completed.
+    fn finish<E: Write>(
+        &mut self,
+        rt: &H,
+        is_whole: bool,
+        ending: &Ending,
+        errors: &mut E,
+    ) -> Result<(), Trouble> {
+        if !is_whole {
+            self.remove(rt);
+            return Ok(());
+        }
+        let completed = self.complete(rt, ending, errors);
+        if completed.is_err() {
+            self.remove(rt);
+        }
+        completed
     }
 }
 
@@ -369,6 +453,7 @@ impl<H: Files> GuestSink<H> for Extraction<H> {
     fn begin(&mut self, rt: &H, table: &Table) -> Result<(), Trouble> {
         self.make_folder(rt)?;
         self.is_free(rt, &self.list_path)?;
+        self.state.check_free(rt, self.replace)?;
         self.open_blocks(rt, table)?;
         self.written = Some(Dirty::none(self.alloc, table)?);
         if let Some(since) = self.since.take() {
@@ -380,6 +465,18 @@ impl<H: Files> GuestSink<H> for Extraction<H> {
             return Err(Trouble::NoBlock(shown(self.alloc, id.as_bytes())?));
         }
         Ok(())
+    }
+
+    fn keeps_state(&self) -> bool {
+        self.state.is_kept
+    }
+
+    fn take_front(&mut self, rt: &H, libvirt: &[u8], stream: &[u8]) -> Result<(), Trouble> {
+        self.state.begin(rt, libvirt, stream)
+    }
+
+    fn take_after(&mut self, bytes: &[u8]) -> Result<(), Trouble> {
+        self.state.write_after(bytes)
     }
 }
 
@@ -447,7 +544,7 @@ fn read_single<H: AllocGlobal + Files + Clock, R: Read, E: Write>(
 
 // Reads a single stream into the files of `extraction`, and completes or removes them. Returns the
 // survey of the stream.
-fn fill_single<H: AllocGlobal + Files + Clock, R: Read, E: Write>(
+fn fill_single<H: AllocGlobal + Files + Clock + Threads + Sync, R: Read, E: Write>(
     rt: &H,
     words: &ExtractWords<'_>,
     extraction: &mut Extraction<H>,
@@ -456,18 +553,18 @@ fn fill_single<H: AllocGlobal + Files + Clock, R: Read, E: Write>(
 ) -> Result<Survey, Trouble> {
     let mut survey = read_single(rt, &words.stream, extraction, input, errors)?;
     survey.is_laid_over = words.since.is_some();
-    extraction.finish(rt, is_complete(&survey))?;
+    extraction.finish(rt, is_complete(&survey), &survey.ending, errors)?;
     Ok(survey)
 }
 
-/// Extracts the memory of a single stream. Returns the survey of the stream. If the stream isn't
+/// Extracts the memory of a single stream, and its state. Returns the survey of the stream. If the stream isn't
 /// complete, all files are removed.
 ///
 /// # Errors
 ///
 /// Those of `read_stream`, `read_folder` and `is_free`, and `Trouble::OfFile` if a file can't be
 /// written. No file stays under its final name, unless it is the renaming that fails.
-pub(crate) fn extract_survey<H: AllocGlobal + Files + Clock, R: Read, E: Write>(
+pub(crate) fn extract_survey<H: AllocGlobal + Files + Clock + Threads + Sync, R: Read, E: Write>(
     rt: &H,
     words: &ExtractWords<'_>,
     input: &mut R,
@@ -508,7 +605,7 @@ fn read_channels<H: AllocGlobal + Files + Clock, R: Read, E: Write>(
 
 // Reads a main stream and its channels into the files of `extraction`, and completes or removes
 // them. Returns the survey of all sources.
-fn fill_several<H: AllocGlobal + Files + Clock, R: Read, E: Write>(
+fn fill_several<H: AllocGlobal + Files + Clock + Threads + Sync, R: Read, E: Write>(
     rt: &H,
     words: &ExtractWords<'_>,
     channels: &ChannelWords<'_>,
@@ -526,12 +623,12 @@ fn fill_several<H: AllocGlobal + Files + Clock, R: Read, E: Write>(
     );
     let mut several = read?;
     several.is_laid_over = words.since.is_some();
-    extraction.finish(rt, several.is_complete())?;
+    extraction.finish(rt, several.is_complete(), &several.main.ending, errors)?;
     Ok(several)
 }
 
 // Extracts the memory of a main stream and its channels. Returns the survey of all sources.
-fn survey_several<H: AllocGlobal + Files + Clock, R: Read, E: Write>(
+fn survey_several<H: AllocGlobal + Files + Clock + Threads + Sync, R: Read, E: Write>(
     rt: &H,
     words: &ExtractWords<'_>,
     channels: &ChannelWords<'_>,
@@ -557,7 +654,7 @@ fn judge_several<F: Read + OpenFile + Drop, W: Write, E: Write>(
 
 // Extracts the memory of a main stream and its channels, and prints the verdict. Returns whether
 // all sources are complete; `name` is printable.
-fn extract_several<H: AllocGlobal + Files + Clock, R: Read, W: Write, E: Write>(
+fn extract_several<H: AllocGlobal + Files + Clock + Threads + Sync, R: Read, W: Write, E: Write>(
     rt: &H,
     words: &ExtractWords<'_>,
     channels: &ChannelWords<'_>,
@@ -572,7 +669,7 @@ fn extract_several<H: AllocGlobal + Files + Clock, R: Read, W: Write, E: Write>(
 
 // Extracts the memory of a stream, with its channels, and prints the verdict. Returns whether it is
 // complete.
-fn extract_stream<H: AllocGlobal + Files + Clock, R: Read, W: Write, E: Write>(
+fn extract_stream<H: AllocGlobal + Files + Clock + Threads + Sync, R: Read, W: Write, E: Write>(
     rt: &H,
     words: &ExtractWords<'_>,
     channels: &ChannelWords<'_>,
@@ -596,7 +693,7 @@ fn extract_stream<H: AllocGlobal + Files + Clock, R: Read, W: Write, E: Write>(
 ///
 /// `Trouble::Words` if the folder is `-`, those of `extract_survey` and `read_several`, and
 /// `Trouble::Output`: then the files stay.
-pub(crate) fn extract<H: AllocGlobal + Files + Clock, R: Read, W: Write, E: Write>(
+pub(crate) fn extract<H: AllocGlobal + Files + Clock + Threads + Sync, R: Read, W: Write, E: Write>(
     rt: &H,
     words: &ExtractWords<'_>,
     channels: &ChannelWords<'_>,

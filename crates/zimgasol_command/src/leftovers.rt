@@ -4,7 +4,7 @@ use std::alloc::{AllocError, AllocGlobal, Global};
 use std::fs::Files;
 use std::io::{Read, Write};
 use std::str;
-use zimgasol_files::{PARTIAL, Trouble, path_in, shown_name};
+use zimgasol_files::{PARTIAL, STATE_NAME, Trouble, path_in, shown_name};
 
 /// The bytes of names that are read at once: a name has at most 255, and a NUL.
 const NAMES_LEN: usize = 4_096;
@@ -51,7 +51,28 @@ fn add_partials(
     Ok(())
 }
 
-/// Returns the incomplete files in `folder`. If the folder can't be listed, returns none.
+// Adds the incomplete files in `folder` to `found`. If the folder can't be listed, adds none.
+fn add_leftovers<H: AllocGlobal + Files>(
+    rt: &H,
+    found: &mut Vec<Leftover>,
+    folder: &str,
+) -> Result<(), Trouble> {
+    let alloc = rt.alloc();
+    let mut buffer = vec![in alloc; 0u8; NAMES_LEN]?;
+    let Ok(mut names) = rt.open_dir(folder) else {
+        return Ok(());
+    };
+    for _ in 0..u64::MAX {
+        match names.read(&mut buffer) {
+            Ok(len) if len != 0 => add_partials(alloc, found, folder, &buffer[..len])?,
+            _ => break,
+        }
+    }
+    Ok(())
+}
+
+/// Returns the incomplete files in `folder`, and in its folder of the state. If a folder can't be
+/// listed, returns none of it.
 ///
 /// # Errors
 ///
@@ -62,16 +83,9 @@ pub(crate) fn leftovers<H: AllocGlobal + Files>(
 ) -> Result<Vec<Leftover>, Trouble> {
     let alloc = rt.alloc();
     let mut found = Vec::new(alloc);
-    let mut buffer = vec![in alloc; 0u8; NAMES_LEN]?;
-    let Ok(mut names) = rt.open_dir(folder) else {
-        return Ok(found);
-    };
-    for _ in 0..u64::MAX {
-        match names.read(&mut buffer) {
-            Ok(len) if len != 0 => add_partials(alloc, &mut found, folder, &buffer[..len])?,
-            _ => break,
-        }
-    }
+    add_leftovers(rt, &mut found, folder)?;
+    let state = path_in(alloc, folder, STATE_NAME, "")?;
+    add_leftovers(rt, &mut found, &state)?;
     Ok(found)
 }
 

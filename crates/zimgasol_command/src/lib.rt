@@ -12,6 +12,7 @@
 //! | `troubles` | the status and the message of what ends a command |
 //! | `verifying` | verifies one file after another |
 //! | `extracting` | writes each block into a file |
+//! | `state_files` | writes the state beside RAM |
 //! | `leftovers` | names the files that a killed run left |
 //! | `comparing`, `differing` | list the pages that differ |
 #![tactic(auto)]
@@ -22,6 +23,7 @@ mod extracting;
 mod leftovers;
 mod running;
 mod screen;
+mod state_files;
 mod troubles;
 mod verifying;
 

@@ -13,8 +13,9 @@ use std::alloc::{AllocError, AllocGlobal, Global};
 use std::fs::{Files, OpenFile};
 use std::io::{self, Read, Write};
 use std::rt::Clock;
+use std::thread::Threads;
 use zimgasol_files::{
-    ChannelWords, Request, SaveWords, StreamWords, Trouble, asked, shown_name, wrong,
+    ChannelWords, Request, SaveWords, StreamWords, Trouble, Unasked, asked, shown_name, wrong,
 };
 use zimgasol_output::{
     put_all_wrongs, put_json, put_lines, put_several_all_wrongs, put_several_json,
@@ -27,7 +28,7 @@ use zimgasol_saving::save;
 /// if something is refused or differs, `WORDS` or `FAILED`. `screen` is what is known of `output`.
 ///
 /// Errors are written to `errors`. A failure to write to `errors` doesn't change the status.
-pub fn run<H: AllocGlobal + Files + Clock, R: Read, W: Write, E: Write>(
+pub fn run<H: AllocGlobal + Files + Clock + Threads + Sync, R: Read, W: Write, E: Write>(
     rt: &H,
     words: &[String],
     screen: Screen,
@@ -35,11 +36,18 @@ pub fn run<H: AllocGlobal + Files + Clock, R: Read, W: Write, E: Write>(
     output: &mut W,
     errors: &mut E,
 ) -> u8
+where
+    H::File: Send + Sync,
+    H::Dir: Send + Sync,
     ensures status { result ≤ 3 }
 {
-    match asked(rt.alloc(), words) {
+    match asked(rt.alloc(), words, screen.has_error_terminal) {
         Ok(request) => done(rt, &request, screen, input, output, errors),
-        Err(error) => said(rt.alloc(), screen, output, errors, &error),
+        Err(Unasked::Said(error)) => said(rt.alloc(), screen, output, errors, &error),
+        Err(Unasked::Trouble(trouble)) => {
+            let _ = put_named_trouble(rt.alloc(), errors, "", &trouble);
+            trouble_status(&trouble)
+        }
     }
 }
 
@@ -136,7 +144,7 @@ fn status_of(is_well: Result<bool, Trouble>) -> Result<u8, Trouble>
 }
 
 // Executes `request`. Returns the exit status.
-fn executed<H: AllocGlobal + Files + Clock, R: Read, W: Write, E: Write>(
+fn executed<H: AllocGlobal + Files + Clock + Threads + Sync, R: Read, W: Write, E: Write>(
     rt: &H,
     request: &Request<'_>,
     screen: Screen,
@@ -144,6 +152,9 @@ fn executed<H: AllocGlobal + Files + Clock, R: Read, W: Write, E: Write>(
     output: &mut W,
     errors: &mut E,
 ) -> Result<u8, Trouble>
+where
+    H::File: Send + Sync,
+    H::Dir: Send + Sync,
     ensures { IfOk result (λ status. status ≤ 3) }
 {
     match request {
@@ -171,7 +182,7 @@ fn file_of<'a>(request: &Request<'a>) -> &'a str {
 }
 
 // Executes `request`, reports its trouble, and returns the exit status.
-fn done<H: AllocGlobal + Files + Clock, R: Read, W: Write, E: Write>(
+fn done<H: AllocGlobal + Files + Clock + Threads + Sync, R: Read, W: Write, E: Write>(
     rt: &H,
     request: &Request<'_>,
     screen: Screen,
@@ -179,6 +190,9 @@ fn done<H: AllocGlobal + Files + Clock, R: Read, W: Write, E: Write>(
     output: &mut W,
     errors: &mut E,
 ) -> u8
+where
+    H::File: Send + Sync,
+    H::Dir: Send + Sync,
     ensures { result ≤ 3 }
 {
     match executed(rt, request, screen, input, output, errors) {

@@ -1,4 +1,4 @@
-//! What is known of the standard output, and text that is fitted to its width.
+//! What is known of the standard output and the error output, and text that is fitted to a width.
 
 ghost use Rattle.std.specs.Prelude.{◌≤◌};
 
@@ -10,19 +10,22 @@ const LEAST_COLUMNS: usize = 40;
 
 const MOST_COLUMNS: usize = 80;
 
-/// What is known of the standard output.
+/// What is known of the standard output and the error output.
 #[derive(Clone, Copy, Debug)]
 pub struct Screen {
-    /// Whether it is a terminal.
+    /// Whether the standard output is a terminal.
     pub is_terminal: bool,
+    /// Whether the error output is a terminal.
+    pub has_error_terminal: bool,
     /// The columns that help is fitted to.
     pub columns: usize,
 }
 
 impl Screen {
-    /// Creates the screen of an output. `columns` is the variable COLUMNS, if it is set. Below 40 it
-    /// counts as 40, and above 80, or if it is no number, as 80.
-    pub fn new(is_terminal: bool, columns: Option<&str>) -> Screen
+    /// Creates the screen of the two outputs, of which each may be a terminal. `columns` is the
+    /// variable COLUMNS, if it is set. Below 40 it counts as 40, and above 80, or if it is no number,
+    /// as 80.
+    pub fn new(is_terminal: bool, has_error_terminal: bool, columns: Option<&str>) -> Screen
         ensures least { 40 ≤ result.columns }
         ensures most { result.columns ≤ 80 }
     {
@@ -34,6 +37,7 @@ impl Screen {
         }
         Screen {
             is_terminal,
+            has_error_terminal,
             columns: wanted.max(LEAST_COLUMNS).min(MOST_COLUMNS),
         }
     }

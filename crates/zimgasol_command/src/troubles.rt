@@ -26,7 +26,7 @@ pub(crate) fn trouble_status(trouble: &Trouble) -> u8
 {
     match trouble {
         Trouble::Libvirt(_) | Trouble::Refused(_, _) | Trouble::NoBlock(_) => REFUSED,
-        Trouble::TooLarge | Trouble::Packed(_, _) => REFUSED,
+        Trouble::TooLarge | Trouble::LongFront(_) | Trouble::Packed(_, _) => REFUSED,
         Trouble::Unfit(_, why) => unfit_status(*why),
         Trouble::Words(_, _) => WORDS,
         _ => FAILED,
@@ -39,6 +39,7 @@ fn unfit_status(why: Unfit) -> u8
 {
     match why {
         Unfit::Pages(_, _) | Unfit::Empty | Unfit::NoBlock | Unfit::OtherLen(_, _) => REFUSED,
+        Unfit::NotInState | Unfit::NoMemory | Unfit::StateLen(_, _) => REFUSED,
         _ => FAILED,
     }
 }
@@ -79,6 +80,10 @@ pub(crate) fn put_message<E: Write>(
         }
         Trouble::Unfit(name, why) => put_unfit(errors, name, *why),
         Trouble::TooLarge => write!(errors, "the blocks have more than 2^40 bytes together"),
+        Trouble::LongFront(len) => write!(
+            errors,
+            "{name}: has {len} bytes or more before RAM, and `extract` keeps at most 67108864; `--block` extracts without them"
+        ),
         Trouble::Words(words, why) => write!(errors, "{words}: {why}"),
         Trouble::Refused(name, why) => write!(errors, "{name}: {why}"),
         Trouble::NoBlock(id) => write!(errors, "{name}: has no block \"{id}\""),
@@ -135,5 +140,18 @@ fn put_unfit<E: Write>(errors: &mut E, name: &str, why: Unfit) -> io::Result<()>
             write!(errors, "has {len} bytes, and `blocks.json` lists {listed}")
         }
         Unfit::IdTwice => write!(errors, "lists an id twice"),
+        Unfit::NoState => write!(
+            errors,
+            "lists no state: `extract` keeps that of a machine's stream, without `--block`"
+        ),
+        Unfit::NotInState => write!(errors, "isn't a block of the machine in `--state`"),
+        Unfit::NoMemory => write!(
+            errors,
+            "is a block of the machine in `--state`, and no file has its memory"
+        ),
+        Unfit::StateLen(len, other) => write!(
+            errors,
+            "has {len} bytes, and the block of the machine in `--state` {other}"
+        ),
     }
 }

@@ -1,20 +1,23 @@
-//! `verify`: reports whether saved guests are complete, one file after another.
+//! `verify`: reports whether saved guests are complete, one file after another or some at once.
 
-ghost use Rattle.std.specs.Prelude.{◌≡◌, ◌≤◌, ◌<◌, IfOk};
+ghost use Rattle.std.specs.Prelude.{◌≡◌, ◌↔◌, ◌≤◌, ◌<◌, IfOk, IsNone, IsTrue};
+ghost use Rattle.zimgasol_reading.specs.Coverage.{IsComplete};
 
 use crate::troubles::{FAILED, REFUSED, WELL, put_message, put_named_trouble, trouble_status};
+use rayon::prelude::*;
 use serde_json::json;
-use std::alloc::{AllocGlobal, Global};
-use std::fs::{Files, OpenFile};
+use std::alloc::{AllocError, AllocGlobal, Global};
+use std::fs::{File, Files, Metadata, OpenFile};
 use std::io::{self, Read, Write};
 use std::rt::Clock;
 use std::str;
-use zimgasol_files::{StreamWords, Trouble, VerifyWords, shown_name, wrong};
+use std::thread::Threads;
+use zimgasol_files::{StreamWords, Talk, Trouble, VerifyWords, shown_name, wrong};
 use zimgasol_output::{
     put_all_wrongs, put_json_line, put_several_all_wrongs, put_several_json_line,
     put_several_verdict, put_verdict,
 };
-use zimgasol_reading::{NoSink, Several, read_several, read_stream};
+use zimgasol_reading::{NoSink, Several, Survey, read_input, read_several};
 
 // How many files were verified, by their status.
 #[derive(Clone, Copy)]
@@ -78,7 +81,7 @@ fn output_failed(error: io::Error) -> Trouble {
     Trouble::Output(error)
 }
 
-// Refuses channels of several files, and the standard input twice.
+// Refuses channels of several files, the standard input twice, and beside other files at once.
 fn check_words(alloc: Global, words: &VerifyWords<'_>) -> Result<(), Trouble> {
     let is_single = words.channels.is_single(alloc)?;
     if words.files.len() < 2 {
@@ -96,11 +99,55 @@ fn check_words(alloc: Global, words: &VerifyWords<'_>) -> Result<(), Trouble> {
             "only one FILE can be the standard input",
         ));
     }
+    if words.jobs > 1 && words.files.iter().any(|file| *file == "-") {
+        return Err(wrong(
+            alloc,
+            "FILE",
+            "-",
+            "goes without `--jobs`, or is the only FILE",
+        ));
+    }
     Ok(())
 }
 
-// Reads a single stream, and prints whether it is complete. Returns whether it is; `name` is
-// printable.
+// Prints whether a single stream is complete, with what follows its RAM. Returns whether it is;
+// `name` is printable.
+fn judge_single<W: Write, E: Write>(
+    alloc: Global,
+    talk: Talk,
+    json: bool,
+    name: &str,
+    survey: &Survey,
+    output: &mut W,
+    errors: &mut E,
+) -> Result<bool, Trouble>
+    ensures verdict { IfOk result (λ is_whole. IsTrue is_whole ↔ (IsComplete survey.now × IsNone survey.now.ending.fault)) }
+{
+    if json {
+        put_json_line(alloc, output, name, survey)?;
+        return put_all_wrongs(alloc, errors, name, survey);
+    }
+    put_verdict(alloc, output, errors, name, survey, talk)
+}
+
+// Reads the stream in `input`, prints whether it is complete, and returns whether it is. `metadata`
+// is that of the file that `input` is, if it is one; `name` is printable.
+fn verify_input<H: AllocGlobal + Files + Clock, R: Read, W: Write, E: Write>(
+    rt: &H,
+    words: &StreamWords<'_>,
+    metadata: Option<&Metadata>,
+    json: bool,
+    name: &str,
+    input: &mut R,
+    output: &mut W,
+    errors: &mut E,
+) -> Result<bool, Trouble> {
+    let survey = read_input(rt, words, metadata, input, &mut NoSink, errors)?;
+    judge_single(rt.alloc(), words.talk, json, name, &survey, output, errors)
+}
+
+// Reads a single stream from its file or from `input`, and prints whether it is complete. Returns
+// whether it is; `name` is printable.
 fn verify_single<H: AllocGlobal + Files + Clock, R: Read, W: Write, E: Write>(
     rt: &H,
     words: &StreamWords<'_>,
@@ -110,13 +157,21 @@ fn verify_single<H: AllocGlobal + Files + Clock, R: Read, W: Write, E: Write>(
     output: &mut W,
     errors: &mut E,
 ) -> Result<bool, Trouble> {
-    let alloc = rt.alloc();
-    let survey = read_stream(rt, words, input, &mut NoSink, errors)?;
-    if json {
-        put_json_line(alloc, output, name, &survey)?;
-        return put_all_wrongs(alloc, errors, name, &survey);
+    if words.file == "-" {
+        return verify_input(rt, words, None, json, name, input, output, errors);
     }
-    put_verdict(alloc, output, errors, name, &survey, words.talk)
+    let mut file = File::open(rt, words.file).map_err(Trouble::Unread)?;
+    let metadata = file.metadata().ok();
+    verify_input(
+        rt,
+        words,
+        metadata.as_ref(),
+        json,
+        name,
+        &mut file,
+        output,
+        errors,
+    )
 }
 
 // Prints whether a main stream and its channels are complete. Returns whether they are; `name` is
@@ -218,6 +273,14 @@ fn report<W: Write, E: Write>(
     Ok(trouble_status(&trouble))
 }
 
+// Returns the status of a file that was read.
+fn whole_status(is_whole: bool) -> u8
+    ensures passed { result ≡ 0 ↔ IsTrue is_whole }
+    ensures bound { result ≤ 1 }
+{
+    if is_whole { WELL } else { REFUSED }
+}
+
 // Verifies `file`. Returns its status.
 fn verify_file<'a, H: AllocGlobal + Files + Clock, R: Read, W: Write, E: Write>(
     rt: &H,
@@ -229,10 +292,129 @@ fn verify_file<'a, H: AllocGlobal + Files + Clock, R: Read, W: Write, E: Write>(
 ) -> Result<u8, Trouble> {
     let stream = words.stream_in(file);
     match verify_stream(rt, words, &stream, input, output, errors) {
-        Ok(true) => Ok(WELL),
-        Ok(false) => Ok(REFUSED),
+        Ok(is_whole) => Ok(whole_status(is_whole)),
         Err(trouble) => report(rt.alloc(), words, file, trouble, output, errors),
     }
+}
+
+// What was found of a file that was read beside others.
+#[derive(Drop)]
+struct Found {
+    // its status, or trouble that ends the command
+    status: Result<u8, Trouble>,
+    // what is printed of it
+    output: Vec<u8>,
+    errors: Vec<u8>,
+}
+
+// Verifies the file `number` in the arguments, which isn't the standard input, and keeps what is
+// printed.
+fn found_of<H: AllocGlobal + Files + Clock>(
+    rt: &H,
+    words: &VerifyWords<'_>,
+    number: usize,
+) -> Found {
+    let mut nothing: &[u8] = &[];
+    let mut output = Vec::new(rt.alloc());
+    let mut errors = Vec::new(rt.alloc());
+    let status = match words.files.get(number) {
+        Some(file) => verify_file(rt, words, *file, &mut nothing, &mut output, &mut errors),
+        None => Ok(FAILED),
+    };
+    Found {
+        status,
+        output,
+        errors,
+    }
+}
+
+// Verifies `count` files at once, from the file `first` in the arguments on.
+fn found_at_once<H: AllocGlobal + Files + Clock + Threads + Sync>(
+    rt: &H,
+    words: &VerifyWords<'_>,
+    first: usize,
+    count: usize,
+) -> Result<Vec<Found>, AllocError>
+where
+    H::File: Send + Sync,
+    H::Dir: Send + Sync,
+{
+    (0..count)
+        .into_par_iter()
+        .with_min_len(1)
+        .map(|i: usize| -> Found { found_of(rt, words, first.saturating_add(i)) })
+        .collect(rt, rt.alloc())
+}
+
+// Verifies `count` files at once, from the file `first` in the arguments on. Prints what it found of
+// each, in their order, and counts them.
+fn verify_at_once<H: AllocGlobal + Files + Clock + Threads + Sync, W: Write, E: Write>(
+    rt: &H,
+    words: &VerifyWords<'_>,
+    first: usize,
+    count: usize,
+    tally: &mut Tally,
+    output: &mut W,
+    errors: &mut E,
+) -> Result<(), Trouble>
+where
+    H::File: Send + Sync,
+    H::Dir: Send + Sync,
+{
+    for found in found_at_once(rt, words, first, count)? {
+        output.write_all(&found.output).map_err(output_failed)?;
+        let _ = errors.write_all(&found.errors);
+        tally.add(found.status?);
+    }
+    Ok(())
+}
+
+// Verifies all files, `jobs` at once, and counts them.
+fn verify_by_jobs<H: AllocGlobal + Files + Clock + Threads + Sync, W: Write, E: Write>(
+    rt: &H,
+    words: &VerifyWords<'_>,
+    tally: &mut Tally,
+    output: &mut W,
+    errors: &mut E,
+) -> Result<(), Trouble>
+where
+    H::File: Send + Sync,
+    H::Dir: Send + Sync,
+{
+    let files = words.files.len();
+    let mut first = 0;
+    for _ in 0..files {
+        if first >= files {
+            break;
+        }
+        let count = words.jobs.min(files - first);
+        verify_at_once(rt, words, first, count, tally, output, errors)?;
+        first = first.saturating_add(words.jobs);
+    }
+    Ok(())
+}
+
+// Verifies all files, and returns how many have which status.
+fn tally_of<H: AllocGlobal + Files + Clock + Threads + Sync, R: Read, W: Write, E: Write>(
+    rt: &H,
+    words: &VerifyWords<'_>,
+    input: &mut R,
+    output: &mut W,
+    errors: &mut E,
+) -> Result<Tally, Trouble>
+where
+    H::File: Send + Sync,
+    H::Dir: Send + Sync,
+{
+    let mut tally = Tally::new();
+    if words.jobs > 1 && words.files.len() > 1 {
+        verify_by_jobs(rt, words, &mut tally, output, errors)?;
+        return Ok(tally);
+    }
+    for file in &words.files {
+        tally.add(verify_file(rt, words, *file, input, output, errors)?);
+    }
+    Ok(tally)
 }
 
 /// Verifies each file, and prints what it found of it: of several files also their sum. Returns the
@@ -242,20 +424,20 @@ fn verify_file<'a, H: AllocGlobal + Files + Clock, R: Read, W: Write, E: Write>(
 ///
 /// `Trouble::Words` of channels of several files, or the standard input twice, `Trouble::Output`
 /// and `Trouble::NoMemory`: then no more files are read.
-pub(crate) fn verify<H: AllocGlobal + Files + Clock, R: Read, W: Write, E: Write>(
+pub(crate) fn verify<H: AllocGlobal + Files + Clock + Threads + Sync, R: Read, W: Write, E: Write>(
     rt: &H,
     words: &VerifyWords<'_>,
     input: &mut R,
     output: &mut W,
     errors: &mut E,
 ) -> Result<u8, Trouble>
+where
+    H::File: Send + Sync,
+    H::Dir: Send + Sync,
     ensures { IfOk result (λ status. status ≤ 3) }
 {
     check_words(rt.alloc(), words)?;
-    let mut tally = Tally::new();
-    for file in &words.files {
-        tally.add(verify_file(rt, words, *file, input, output, errors)?);
-    }
+    let tally = tally_of(rt, words, input, output, errors)?;
     let files = words.files.len();
     if files > 1 && !words.json && !words.stream.talk.quiet {
         tally.put(output, files).map_err(output_failed)?;

@@ -210,6 +210,7 @@ impl Course {
     {
         let skipped = skip.min(len as u64);
         let piece = &buffer[..len];
+        taker.look_before(&piece[..skipped as usize])?;
         self.feed(&piece[skipped as usize..], taker)?;
         taker.progress(len);
         Ok(skip - skipped)

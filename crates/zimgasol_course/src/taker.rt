@@ -40,6 +40,10 @@ pub trait Taker {
     ) -> Result<(), Trouble>
         ensures { OnOk result (Keeps (holds self.old) (holds self.new)) };
 
+    /// Sees bytes of a piece that precede the stream, before the others are read.
+    fn look_before(&mut self, bytes: &[u8]) -> Result<(), Trouble>
+        ensures { OnOk result (Keeps (holds self.old) (holds self.new)) };
+
     /// Sees a piece after the one in which the stream ended.
     fn look_after(&mut self, piece: &[u8]) -> Result<(), Trouble>
         ensures { OnOk result (Keeps (holds self.old) (holds self.new)) };

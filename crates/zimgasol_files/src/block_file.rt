@@ -1,17 +1,16 @@
-//! Writes the file that a block is extracted into, and computes its digest.
+//! Writes the file that a block is extracted into.
 
 ghost use Rattle.std.specs.Prelude.{◌≡◌, ◌++◌, IfOk, codes, string_bytes};
 ghost use Rattle.zimgasol_files.specs.Naming.{name_of};
 
-use crate::input::read_piece;
+use crate::digest::Digests;
 use crate::target::{PARTIAL, sync};
 use crate::trouble::Trouble;
 use crate::{file_name, id_text, path_in};
 use serde_json::{Map, Value, put};
-use sha2::{Digest, Sha256};
 use std::alloc::{AllocError, Global};
 use std::fs::OpenFile;
-use std::io::{self, Read, Seek, SeekFrom, Write};
+use std::io::{self, Seek, SeekFrom, Write};
 
 /// A file that a block is written into.
 #[derive(Drop)]
@@ -26,7 +25,7 @@ pub struct BlockFile<F: Drop> {
     pub path: String,
     pub len: u64,
     pub file: F,
-    pub digest: Option<[u8; 32]>,
+    pub digests: Digests,
 }
 
 /// The names of the file of a block.
@@ -90,47 +89,41 @@ fn put_block<F: Drop>(
     put(entry, alloc, "bytes", Value::from(file.len))
 }
 
-// Puts the digest of a block's file into `entry`, if there is one.
+// Puts a digest of a block's file into `entry`, if there is one.
 fn put_digest(
     alloc: Global,
     entry: &mut Map<String, Value>,
+    member: &str,
     digest: &Option<[u8; 32]>,
 ) -> Result<(), AllocError> {
     let Some(digest) = digest else {
         return Ok(());
     };
     let text = Value::String(hex_digest(alloc, digest)?);
-    put(entry, alloc, "sha256", text)
+    put(entry, alloc, member, text)
 }
 
 /// Returns the entry of `blocks.json` about a block's file.
 pub fn block_value<F: Drop>(alloc: Global, file: &BlockFile<F>) -> Result<Value, Trouble> {
     let mut entry = Map::new(alloc);
     put_block(alloc, &mut entry, file)?;
-    put_digest(alloc, &mut entry, &file.digest)?;
+    put_digest(alloc, &mut entry, "sha256", &file.digests.plain)?;
+    put_digest(alloc, &mut entry, "sha256_64k", &file.digests.pieces)?;
     Ok(Value::Object(entry))
 }
 
-/// Sets the length of a file. If `durable`, syncs it to its disk. If `digest`, reads it through
-/// `buffer` for its SHA-256.
+/// Sets the length of a file, and its position to the first byte. If `durable`, syncs it to its
+/// disk.
 ///
 /// # Errors
 ///
-/// `Trouble::Unread` if the file can't be set, synced or read.
-pub fn complete_file<F: Read + Write + Seek + OpenFile + Drop>(
+/// `Trouble::Unread` if the file can't be set or synced.
+pub fn complete_file<F: Write + Seek + OpenFile + Drop>(
     file: &mut BlockFile<F>,
     durable: bool,
-    digest: bool,
-    buffer: &mut [u8],
 ) -> Result<(), Trouble> {
     let len = file.len;
-    if let Err(error) = with_len(&mut file.file, len, durable) {
-        return Err(Trouble::Unread(error));
-    }
-    if digest {
-        file.digest = Some(digest_of(&mut file.file, buffer)?);
-    }
-    Ok(())
+    with_len(&mut file.file, len, durable).map_err(Trouble::Unread)
 }
 
 // Sets the length of a file, and its position to the first byte.
@@ -141,19 +134,6 @@ fn with_len<F: Write + Seek + OpenFile>(file: &mut F, len: u64, durable: bool) -
     }
     file.seek(SeekFrom::Start(0))?;
     Ok(())
-}
-
-// Returns the SHA-256 of a file's bytes from its position on.
-fn digest_of<F: Read>(file: &mut F, buffer: &mut [u8]) -> Result<[u8; 32], Trouble> {
-    let mut hasher = Sha256::new();
-    for _ in 0..u64::MAX {
-        let len = read_piece(file, buffer)?;
-        if len == 0 {
-            break;
-        }
-        hasher.update(&buffer[..len]);
-    }
-    Ok(hasher.finalize())
 }
 
 // Returns a digest in hexadecimal digits.

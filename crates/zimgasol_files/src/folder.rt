@@ -34,6 +34,8 @@ pub struct FolderBlock {
 pub struct Folder {
     pub page_size: u64,
     pub blocks: Vec<FolderBlock>,
+    /// Whether the folder has the state of the machine beside its RAM.
+    pub has_state: bool,
 }
 
 impl Folder {
@@ -132,7 +134,12 @@ fn folder_in(alloc: Global, folder: &str, list: &Value) -> Result<Option<Folder>
             None => return Ok(None),
         }
     }
-    Ok(Some(Folder { page_size, blocks }))
+    let has_state = list.get("state").and_then(Value::as_str).is_some();
+    Ok(Some(Folder {
+        page_size,
+        blocks,
+        has_state,
+    }))
 }
 
 // Returns the folder that the bytes of a list describe. None if `extract` writes no such list.

@@ -8,6 +8,7 @@
 //! | `input`, `pieces`, `opened` | read a file or the standard input in pieces |
 //! | `pages` | reads a file and an older one side by side, for the pages that differ |
 //! | `target`, `block_file`, `folder` | write files under temporary names, and list a folder |
+//! | `digest` | digests of files |
 //! | `watch` | prints how much was read |
 //! | `naming`, `showing` | names of files, and printable forms of ids and names |
 //!
@@ -21,6 +22,7 @@
 mod block_file;
 mod block_words;
 mod channel_words;
+mod digest;
 mod folder;
 mod input;
 mod naming;
@@ -38,9 +40,13 @@ pub use block_file::{
 };
 pub use block_words::{BlockWord, block_word};
 pub use channel_words::{count_word, uuid_word, wanted_uuid};
+pub use digest::{DigestWords, Digester, Digests};
 pub use folder::{Folder, FolderBlock, LIST_NAME, read_folder};
 pub use input::{piece_buffer, read_piece};
-pub use naming::{file_name, names_are_distinct, names_are_plain, path_in};
+pub use naming::{
+    AFTER_NAME, BEFORE_NAME, LIBVIRT_NAME, STATE_NAME, file_name, names_are_distinct,
+    names_are_plain, path_in, state_path,
+};
 pub use opened::{Opened, open, unfit};
 pub use pages::{PIECE_PAGES, Pages, Reading};
 pub use pieces::Pieces;
@@ -50,5 +56,5 @@ pub use trouble::{Packed, Trouble, Unfit, wrong};
 pub use watch::Watch;
 pub use words::{
     ChannelWords, CompareWords, ExtractWords, PageSize, Request, SaveWords, StreamWords, Talk,
-    VerifyWords, asked,
+    Unasked, VerifyWords, asked,
 };

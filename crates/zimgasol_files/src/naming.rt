@@ -68,6 +68,35 @@ pub fn names_are_distinct()
     ensures { NamesAreDistinct }
 {}
 
+/// The folder of the state, in a folder that `extract` makes, and its files.
+pub const STATE_NAME: &str = "state";
+
+/// The file with libvirt's header, its XML and its cookie.
+pub const LIBVIRT_NAME: &str = "libvirt.bin";
+
+/// The file with the stream's bytes up to the end of RAM's size list.
+pub const BEFORE_NAME: &str = "before.bin";
+
+/// The file with the bytes after the end of RAM.
+pub const AFTER_NAME: &str = "after.bin";
+
+/// Returns the path of the file `name` of the state in `folder`, with `after` at its end.
+///
+/// # Errors
+///
+/// `AllocError`: an allocation was refused.
+pub fn state_path(
+    alloc: Global,
+    folder: &str,
+    name: &str,
+    after: &str,
+) -> Result<String, AllocError>
+    ensures { IfOk result (λ path. string_bytes path ≡ (folder.now ++ codes "/" ++ codes "state") ++ codes "/" ++ name.now ++ after.now) }
+{
+    let state = path_in(alloc, folder, STATE_NAME, "")?;
+    path_in(alloc, &state, name, after)
+}
+
 /// Returns the path of the file `name` in `folder`, with `after` at its end.
 ///
 /// # Errors

@@ -22,6 +22,8 @@ pub enum Trouble {
     Unfit(String, Unfit),
     /// The sum of the saved blocks' lengths is more than 2^40 bytes.
     TooLarge,
+    /// The stream has more bytes before RAM's records than are kept: this many.
+    LongFront(u64),
     /// A stream of this name can't be read, with the reason.
     Refused(String, &'static str),
     /// These arguments are wrong.
@@ -70,6 +72,15 @@ pub enum Unfit {
     ListedLen(u64, u64),
     /// It lists an id twice.
     IdTwice,
+    /// It lists no state.
+    NoState,
+    /// The guest whose state is saved has no block of this id.
+    NotInState,
+    /// The guest whose state is saved has a block of this id, and no file has its memory.
+    NoMemory,
+    /// Its length in bytes, and the different length of the block in the guest whose state is
+    /// saved.
+    StateLen(u64, u64),
 }
 
 impl From<AllocError> for Trouble {

@@ -1,4 +1,4 @@
-//! `--progress`: a line a second with the number of bytes read.
+//! `--progress`: how much was read, on one line of a terminal, or in lines of a log.
 
 ghost use Rattle.std.specs.Prelude.{◌≡◌, ◌-◌, ◌*◌, ◌/◌, ◌^◌, ◌≤◌, ◌<◌};
 
@@ -9,16 +9,24 @@ use std::io::{self, Write};
 use std::rt::Clock;
 use std::time::Instant;
 
-/// The time at which reading began, the number of bytes to read, and the time of the last line.
+/// The seconds between two lines, if the error output is no terminal.
+const LOG_SECONDS: u64 = 10;
+
+/// The time at which reading began, the number of bytes to read, and when the next line is due.
 #[derive(Drop)]
 pub struct Watch {
     name: String,
+    // what is done beside reading the file; "" for reading it
+    stage: &'static str,
     // None if nothing is printed
     started: Option<Instant>,
     // the length of the input, if it is known
     total: Option<u64>,
-    // the second in which a line was printed last
-    second: u64,
+    on_terminal: bool,
+    // the second from which on the next line is printed
+    due: u64,
+    // whether a line stands on the terminal
+    is_shown: bool,
 }
 
 /// Returns the share of `total` that is `done`, in percent, rounded down.
@@ -67,10 +75,20 @@ impl Watch {
         };
         Ok(Watch {
             name: shown_name(alloc, name)?,
+            stage: "",
             started,
             total: None,
-            second: 0,
+            on_terminal: talk.on_terminal,
+            due: if talk.on_terminal { 1 } else { LOG_SECONDS },
+            is_shown: false,
         })
+    }
+
+    /// Returns the watch of a `stage` that begins now, and reads `total` bytes.
+    pub fn in_stage(mut self, stage: &'static str, total: u64) -> Watch {
+        self.stage = stage;
+        self.total = Some(total);
+        self
     }
 
     /// Sets the number of bytes to read.
@@ -78,7 +96,7 @@ impl Watch {
         self.total = Some(total);
     }
 
-    /// Prints that `done` bytes were read, unless this second has a line already.
+    /// Prints that `done` bytes were read: on a terminal once a second, else every ten seconds.
     pub fn show<H: Clock, E: Write>(&mut self, rt: &H, errors: &mut E, done: u64) {
         let Some(started) = self.started else {
             return;
@@ -87,23 +105,51 @@ impl Watch {
             return;
         };
         let second = elapsed.as_secs();
-        if second > self.second {
-            self.second = second;
-            let _ = put_progress(errors, &self.name, done, self.total, second);
+        if second < self.due {
+            return;
+        }
+        let pause = if self.on_terminal { 1 } else { LOG_SECONDS };
+        self.due = second.saturating_add(pause);
+        let _ = self.put(errors, done, second);
+    }
+
+    // Prints the line, over the one that stands on a terminal.
+    fn put<E: Write>(&mut self, errors: &mut E, done: u64, seconds: u64) -> io::Result<()> {
+        if !self.on_terminal {
+            put_progress(errors, &self.name, self.stage, done, self.total, seconds)?;
+            return writeln!(errors);
+        }
+        self.is_shown = true;
+        errors.write_all(b"\r")?;
+        put_progress(errors, &self.name, self.stage, done, self.total, seconds)?;
+        errors.write_all(CLEAR)?;
+        errors.flush()
+    }
+
+    /// Removes the line that stands on a terminal.
+    pub fn end<E: Write>(&mut self, errors: &mut E) {
+        if self.is_shown {
+            self.is_shown = false;
+            let _ = errors.write_all(b"\r");
+            let _ = errors.write_all(CLEAR);
         }
     }
 }
+
+/// Clears a terminal's line from the cursor on.
+const CLEAR: &[u8] = b"\x1b[K";
 
 /// Writes that `done` bytes were read in `seconds`, with their share of `total`, the rate, and the
 /// seconds left at this rate.
 pub(crate) fn put_progress<E: Write>(
     errors: &mut E,
     name: &str,
+    stage: &str,
     done: u64,
     total: Option<u64>,
     seconds: u64,
 ) -> io::Result<()> {
-    write!(errors, "{name}: {done} bytes")?;
+    write!(errors, "{name}: {stage}{done} bytes")?;
     if let Some(total) = total
         && total != 0
     {
@@ -111,8 +157,10 @@ pub(crate) fn put_progress<E: Write>(
         write!(errors, ", {share} %")?;
     }
     if seconds != 0 {
-        let rate = rate(done, seconds);
-        write!(errors, ", {rate} MiB a second")?;
+        match rate(done, seconds) {
+            0 => write!(errors, ", {} KiB/s", done / 1024 / seconds)?,
+            rate => write!(errors, ", {rate} MiB/s")?,
+        }
     }
     if let Some(total) = total
         && done != 0
@@ -121,5 +169,5 @@ pub(crate) fn put_progress<E: Write>(
         let left = seconds_left(done, total, seconds);
         write!(errors, ", {left} s left")?;
     }
-    writeln!(errors)
+    Ok(())
 }

@@ -1,9 +1,12 @@
 //! The command line, declared for `clap`, and its parsed arguments.
 
-ghost use Rattle.std.specs.Prelude.{◌≡◌, ◌≤◌, ◌^◌};
+ghost use Rattle.std.specs.Prelude.{◌≡◌, ◌≤◌, ◌^◌, None, IsTrue, IfSome};
 ghost use Rattle.mig_mem.specs.PageSize.{IsPageSize};
+ghost use Rattle.mig_stream.specs.declared.item.Frame.TheVariants.{Machine};
 
+use crate::digest::DigestWords;
 use crate::shown;
+use crate::trouble::{Trouble, wrong};
 use clap::builder::ValueParser;
 use clap::error::ErrorKind;
 use clap::{Arg, ArgAction, ArgMatches, Command, Error};
@@ -13,6 +16,9 @@ use std::alloc::{AllocError, Global};
 
 /// The program's version (CHANGELOG.md).
 const VERSION: &str = "0.3.0";
+
+/// The most files that are read at once.
+const MOST_JOBS: u64 = 256;
 
 /// What follows the options in the help. No line of an example has more than 40 columns.
 const EXAMPLES: &str = "\
@@ -29,7 +35,7 @@ Of several FILEs the exit status is the worst one's: 3 if one can't be read, els
 
 Examples:
   zimgasol verify guest.sav
-  zimgasol verify *.sav
+  zimgasol verify -j 4 *.sav
   zimgasol verify --json *.sav
   zstd -dc g.zst | zimgasol verify -";
 
@@ -42,10 +48,11 @@ const EXTRACT_EXAMPLES: &str = "\
 Examples:
   zimgasol extract guest.sav memory
   zimgasol extract day.sav restored \\
-    --frame ram --since memory";
+    --since memory";
 
 const SAVE_EXAMPLES: &str = "\
 Examples:
+  zimgasol save --state memory guest.sav
   zimgasol save --block ram=ram.bin g.sav
   zimgasol save --block ram=ram.bin \\
     --since memory day.sav";
@@ -77,8 +84,10 @@ impl PageSize {
 /// What is printed in addition to the result.
 #[derive(Clone, Copy)]
 pub struct Talk {
-    /// Whether a line a second shows the progress.
+    /// Whether the progress is shown on the error output.
     pub progress: bool,
+    /// Whether the error output is a terminal.
+    pub on_terminal: bool,
     /// Whether the line on success is omitted.
     pub quiet: bool,
 }
@@ -136,6 +145,8 @@ pub struct VerifyWords<'a> {
     pub channels: ChannelWords<'a>,
     /// Whether an object of JSON is printed for each file, in place of lines.
     pub json: bool,
+    /// The most files that are read at once; at least 1.
+    pub jobs: usize,
 }
 
 impl<'a> VerifyWords<'a> {
@@ -167,10 +178,23 @@ pub struct ExtractWords<'a> {
     pub since: Option<&'a str>,
     /// Whether existing files are replaced.
     pub replace: bool,
-    /// Whether the list has each file's SHA-256.
-    pub digest: bool,
+    /// The digests of each file in the list.
+    pub digest: DigestWords,
     /// Whether a file is synced to its disk before it gets its final name.
     pub durable: bool,
+    /// Whether the state beside RAM is kept, if the stream is a machine's and all blocks are
+    /// extracted.
+    pub state: bool,
+}
+
+impl ExtractWords<'_> {
+    /// Returns whether the state beside RAM is kept: that of a machine's stream, with the memory of
+    /// all its blocks.
+    pub fn keeps_state(&self) -> bool
+        ensures { IsTrue result → IsTrue self.now.state × (self.now.stream.frame ≡ Machine) × (self.now.block ≡ None) }
+    {
+        self.state && self.block.is_none() && matches!(self.stream.frame, Frame::Machine)
+    }
 }
 
 /// The arguments of `save`.
@@ -184,6 +208,9 @@ pub struct SaveWords<'a> {
     pub frame: Frame,
     /// The machine's name.
     pub machine: Option<&'a str>,
+    /// The folder that `extract` made, whose state is written around RAM. Its blocks are saved,
+    /// except for those in `blocks`.
+    pub state: Option<&'a str>,
     /// The folder that `extract` made, of which the pages that differ are saved.
     pub since: Option<&'a str>,
     /// The number of channels on which the pages are sent.
@@ -227,15 +254,16 @@ fn files_arg<'a>(alloc: Global) -> Arg<'a> {
 }
 
 fn quiet_flag<'a>(alloc: Global) -> Arg<'a> {
-    flag(alloc, "quiet", "Prints nothing on success")
+    flag(alloc, "quiet", "Prints nothing on success").short('q')
 }
 
 fn progress_flag<'a>(alloc: Global) -> Arg<'a> {
     flag(
         alloc,
         "progress",
-        "Prints progress to the error output once a second",
+        "Shows progress on the error output: a line on a terminal, else one every ten seconds",
     )
+    .short('p')
 }
 
 fn replace_flag<'a>(alloc: Global) -> Arg<'a> {
@@ -264,16 +292,15 @@ fn frame_option<'a>(alloc: Global) -> Arg<'a> {
         .value_name("FRAME")
         .value_parser(ValueParser::from(["machine", "ram"].as_slice()))
         .help(
-            "What the stream is: a full machine stream, or RAM's sections alone [default: machine]",
+            "`ram` refuses all but RAM's sections; `machine` takes these and full machine streams [default: machine]",
         )
 }
 
 fn limit_option<'a>(alloc: Global) -> Arg<'a> {
     Arg::new(alloc, "limit")
         .long("limit")
-        .value_name("BYTES")
-        .value_parser(ValueParser::Unsigned(1, MAX_TOTAL))
-        .help("Refuses a guest with more memory [default: 2^40]")
+        .value_name("SIZE")
+        .help("Refuses a guest with more memory: bytes, or with K, M, G or T behind [default: 1T]")
 }
 
 fn ram_only_flag<'a>(alloc: Global) -> Arg<'a> {
@@ -293,6 +320,7 @@ fn flag<'a>(alloc: Global, name: &'a str, help: &'a str) -> Arg<'a> {
 
 fn channel_option<'a>(alloc: Global) -> Arg<'a> {
     Arg::new(alloc, "channel")
+        .short('c')
         .long("channel")
         .value_name("FILE")
         .action(ArgAction::Append)
@@ -345,6 +373,16 @@ fn lines_flag<'a>(alloc: Global) -> Result<Arg<'a>, AllocError> {
     .conflicts_with("quiet")
 }
 
+fn jobs_option<'a>(alloc: Global) -> Result<Arg<'a>, AllocError> {
+    Arg::new(alloc, "jobs")
+        .short('j')
+        .long("jobs")
+        .value_name("N")
+        .value_parser(ValueParser::Unsigned(1, MOST_JOBS))
+        .help("Reads up to N files at once [default: 1]")
+        .conflicts_with("progress")
+}
+
 fn verify_command<'a>(alloc: Global) -> Result<Command<'a>, AllocError> {
     stream_command(
         alloc,
@@ -355,6 +393,7 @@ fn verify_command<'a>(alloc: Global) -> Result<Command<'a>, AllocError> {
     )?
     .arg(ram_only_flag(alloc))?
     .arg(lines_flag(alloc)?)?
+    .arg(jobs_option(alloc)?)?
     .arg(quiet_flag(alloc))
 }
 
@@ -373,6 +412,7 @@ fn folder_arg<'a>(alloc: Global) -> Arg<'a> {
 
 fn one_block_option<'a>(alloc: Global) -> Arg<'a> {
     Arg::new(alloc, "block")
+        .short('b')
         .long("block")
         .value_name("ID")
         .help("Extracts only this block")
@@ -390,7 +430,7 @@ fn extract_places<'a>(alloc: Global) -> Result<Command<'a>, AllocError> {
     stream_command(
         alloc,
         "extract",
-        "Writes each RAM block's memory into a file in a folder, and blocks.json",
+        "Writes each RAM block's memory into a file in a folder, with blocks.json and the devices' state",
         EXTRACT_EXAMPLES,
         file_arg(alloc),
     )?
@@ -409,6 +449,11 @@ fn digest_flags<'a>(alloc: Global, command: Command<'a>) -> Result<Command<'a>, 
         "digest",
         "Adds the SHA-256 of each file to blocks.json (slow: it reads each file again)",
     );
+    let fast_digest = flag(
+        alloc,
+        "fast-digest",
+        "Adds the SHA-256 of the SHA-256s of each file's 64 KiB pieces: all processors compute it",
+    );
     let no_digest = flag(
         alloc,
         "no-digest",
@@ -416,6 +461,7 @@ fn digest_flags<'a>(alloc: Global, command: Command<'a>) -> Result<Command<'a>, 
     );
     command
         .arg(digest.conflicts_with("no-digest")?)?
+        .arg(fast_digest.conflicts_with("no-digest")?)?
         .arg(no_digest)
 }
 
@@ -426,13 +472,25 @@ fn extract_command<'a>(alloc: Global) -> Result<Command<'a>, AllocError> {
     digest_flags(alloc, command)
 }
 
-fn blocks_option<'a>(alloc: Global) -> Arg<'a> {
+fn blocks_option<'a>(alloc: Global) -> Result<Arg<'a>, AllocError> {
     Arg::new(alloc, "block")
+        .short('b')
         .long("block")
         .value_name("ID=FILE")
         .action(ArgAction::Append)
-        .required(true)
         .help("Block id, and the file with its memory; once for each block")
+        .required_unless_present("state")
+}
+
+fn state_option<'a>(alloc: Global) -> Result<Arg<'a>, AllocError> {
+    Arg::new(alloc, "state")
+        .long("state")
+        .value_name("DIR")
+        .help(
+            "Writes a whole machine, with the state in this folder, which `extract` made. Saves its blocks, except for those of --block",
+        )
+        .conflicts_with("machine")?
+        .conflicts_with("channels")
 }
 
 fn channels_option<'a>(alloc: Global) -> Arg<'a> {
@@ -446,7 +504,8 @@ fn channels_option<'a>(alloc: Global) -> Arg<'a> {
 fn save_sources<'a>(alloc: Global) -> Result<Command<'a>, AllocError> {
     let about = "Writes a migration stream from raw block files";
     command(alloc, "save", about, SAVE_EXAMPLES)
-        .arg(blocks_option(alloc))?
+        .arg(blocks_option(alloc)?)?
+        .arg(state_option(alloc)?)?
         .arg(since_option(
             alloc,
             "Saves only the pages that differ from this folder, which `extract` made",
@@ -467,7 +526,7 @@ fn saved_frame_option<'a>(alloc: Global) -> Arg<'a> {
         .value_name("FRAME")
         .value_parser(ValueParser::from(["ram", "machine"].as_slice()))
         .help(
-            "What the stream is: RAM's sections alone, or a machine stream without devices [default: ram]",
+            "What the stream is: RAM's sections alone, or a machine stream without devices unless --state is given [default: ram, machine with --state]",
         )
 }
 
@@ -563,26 +622,64 @@ fn frame_in<'a>(matches: &ArgMatches<'a>) -> Frame {
     }
 }
 
-fn most_memory_in(matches: &ArgMatches<'_>) -> u64 {
-    matches.get_one::<u64>("limit").unwrap_or(MAX_TOTAL)
+// Returns the unit of a size, in bytes, and the digits before it.
+fn unit_in(word: &str) -> (u64, &str)
+    ensures { result.0 ≤ 2 ^ 40 }
+{
+    for (suffix, unit) in [
+        ("K", 1 << 10),
+        ("M", 1 << 20),
+        ("G", 1 << 30),
+        ("T", 1 << 40),
+    ] {
+        if let Some(digits) = word.strip_suffix(suffix) {
+            return (unit, digits);
+        }
+    }
+    (1, word)
 }
 
-fn talk_in(matches: &ArgMatches<'_>) -> Talk {
+// Parses a size from 1 byte to 2^40 bytes: decimal digits, and a unit of 2^10, 2^20, 2^30 or 2^40
+// bytes. Returns None if it is none.
+fn size_word(word: &str) -> Option<u64>
+    ensures { IfSome result (λ size. (1 ≤ size) × (size ≤ 2 ^ 40)) }
+{
+    let (unit, digits) = unit_in(word);
+    if digits.starts_with('+') {
+        return None;
+    }
+    let size = digits.parse::<u64>().ok()?.checked_mul(unit)?;
+    if size != 0 && size <= MAX_TOTAL {
+        Some(size)
+    } else {
+        None
+    }
+}
+
+fn most_memory_in(matches: &ArgMatches<'_>) -> u64 {
+    match matches.get_str("limit") {
+        Some(word) => size_word(word).unwrap_or(MAX_TOTAL),
+        None => MAX_TOTAL,
+    }
+}
+
+fn talk_in(matches: &ArgMatches<'_>, on_terminal: bool) -> Talk {
     Talk {
         progress: matches.get_flag("progress"),
+        on_terminal,
         quiet: matches.get_flag("quiet"),
     }
 }
 
 // Returns the stream that `argument` names.
-fn stream_in<'a>(matches: &ArgMatches<'a>, argument: &str) -> StreamWords<'a> {
+fn stream_in<'a>(matches: &ArgMatches<'a>, argument: &str, on_terminal: bool) -> StreamWords<'a> {
     StreamWords {
         file: matches.get_str(argument).unwrap_or("-"),
         page_size: page_size_in(matches),
         frame: frame_in(matches),
         most_memory: most_memory_in(matches),
         ram_only: matches.get_flag("ram-only"),
-        talk: talk_in(matches),
+        talk: talk_in(matches, on_terminal),
         partial: matches.get_flag("partial"),
     }
 }
@@ -598,43 +695,66 @@ fn channels_in<'a>(
     })
 }
 
-fn verify_in<'a>(alloc: Global, matches: &ArgMatches<'a>) -> Result<VerifyWords<'a>, AllocError> {
+fn verify_in<'a>(
+    alloc: Global,
+    matches: &ArgMatches<'a>,
+    on_terminal: bool,
+) -> Result<VerifyWords<'a>, AllocError> {
     Ok(VerifyWords {
-        stream: stream_in(matches, "FILE"),
+        stream: stream_in(matches, "FILE", on_terminal),
         files: matches.get_strs("FILE").unwrap_or(&[]).to_vec(alloc)?,
         channels: channels_in(alloc, matches)?,
         json: matches.get_flag("json"),
+        jobs: matches.get_one::<u64>("jobs").unwrap_or(1).max(1) as usize,
     })
 }
 
-fn extract_in<'a>(matches: &ArgMatches<'a>) -> ExtractWords<'a> {
+fn digests_in(matches: &ArgMatches<'_>) -> DigestWords {
+    DigestWords {
+        plain: matches.get_flag("digest"),
+        pieces: matches.get_flag("fast-digest"),
+    }
+}
+
+fn extract_in<'a>(matches: &ArgMatches<'a>, on_terminal: bool) -> ExtractWords<'a> {
     ExtractWords {
-        stream: stream_in(matches, "FILE"),
+        stream: stream_in(matches, "FILE", on_terminal),
         folder: matches.get_str("DIR").unwrap_or("."),
         block: matches.get_str("block"),
         since: matches.get_str("since"),
         replace: matches.get_flag("replace"),
-        digest: matches.get_flag("digest"),
+        digest: digests_in(matches),
         durable: true,
+        state: true,
     }
 }
 
-fn save_in<'a>(alloc: Global, matches: &ArgMatches<'a>) -> Result<SaveWords<'a>, AllocError> {
-    let frame = match matches.get_str("frame") {
-        Some("machine") => Frame::Machine,
+// Returns the frame of a stream that is saved: a machine's if it has a state.
+fn saved_frame_in(matches: &ArgMatches<'_>) -> Frame {
+    match (matches.get_str("frame"), matches.get_str("state")) {
+        (Some("machine"), _) | (None, Some(_)) => Frame::Machine,
         _ => Frame::Ram,
-    };
+    }
+}
+
+fn save_in<'a>(
+    alloc: Global,
+    matches: &ArgMatches<'a>,
+    on_terminal: bool,
+) -> Result<SaveWords<'a>, AllocError> {
+    let frame = saved_frame_in(matches);
     Ok(SaveWords {
         blocks: matches.get_strs("block").unwrap_or(&[]).to_vec(alloc)?,
         file: matches.get_str("OUT").unwrap_or("-"),
         page_size: page_size_in(matches),
         frame,
         machine: matches.get_str("machine"),
+        state: matches.get_str("state"),
         since: matches.get_str("since"),
         channels: matches.get_str("channels"),
         uuid: matches.get_str("uuid"),
         replace: matches.get_flag("replace"),
-        talk: talk_in(matches),
+        talk: talk_in(matches, on_terminal),
     })
 }
 
@@ -642,29 +762,72 @@ fn request_in<'a>(
     alloc: Global,
     name: &str,
     matches: &ArgMatches<'a>,
+    on_terminal: bool,
 ) -> Result<Request<'a>, AllocError> {
     Ok(match name {
-        "extract" => Request::Extract(extract_in(matches), channels_in(alloc, matches)?),
-        "save" => Request::Save(save_in(alloc, matches)?),
+        "extract" => Request::Extract(
+            extract_in(matches, on_terminal),
+            channels_in(alloc, matches)?,
+        ),
+        "save" => Request::Save(save_in(alloc, matches, on_terminal)?),
         "compare" => Request::Compare(CompareWords {
-            first: stream_in(matches, "A"),
-            second: stream_in(matches, "B"),
+            first: stream_in(matches, "A", on_terminal),
+            second: stream_in(matches, "B", on_terminal),
         }),
         "inspect" => Request::Inspect(
-            stream_in(matches, "FILE"),
+            stream_in(matches, "FILE", on_terminal),
             channels_in(alloc, matches)?,
             matches.get_flag("json"),
         ),
-        _ => Request::Verify(verify_in(alloc, matches)?),
+        _ => Request::Verify(verify_in(alloc, matches, on_terminal)?),
     })
 }
 
+/// Why the arguments ask for nothing that is done.
+#[derive(Drop)]
+pub enum Unasked {
+    /// An error in the arguments, or the help or the version that they ask for.
+    Said(Error),
+    /// A value that is wrong, or an allocation that was refused.
+    Trouble(Trouble),
+}
+
+impl From<Error> for Unasked {
+    fn from(error: Error) -> Unasked {
+        Unasked::Said(error)
+    }
+}
+
+impl From<AllocError> for Unasked {
+    fn from(error: AllocError) -> Unasked {
+        Unasked::Said(Error::from(error))
+    }
+}
+
+// Refuses a size that is none.
+fn check_sizes(alloc: Global, matches: &ArgMatches<'_>) -> Result<(), Unasked> {
+    match matches.get_str("limit") {
+        Some(word) if size_word(word).is_none() => {
+            let why = "isn't a size from 1 to 1T: bytes, or a number with K, M, G or T behind";
+            Err(Unasked::Trouble(wrong(alloc, "--limit", word, why)))
+        }
+        _ => Ok(()),
+    }
+}
+
 // Parses the arguments. An error has them as they are.
-fn parsed<'a>(alloc: Global, words: &'a [String]) -> Result<Request<'a>, Error> {
+fn parsed<'a>(
+    alloc: Global,
+    words: &'a [String],
+    on_terminal: bool,
+) -> Result<Request<'a>, Unasked> {
     let matches = program(alloc)?.try_get_matches_from(words)?;
     match matches.subcommand() {
-        Some((name, matches)) => Ok(request_in(alloc, name, matches)?),
-        None => Err(Error::from(AllocError)),
+        Some((name, matches)) => {
+            check_sizes(alloc, matches)?;
+            Ok(request_in(alloc, name, matches, on_terminal)?)
+        }
+        None => Err(Unasked::Said(Error::from(AllocError))),
     }
 }
 
@@ -685,10 +848,18 @@ fn shown_error(alloc: Global, words: &[String]) -> Error {
         Ok(list) => list,
         Err(error) => return Error::from(error),
     };
-    let again = parsed(alloc, &list);
+    let again = parsed(alloc, &list, false);
     match again {
         Ok(_request) => Error::from(AllocError),
-        Err(error) => error,
+        Err(unasked) => said_in(unasked),
+    }
+}
+
+// Returns the error of `unasked`.
+fn said_in(unasked: Unasked) -> Error {
+    match unasked {
+        Unasked::Said(error) => error,
+        Unasked::Trouble(_trouble) => Error::from(AllocError),
     }
 }
 
@@ -697,16 +868,35 @@ fn is_of_words(error: &Error) -> bool {
     error.use_stderr() && error.kind() != ErrorKind::OutOfMemory
 }
 
-/// Parses the arguments.
+// Returns `unasked`; an error in the arguments `words` quotes them as printable characters.
+fn shown_unasked(alloc: Global, words: &[String], unasked: Unasked) -> Unasked {
+    match unasked {
+        Unasked::Trouble(trouble) => Unasked::Trouble(trouble),
+        Unasked::Said(error) => Unasked::Said(shown_said(alloc, words, error)),
+    }
+}
+
+// Returns `error`; one in the arguments `words` quotes them as printable characters.
+fn shown_said(alloc: Global, words: &[String], error: Error) -> Error {
+    if is_of_words(&error) {
+        return shown_error(alloc, words);
+    }
+    error
+}
+
+/// Parses the arguments. `on_terminal` is whether the error output is a terminal.
 ///
 /// # Errors
 ///
 /// The output that is printed instead: the error in the arguments, which are quoted as printable
 /// characters, or the help or the version that they ask for.
-pub fn asked<'a>(alloc: Global, words: &'a [String]) -> Result<Request<'a>, Error> {
-    match parsed(alloc, words) {
+pub fn asked<'a>(
+    alloc: Global,
+    words: &'a [String],
+    on_terminal: bool,
+) -> Result<Request<'a>, Unasked> {
+    match parsed(alloc, words, on_terminal) {
         Ok(request) => Ok(request),
-        Err(error) if is_of_words(&error) => Err(shown_error(alloc, words)),
-        Err(error) => Err(error),
+        Err(unasked) => Err(shown_unasked(alloc, words, unasked)),
     }
 }

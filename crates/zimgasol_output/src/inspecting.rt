@@ -254,8 +254,8 @@ fn devices_value(alloc: Global, devices: &Option<Vec<Device>>) -> Result<Value, 
     Ok(Value::Array(list))
 }
 
-// Returns what is known of the bytes after RAM.
-fn tail_state(ending: &Ending) -> &'static str {
+/// Returns what is known of the bytes after RAM, in a word.
+pub fn tail_state(ending: &Ending) -> &'static str {
     match ending.fault {
         None => "whole",
         Some(TailFault::Cut | TailFault::CutDescription) => "cut",

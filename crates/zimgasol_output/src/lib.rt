@@ -16,7 +16,7 @@ mod several_json;
 mod several_lines;
 mod verifying;
 
-pub use inspecting::{put_json, put_json_line, put_lines};
+pub use inspecting::{put_json, put_json_line, put_lines, tail_state};
 pub use several_json::{put_several_json, put_several_json_line};
 pub use several_lines::{
     put_several_all_wrongs, put_several_judgement, put_several_lines, put_several_verdict,

@@ -1,11 +1,15 @@
 -- What the survey of a single stream says of its bytes.
-use Rattle.std.specs.Prelude.{◌≡◌, ℕ, ◌<◌, ◌^◌, List, [], ◌++◌, length, Option, Some, None, All, IfSome, IsSomeAnd, Bool}
+use Rattle.std.specs.Prelude.{◌≡◌, ℕ, ◌<◌, ◌≤◌, ◌^◌, List, [], ◌++◌, length, drop, Option, Some, None, All, IfSome, IsSomeAnd, Bool, false}
+use Rattle.mig_mem.specs.PageSize.{IsPageSize}
+use Rattle.mig_stream.specs.declared.item.Frame.{Frame}
+use Rattle.mig_stream.specs.declared.item.Mode.TheVariants.{Single}
 use Rattle.mig_stream.specs.declared.item.StreamState.{StreamState}
 use Rattle.mig_stream.specs.declared.item.StreamState.TheVariants.{Closed}
-use Rattle.mig_stream.specs.Reading.{Settings, StreamReading, IsReading}
+use Rattle.mig_stream.specs.Reading.{Settings, StreamReading, IsReading, settings, in_frame}
 use Rattle.mig_stream.specs.Reader.{IsValidUpTo}
 use Rattle.zimgasol_reading.specs.declared.blocks.Blocks.{Blocks}
 use Rattle.zimgasol_reading.specs.declared.libvirt.LibvirtHeader.{LibvirtHeader}
+use Rattle.zimgasol_reading.specs.declared.survey.Survey.{Survey}
 use Rattle.zimgasol_reading.specs.Coverage.{HasItsPages}
 use Rattle.zimgasol_reading.specs.Recorded.{AreNamed, NameEachPage, records_of}
 
@@ -32,3 +36,15 @@ pub record IsSurveyed (given : Settings) (text : List ℕ) (state : StreamState)
 abbrev pub IsCompleteStream : StreamReading → Bool → Bool → Type 0
 IsCompleteStream reading is_laid_over is_partial =
     (reading.state ≡ Closed) × HasItsPages is_laid_over is_partial (NameEachPage reading.table (records_of reading.rounds))
+
+-- In the bytes, after a header of so many of them, is a complete stream, read in this frame.
+abbrev pub HasCompleteStream : Frame → Bool → List ℕ → Type 0
+HasCompleteStream frame is_partial text =
+    (before : ℕ) × (page_size : ℕ) × (limit : ℕ) × (reading : StreamReading) × IsPageSize page_size × (limit ≤ 2 ^ 40)
+    × IsReading (in_frame frame (settings Single page_size limit)) (drop before text) reading × IsCompleteStream reading false is_partial
+
+-- What the reading was asked for stays.
+abbrev pub IsAsked : Survey → Survey → Type 0
+IsAsked before after =
+    (after.frame ≡ before.frame) × (after.page_size ≡ before.page_size) × (after.limit ≡ before.limit)
+    × (after.is_partial ≡ before.is_partial) × (after.is_laid_over ≡ before.is_laid_over)

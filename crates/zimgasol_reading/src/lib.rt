@@ -13,12 +13,14 @@
 //! | `notes` | notes what is between RAM's sections |
 //! | `tail`, `description` | check what follows RAM, and list the devices |
 //! | `blocks` | counts the page records of each block, and the pages without any |
-//! | `sink` | takes the pages |
+//! | `front` | keeps the bytes before RAM's records |
+//! | `sink` | takes the pages, and the bytes before and after RAM |
 #![tactic(auto)]
 
 mod blocks;
 mod channel;
 mod description;
+mod front;
 mod heads;
 mod lane;
 mod libvirt;
@@ -38,9 +40,10 @@ mod tail;
 pub use blocks::{Blocks, Coverage, PageCounts};
 pub use channel::{Channel, Inlet};
 pub use description::Device;
+pub use front::MOST_FRONT_LEN;
 pub use heads::{Head, section_id, section_name};
 pub use lane::{ChannelCounts, Lane};
-pub use libvirt::LibvirtHeader;
+pub use libvirt::{LibvirtHeader, header_of};
 pub use load::{Load, Reporting};
 pub use main_stream::MainStream;
 pub use notes::{Note, Noted, Notes, SectionKind};
@@ -48,5 +51,5 @@ pub use place::{FaultPlace, block_at, fault_of, is_complete, kind_name};
 pub use several::{Several, read_several};
 pub use several_place::{Spot, Within};
 pub use sink::{GuestSink, NoSink, PageSink, SinkTrouble};
-pub use survey::{Survey, read_stream};
+pub use survey::{Survey, read_input, read_stream};
 pub use tail::{Ending, Tail, TailFault};

@@ -65,7 +65,7 @@ fn format_trouble(format: u32, len: u64) -> Trouble {
 ///
 /// `Trouble::Libvirt` if the save was never completed, the header is cut or has another version, or
 /// the stream is sparse. `Trouble::Packed` if the stream is compressed.
-pub(crate) fn header_of(bytes: &[u8]) -> Result<Option<LibvirtHeader>, Trouble> {
+pub fn header_of(bytes: &[u8]) -> Result<Option<LibvirtHeader>, Trouble> {
     if bytes.starts_with(PARTIAL_MAGIC) {
         return Err(Trouble::Libvirt("libvirt never completed this save"));
     }

@@ -4,15 +4,17 @@
 ghost use Rattle.std.specs.Prelude.{◌≡◌, ◌+◌, ◌<◌, ◌≤◌, ◌^◌, length};
 
 use crate::blocks::Blocks;
+use crate::front::Front;
 use crate::heads::Head;
 use crate::load::{Load, Reporting};
 use crate::notes::{Note, Notes, SectionKind};
+use crate::sink::GuestSink;
 use crate::tail::{Ending, Tail};
 use mig_mem::Table;
 use mig_sources::Source;
 use mig_stream::{Mode, Report, StreamReader, StreamState};
 use std::alloc::Global;
-use std::fs::Metadata;
+use std::fs::{Files, Metadata};
 use std::io::Read;
 use zimgasol_files::{Pieces, StreamWords, Trouble};
 
@@ -28,6 +30,10 @@ pub struct MainStream {
     head: Head,
     // the bytes that were read before there was a load
     held: Vec<u8>,
+    // the bytes before RAM's records, if they are taken, until the sink takes them; and those after
+    // RAM that were read with its end
+    front: Front,
+    after: Vec<u8>,
     /// What is known of the bytes after RAM, once the input's end was reached.
     pub ending: Ending,
     // the bytes after RAM
@@ -55,6 +61,8 @@ impl MainStream {
             notes: Notes::new(alloc),
             head: Head::new(alloc),
             held: Vec::new(alloc),
+            front: Front::new(alloc),
+            after: Vec::new(alloc),
             ending: Ending::unchecked(),
             tail: Tail::new(alloc, words.checks_tail()),
             is_over: false,
@@ -155,12 +163,17 @@ impl MainStream {
         if self.reader.ended() || piece.len() as u64 > u64::MAX - fed {
             return Err(Trouble::NoMemory);
         }
+        if self.notes.list_end().is_none() && !self.front.is_taken {
+            self.front.keep(piece)?;
+        }
         self.reader.feed_reporting(piece, &mut self.report)?;
         self.notes.take(&mut self.report)?;
         self.head.look(piece, fed, self.reader.valid_up_to())?;
         if let StreamState::Closed = self.reader.state() {
-            let from = self.reader.valid_up_to().saturating_sub(fed);
-            self.tail.look(piece.get(from as usize..).unwrap_or(&[]))?;
+            let before = self.reader.valid_up_to().saturating_sub(fed);
+            let from = before.min(piece.len() as u64) as usize;
+            self.tail.look(&piece[from..])?;
+            self.after.extend_from_slice(&piece[from..])?;
         }
         Ok(())
     }
@@ -180,18 +193,48 @@ impl MainStream {
         Ok(())
     }
 
-    /// Reads the rest of `input`, the bytes after RAM.
+    /// Keeps none of the bytes before RAM's records.
+    pub(crate) fn drop_front(&mut self) {
+        self.front.set_taken();
+    }
+
+    /// Passes the bytes before RAM's records to `sink`, if it takes them, after the load.
     ///
     /// # Errors
     ///
-    /// `Trouble::Unread` if a read fails, `Trouble::NoMemory`.
-    pub fn read_rest<R: Read>(&mut self, input: &mut R) -> Result<(), Trouble> {
+    /// Those of `sink`.
+    pub(crate) fn pass_front<H: Files, S: GuestSink<H>>(
+        &mut self,
+        rt: &H,
+        sink: &mut S,
+    ) -> Result<(), Trouble> {
+        if let Some(end) = self.notes.list_end()
+            && !self.front.is_taken
+        {
+            sink.take_front(rt, &[], self.front.stream_to(end))?;
+            self.front.set_taken();
+        }
+        Ok(())
+    }
+
+    /// Reads the rest of `input`, and passes the bytes after RAM to `sink`.
+    ///
+    /// # Errors
+    ///
+    /// `Trouble::Unread` if a read fails, `Trouble::NoMemory`, and those of `sink`.
+    pub(crate) fn read_rest<H: Files, R: Read, S: GuestSink<H>>(
+        &mut self,
+        input: &mut R,
+        sink: &mut S,
+    ) -> Result<(), Trouble> {
+        sink.take_after(&self.after)?;
         for _ in 0..u64::MAX {
             self.pieces.take_all();
             if !self.pieces.refill(input)? {
                 break;
             }
             self.tail.look(self.pieces.waiting())?;
+            sink.take_after(self.pieces.waiting())?;
         }
         self.is_over = true;
         self.ending = self.tail.ending()?;

@@ -57,6 +57,11 @@ pub struct Notes {
     pub open: Option<SectionKind>,
     // whether shared memory was left out of the stream
     leaves_shared_out: bool,
+    // the id of RAM's section
+    section_id: u32,
+    // the byte after the size list so far, and whether an item after it was read
+    list_end: u64,
+    is_list_over: bool,
     // the byte at which the last item of these began
     at: u64,
     // the subsection that is read: its name, its content so far, and how many capabilities follow
@@ -101,6 +106,9 @@ impl Notes {
             sections: 0,
             open: None,
             leaves_shared_out: false,
+            section_id: 0,
+            list_end: 0,
+            is_list_over: false,
             at: 0,
             name: Vec::new(alloc),
             content: Vec::new(alloc),
@@ -133,6 +141,11 @@ impl Notes {
             ItemKind::NameLength if number_of(item.bytes) == 0 => self.note_machine(&[])?,
             ItemKind::Name => self.note_machine(item.bytes)?,
             ItemKind::CommandBody => self.note_command(item.bytes)?,
+            ItemKind::StartHead => self.section_id = number_of(item.bytes),
+            ItemKind::ListEntry | ItemKind::BlockAddress | ItemKind::BlockPageSize => {
+                self.list_end = item.at.saturating_add(item.bytes.len() as u64);
+            }
+            ItemKind::EndOfSection | ItemKind::Flush => self.is_list_over = true,
             _ => self.take_part(item)?,
         }
         Ok(())
@@ -218,6 +231,20 @@ impl Notes {
     /// Returns whether shared memory was left out of the stream (`x-ignore-shared`).
     pub fn leaves_shared_out(&self) -> bool {
         self.leaves_shared_out
+    }
+
+    /// Returns the id of RAM's section, once the head of START was read.
+    pub fn section_id(&self) -> u32 {
+        self.section_id
+    }
+
+    /// Returns the byte of the stream after RAM's size list; None until an item after it was read.
+    pub fn list_end(&self) -> Option<u64> {
+        if self.is_list_over {
+            Some(self.list_end)
+        } else {
+            None
+        }
     }
 
     /// Returns the machine's name, if the stream has it.

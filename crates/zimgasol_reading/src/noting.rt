@@ -1,7 +1,7 @@
 //! What takes the records of a stream for its survey: it passes them to a sink, and notes what is
 //! printed of them.
 
-ghost use Rattle.std.specs.Prelude.{List, [], ◌∷◌, ◌++◌, Some, OnOk};
+ghost use Rattle.std.specs.Prelude.{◌≡◌, List, [], ◌∷◌, ◌++◌, Some, OnOk};
 ghost use Rattle.std.specs.Option.{option_copied};
 ghost use Rattle.mig_mem.specs.RamTable.{RamTable};
 ghost use Rattle.mig_mem.specs.Place.{IsPlace};
@@ -10,6 +10,7 @@ ghost use Rattle.zimgasol_course.specs.Course.{Keeps};
 ghost use Rattle.zimgasol_reading.specs.Recorded.{AreCounted};
 
 use crate::blocks::Blocks;
+use crate::front::Front;
 use crate::heads::Head;
 use crate::notes::Notes;
 use crate::sink::GuestSink;
@@ -37,8 +38,32 @@ pub(crate) struct Noting<'a, H, S, E> {
     pub(crate) len: &'a mut u64,
     // the blocks and their records, once the size list is complete
     pub(crate) blocks: Option<Blocks>,
+    // the bytes before RAM's records, until the sink takes them, and whether it has the table
+    pub(crate) front: Front,
+    pub(crate) has_begun: bool,
     // the number of the stream's bytes that were read
     pub(crate) fed: u64,
+}
+
+impl<'a, H: AllocGlobal + Files + Clock, S: GuestSink<H>, E: Write> Noting<'a, H, S, E> {
+    // Keeps `piece`, after it was read, until the bytes before RAM's records are complete, and
+    // passes them to the sink, if it takes them.
+    fn keep_front(&mut self, piece: &[u8]) -> Result<(), Trouble>
+        ensures { self.new.blocks ≡ self.old.blocks }
+    {
+        if self.front.is_taken || !self.sink.keeps_state() {
+            return Ok(());
+        }
+        self.front.keep(piece)?;
+        if self.has_begun
+            && let Some(end) = self.notes.list_end()
+        {
+            let (libvirt, stream) = self.front.parts_to(end);
+            self.sink.take_front(self.rt, libvirt, stream)?;
+            self.front.set_taken();
+        }
+        Ok(())
+    }
 }
 
 // Counts a record in the blocks, if there are some.
@@ -77,6 +102,7 @@ impl<'a, H: AllocGlobal + Files + Clock, S: GuestSink<H>, E: Write> Taker for No
     // Lists the blocks, and passes the table to the sink.
     fn begin(&mut self, table: &Table) -> Result<(), Trouble> {
         self.sink.begin(self.rt, table)?;
+        self.has_begun = true;
         self.blocks = Some(Blocks::new(self.rt.alloc(), table.try_copy()?)?);
         Ok(())
     }
@@ -106,16 +132,27 @@ impl<'a, H: AllocGlobal + Files + Clock, S: GuestSink<H>, E: Write> Taker for No
         let start = self.fed;
         self.fed = start.saturating_add(piece.len() as u64);
         self.head.look(piece, start, valid)?;
+        self.keep_front(piece)?;
         if let StreamState::Closed = found {
             let from = valid.saturating_sub(start);
-            self.tail.look(piece.get(from as usize..).unwrap_or(&[]))?;
+            let after = piece.get(from as usize..).unwrap_or(&[]);
+            self.tail.look(after)?;
+            self.sink.take_after(after)?;
+        }
+        Ok(())
+    }
+
+    // Keeps libvirt's header, if the sink takes it.
+    fn look_before(&mut self, bytes: &[u8]) -> Result<(), Trouble> {
+        if self.sink.keeps_state() {
+            self.front.keep_libvirt(bytes)?;
         }
         Ok(())
     }
 
     fn look_after(&mut self, piece: &[u8]) -> Result<(), Trouble> {
         self.tail.look(piece)?;
-        Ok(())
+        self.sink.take_after(piece)
     }
 
     fn progress(&mut self, len: usize) {

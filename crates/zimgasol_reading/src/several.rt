@@ -181,7 +181,26 @@ impl<F: Read + OpenFile + Drop> Several<F> {
         };
         let mut load = Load::new(judge, Passing::new(table, sink));
         let read = self.load(rt, input, &mut load, watch, errors);
-        (read, load.into_memory().into_sink())
+        let mut sink = load.into_memory().into_sink();
+        let read = match read {
+            Ok(()) => self.pass_state(rt, input, &mut sink),
+            Err(trouble) => Err(trouble),
+        };
+        (read, sink)
+    }
+
+    // Passes the bytes before and after RAM to `sink`, unless there is a fault.
+    fn pass_state<H: Files, R: Read, S: GuestSink<H>>(
+        &mut self,
+        rt: &H,
+        input: &mut R,
+        sink: &mut S,
+    ) -> Result<(), Trouble> {
+        if self.fault().is_some() {
+            return Ok(());
+        }
+        self.main.pass_front(rt, sink)?;
+        self.main.read_rest::<H, R, S>(input, sink)
     }
 
     // Reads the main stream up to its table. Begins the guest, if the table is known. Returns the
@@ -195,6 +214,9 @@ impl<F: Read + OpenFile + Drop> Several<F> {
     ) -> Result<(InPlaceSession, Table), Trouble>
         ensures { IfOk result (λ begun. begun.0.table ≡ begun.1) }
     {
+        if !sink.keeps_state() {
+            self.main.drop_front();
+        }
         self.main.read_head(input)?;
         let table = match self.main.table() {
             Some(table) => {
@@ -221,10 +243,7 @@ impl<F: Read + OpenFile + Drop> Several<F> {
         self.read_rounds(rt, input, load, watch, errors)?;
         self.rounds = load.rounds();
         self.verdict = load.verdict();
-        if self.fault().is_some() {
-            return Ok(());
-        }
-        self.main.read_rest(input)
+        Ok(())
     }
 
     // Reads all sources, round by round, up to the verdict of `load`.
@@ -309,10 +328,13 @@ fn read_sources<H: AllocGlobal + Files + Clock, R: Read, S: GuestSink<H> + Drop,
         Ok(watch) => watch,
         Err(error) => return (Err(error.into()), sink),
     };
-    if words.file == "-" {
-        return several.read(rt, words, input, sink, &mut watch, errors);
-    }
-    read_named(rt, words, several, sink, &mut watch, errors)
+    let read = if words.file == "-" {
+        several.read(rt, words, input, sink, &mut watch, errors)
+    } else {
+        read_named(rt, words, several, sink, &mut watch, errors)
+    };
+    watch.end(errors);
+    read
 }
 
 /// Reads a main stream, from its file or from `input`, and its channels from their files. Passes

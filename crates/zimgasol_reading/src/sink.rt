@@ -64,6 +64,30 @@ pub trait GuestSink<H: Files>: PageSink {
     ///
     /// The trouble that the sink had.
     fn begin(&mut self, rt: &H, table: &Table) -> Result<(), Trouble>;
+
+    /// Returns whether the sink takes the bytes before and after RAM.
+    fn keeps_state(&self) -> bool {
+        false
+    }
+
+    /// Takes libvirt's header, which may be empty, and the stream's bytes up to the end of its size
+    /// list: once, after the table.
+    ///
+    /// # Errors
+    ///
+    /// The trouble that the sink had.
+    fn take_front(&mut self, _rt: &H, _libvirt: &[u8], _stream: &[u8]) -> Result<(), Trouble> {
+        Ok(())
+    }
+
+    /// Takes the next bytes after RAM, up to the end of the input.
+    ///
+    /// # Errors
+    ///
+    /// The trouble that the sink had.
+    fn take_after(&mut self, _bytes: &[u8]) -> Result<(), Trouble> {
+        Ok(())
+    }
 }
 
 /// Takes pages, and drops them.

@@ -1,7 +1,7 @@
 //! Reads a single stream in pieces. Passes each page on as it is read, counts the stream's items,
 //! and finds its fault.
 
-ghost use Rattle.std.specs.Prelude.{◌≡◌, ◌↔◌, ◌<◌, ◌≤◌, ◌++◌, ◌^◌, ℕ, List, [], length, take, drop, Some, IfOk, OnOk, IfSome, IsTrue};
+ghost use Rattle.std.specs.Prelude.{◌≡◌, ◌↔◌, ◌<◌, ◌≤◌, ◌++◌, ◌^◌, ℕ, List, [], length, take, drop, Some, IfOk, OnOk, IfSome, IsTrue, false};
 ghost use Rattle.std.specs.Io.KnownBytes.{IsAtEnd};
 ghost use Rattle.mig_mem.specs.PageSize.{IsPageSize};
 ghost use Rattle.mig_stream.specs.declared.item.Mode.TheVariants.{Single};
@@ -9,9 +9,10 @@ ghost use Rattle.mig_stream.specs.Reading.{Settings, settings, in_frame};
 ghost use Rattle.zimgasol_course.specs.Course.{Stands};
 ghost use Rattle.zimgasol_reading.specs.Coverage.{IsWhole, HasItsPages};
 ghost use Rattle.zimgasol_reading.specs.Recorded.{AreCounted};
-ghost use Rattle.zimgasol_reading.specs.Surveyed.{IsSurveyed, before_of};
+ghost use Rattle.zimgasol_reading.specs.Surveyed.{IsSurveyed, IsAsked, before_of};
 
 use crate::blocks::{Blocks, Coverage};
+use crate::front::Front;
 use crate::heads::Head;
 use crate::libvirt::{LibvirtHeader, header_of};
 use crate::notes::Notes;
@@ -75,6 +76,7 @@ impl Survey {
     pub fn new(alloc: Global, words: &StreamWords<'_>, watch: Watch) -> Survey
         ensures page_size { IsPageSize result.page_size }
         ensures limit { result.limit ≤ 2 ^ 40 }
+        ensures asked { (result.frame ≡ words.now.frame) × (result.is_partial ≡ words.now.partial) × (result.is_laid_over ≡ false) }
     {
         let page_size = words.page_size.bytes();
         Survey {
@@ -133,8 +135,7 @@ impl Survey {
 
     /// Takes the length of the file that the stream is read from.
     pub fn expect_file(&mut self, metadata: &Metadata)
-        ensures page_size { self.new.page_size ≡ self.old.page_size }
-        ensures limit { self.new.limit ≡ self.old.limit }
+        ensures { IsAsked self.old self.new }
     {
         if metadata.is_file() {
             self.file_len = Some(metadata.len());
@@ -169,7 +170,8 @@ impl Survey {
         requires room { 0 < length buffer.old }
         requires page_size { IsPageSize self.old.page_size }
         requires limit { self.old.limit ≤ 2 ^ 40 }
-        ensures { OnOk result ((text : List ℕ) → R.remaining input.old ≡ Some text → length text < 2 ^ 63
+        ensures asked { OnOk result (IsAsked self.old self.new) }
+        ensures found { OnOk result ((text : List ℕ) → R.remaining input.old ≡ Some text → length text < 2 ^ 63
             → IsSurveyed (in_frame self.old.frame (settings Single self.old.page_size self.old.limit)) (drop (before_of self.new.libvirt) text) self.new.state self.new.sections self.new.valid self.new.blocks) }
     {
         let len = read_piece(input, buffer)?;
@@ -187,6 +189,8 @@ impl Survey {
             watch: &mut self.watch,
             len: &mut self.len,
             blocks: None,
+            front: Front::new(rt.alloc()),
+            has_begun: false,
             fed: 0,
         };
         let (course, blocks, is_over) = read_course(course, input, buffer, len, before, noting)?;
@@ -228,51 +232,39 @@ fn read_course<H: AllocGlobal + Files + Clock, R: Read, S: GuestSink<H>, E: Writ
     Ok((course, noting.blocks.take(), is_over))
 }
 
-// Takes the length of `file`.
-fn expect_len<F: OpenFile>(survey: &mut Survey, file: &F)
-    ensures page_size { survey.new.page_size ≡ survey.old.page_size }
-    ensures limit { survey.new.limit ≡ survey.old.limit }
-{
-    if let Ok(metadata) = file.metadata() {
-        survey.expect_file(&metadata);
-    }
-}
-
-// Reads a stream from the file `name`.
-fn read_named<H: AllocGlobal + Files + Clock, S: GuestSink<H>, E: Write>(
+/// Reads the stream in `input` to its end or to a fault, and passes its pages to `sink`. `metadata`
+/// is that of the file that `input` is, if it is one. A fault of the stream is no error: the survey
+/// has it.
+///
+/// What the survey has is what the one reading of the bytes after libvirt's header has.
+///
+/// # Errors
+///
+/// `Trouble::Unread` if a read fails, `Trouble::Libvirt` and `Trouble::Packed` of libvirt's header,
+/// `Trouble::NoMemory`, and those of `sink`.
+pub fn read_input<H: AllocGlobal + Files + Clock, R: Read, S: GuestSink<H>, E: Write>(
     rt: &H,
-    name: &str,
-    survey: &mut Survey,
-    buffer: &mut [u8],
-    sink: &mut S,
-    errors: &mut E,
-) -> Result<(), Trouble>
-    requires room { 0 < length buffer.old }
-    requires page_size { IsPageSize survey.old.page_size }
-    requires limit { survey.old.limit ≤ 2 ^ 40 }
-{
-    let mut file = File::open(rt, name).map_err(Trouble::Unread)?;
-    expect_len(survey, &file);
-    survey.read(rt, &mut file, buffer, sink, errors)
-}
-
-// Reads a stream from the file `name` or from `input`.
-fn read_whole<H: AllocGlobal + Files + Clock, R: Read, S: GuestSink<H>, E: Write>(
-    rt: &H,
-    name: &str,
-    survey: &mut Survey,
+    words: &StreamWords<'_>,
+    metadata: Option<&Metadata>,
     input: &mut R,
     sink: &mut S,
     errors: &mut E,
-) -> Result<(), Trouble>
-    requires page_size { IsPageSize survey.old.page_size }
-    requires limit { survey.old.limit ≤ 2 ^ 40 }
+) -> Result<Survey, Trouble>
+    ensures asked { IfOk result (λ s. (s.frame ≡ words.now.frame) × (s.is_partial ≡ words.now.partial) × (s.is_laid_over ≡ false)) }
+    ensures bounds { IfOk result (λ s. IsPageSize s.page_size × (s.limit ≤ 2 ^ 40)) }
+    ensures found { IfOk result (λ s. (text : List ℕ) → R.remaining input.old ≡ Some text → length text < 2 ^ 63
+        → IsSurveyed (in_frame s.frame (settings Single s.page_size s.limit)) (drop (before_of s.libvirt) text) s.state s.sections s.valid s.blocks) }
 {
     let mut buffer = piece_buffer(rt.alloc())?;
-    if name == "-" {
-        return survey.read(rt, input, &mut buffer, sink, errors);
+    let watch = Watch::new(rt, rt.alloc(), words.talk, words.file)?;
+    let mut survey = Survey::new(rt.alloc(), words, watch);
+    if let Some(metadata) = metadata {
+        survey.expect_file(metadata);
     }
-    read_named(rt, name, survey, &mut buffer, sink, errors)
+    let read = survey.read(rt, input, &mut buffer, sink, errors);
+    survey.watch.end(errors);
+    read?;
+    Ok(survey)
 }
 
 /// Reads a stream to its end or to a fault, from its file or from `input`, and passes its pages to
@@ -280,8 +272,7 @@ fn read_whole<H: AllocGlobal + Files + Clock, R: Read, S: GuestSink<H>, E: Write
 ///
 /// # Errors
 ///
-/// `Trouble::Unread` where the file can't be opened or read, `Trouble::Libvirt` and
-/// `Trouble::Packed` of libvirt's header, `Trouble::NoMemory`, and those of `sink`.
+/// `Trouble::Unread` if the file can't be opened, and those of `read_input`.
 pub fn read_stream<H: AllocGlobal + Files + Clock, R: Read, S: GuestSink<H>, E: Write>(
     rt: &H,
     words: &StreamWords<'_>,
@@ -289,9 +280,10 @@ pub fn read_stream<H: AllocGlobal + Files + Clock, R: Read, S: GuestSink<H>, E: 
     sink: &mut S,
     errors: &mut E,
 ) -> Result<Survey, Trouble> {
-    let alloc = rt.alloc();
-    let watch = Watch::new(rt, alloc, words.talk, words.file)?;
-    let mut survey = Survey::new(alloc, words, watch);
-    read_whole(rt, words.file, &mut survey, input, sink, errors)?;
-    Ok(survey)
+    if words.file == "-" {
+        return read_input(rt, words, None, input, sink, errors);
+    }
+    let mut file = File::open(rt, words.file).map_err(Trouble::Unread)?;
+    let metadata = file.metadata().ok();
+    read_input(rt, words, metadata.as_ref(), &mut file, sink, errors)
 }

@@ -4,7 +4,8 @@
 //! | Modules | What they do |
 //! |---|---|
 //! | `plan` | finds the blocks, their files, and those of `--since` |
-//! | `send`, `saving` | write a single stream |
+//! | `state` | reads and checks the state that is written around RAM |
+//! | `send`, `section`, `saving` | write a single stream |
 //! | `packets`, `saving_channels` | write a main stream and its channels |
 #![tactic(auto)]
 
@@ -12,6 +13,8 @@ mod packets;
 mod plan;
 mod saving;
 mod saving_channels;
+mod section;
 mod send;
+mod state;
 
 pub use saving::save;

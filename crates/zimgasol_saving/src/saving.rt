@@ -6,6 +6,7 @@
 use crate::plan::{Plan, Source, plan_of};
 use crate::saving_channels::{ChannelPlan, channel_plan, save_channels};
 use crate::send::Sending;
+use crate::state::write_after;
 use std::alloc::AllocGlobal;
 use std::fs::{Files, OpenFile};
 use std::io::{self, Read, Write};
@@ -29,11 +30,11 @@ pub(crate) struct Saved {
 // Opens the file of a block, and that of `--since`.
 fn reading_of<H: AllocGlobal + Files>(
     rt: &H,
-    source: &Source<'_>,
+    source: &Source,
     page_size: u64,
 ) -> Result<Reading<H::File>, Trouble> {
     let alloc = rt.alloc();
-    let file = open(rt, alloc, source.word.file)?;
+    let file = open(rt, alloc, &source.file)?;
     let before = match &source.before {
         Some(path) => Some(open(rt, alloc, path)?),
         None => None,
@@ -55,7 +56,7 @@ struct Part<'a> {
     pages: u64,
     // the bytes of the blocks before it
     before: u64,
-    source: &'a Source<'a>,
+    source: &'a Source,
 }
 
 /// Sends the pieces of blocks.
@@ -159,7 +160,7 @@ fn send_block<H: AllocGlobal + Files + Clock, S: PieceSink, W: Write, E: Write>(
 /// of `sink`.
 pub(crate) fn send_blocks<H: AllocGlobal + Files + Clock, S: PieceSink, W: Write, E: Write>(
     rt: &H,
-    plan: &Plan<'_>,
+    plan: &Plan,
     sink: &mut S,
     out: &mut W,
     watch: &mut Watch,
@@ -189,7 +190,7 @@ pub(crate) fn send_blocks<H: AllocGlobal + Files + Clock, S: PieceSink, W: Write
 pub(crate) fn watch_of<H: AllocGlobal + Clock>(
     rt: &H,
     words: &SaveWords<'_>,
-    plan: &Plan<'_>,
+    plan: &Plan,
 ) -> Result<Watch, Trouble> {
     let mut watch = Watch::new(rt, rt.alloc(), words.talk, words.file)?;
     watch.expect_total(plan.total());
@@ -200,12 +201,16 @@ pub(crate) fn watch_of<H: AllocGlobal + Clock>(
 fn send_stream<H: AllocGlobal + Files + Clock, W: Write, E: Write>(
     rt: &H,
     words: &SaveWords<'_>,
-    plan: &Plan<'_>,
+    plan: &Plan,
     out: &mut W,
     watch: &mut Watch,
     errors: &mut E,
 ) -> Result<Sending, Trouble> {
-    let sending = Sending::begin(rt.alloc(), out, &plan.table, words.machine)?;
+    let alloc = rt.alloc();
+    let sending = match &plan.state {
+        Some(state) => Sending::begin_state(alloc, out, &plan.table, state)?,
+        None => Sending::begin(alloc, out, &plan.table, words.machine)?,
+    };
     let mut single = Single {
         sending: Some(sending),
     };
@@ -220,25 +225,31 @@ fn send_stream<H: AllocGlobal + Files + Clock, W: Write, E: Write>(
 fn write_stream<H: AllocGlobal + Files + Clock, W: Write, E: Write>(
     rt: &H,
     words: &SaveWords<'_>,
-    plan: &Plan<'_>,
+    plan: &Plan,
     out: &mut W,
     errors: &mut E,
 ) -> Result<Saved, Trouble> {
     let mut watch = watch_of(rt, words, plan)?;
-    write_watched(rt, words, plan, out, &mut watch, errors)
+    let written = write_watched(rt, words, plan, out, &mut watch, errors);
+    watch.end(errors);
+    written
 }
 
 // Writes the complete stream to `out`, and shows the progress by `watch`.
 fn write_watched<H: AllocGlobal + Files + Clock, W: Write, E: Write>(
     rt: &H,
     words: &SaveWords<'_>,
-    plan: &Plan<'_>,
+    plan: &Plan,
     out: &mut W,
     watch: &mut Watch,
     errors: &mut E,
 ) -> Result<Saved, Trouble> {
     let sending = send_stream(rt, words, plan, out, watch, errors)?;
-    let (pages, bytes) = sending.finish(out, words.frame)?;
+    let (pages, mut bytes) = sending.finish(out, words.frame)?;
+    if let Some(state) = &plan.state {
+        write_after(rt, state, out)?;
+        bytes = bytes.saturating_add(state.after_len);
+    }
     Ok(Saved {
         pages,
         bytes,
@@ -250,7 +261,7 @@ fn write_watched<H: AllocGlobal + Files + Clock, W: Write, E: Write>(
 fn write_file<H: AllocGlobal + Files + Clock, E: Write>(
     rt: &H,
     words: &SaveWords<'_>,
-    plan: &Plan<'_>,
+    plan: &Plan,
     partial: &str,
     errors: &mut E,
 ) -> Result<Saved, Trouble> {
@@ -272,7 +283,7 @@ fn write_file<H: AllocGlobal + Files + Clock, E: Write>(
 fn save_file<H: AllocGlobal + Files + Clock, E: Write>(
     rt: &H,
     words: &SaveWords<'_>,
-    plan: &Plan<'_>,
+    plan: &Plan,
     errors: &mut E,
 ) -> Result<Saved, Trouble> {
     let alloc = rt.alloc();
@@ -319,7 +330,7 @@ fn put_counts<W: Write>(
 fn put_saved<W: Write>(
     output: &mut W,
     name: &str,
-    plan: &Plan<'_>,
+    plan: &Plan,
     saved: Saved,
 ) -> Result<(), Trouble> {
     let blocks = plan.sources.len();
@@ -342,7 +353,7 @@ fn flush<W: Write>(output: &mut W) -> Result<(), Trouble> {
 fn save_output<H: AllocGlobal + Files + Clock, W: Write, E: Write>(
     rt: &H,
     words: &SaveWords<'_>,
-    plan: &Plan<'_>,
+    plan: &Plan,
     output: &mut W,
     errors: &mut E,
 ) -> Result<(), Trouble> {
@@ -354,7 +365,7 @@ fn save_output<H: AllocGlobal + Files + Clock, W: Write, E: Write>(
 fn save_files<H: AllocGlobal + Files + Clock, W: Write, E: Write>(
     rt: &H,
     words: &SaveWords<'_>,
-    plan: &Plan<'_>,
+    plan: &Plan,
     channels: Option<ChannelPlan>,
     output: &mut W,
     errors: &mut E,

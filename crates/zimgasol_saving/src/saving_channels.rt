@@ -110,13 +110,15 @@ fn open_channels<H: AllocGlobal + Files>(
 fn send_all<H: AllocGlobal + Files + Clock, E: Write>(
     rt: &H,
     words: &SaveWords<'_>,
-    plan: &Plan<'_>,
+    plan: &Plan,
     sending: &mut PacketSending<H::File>,
     out: &mut H::File,
     errors: &mut E,
 ) -> Result<(), Trouble> {
     let mut watch = watch_of(rt, words, plan)?;
-    send_blocks(rt, plan, sending, out, &mut watch, errors)
+    let sent = send_blocks(rt, plan, sending, out, &mut watch, errors);
+    watch.end(errors);
+    sent
 }
 
 // Syncs the main stream and the channels to their disk. Returns how many bytes the channels have.
@@ -155,7 +157,7 @@ fn end_all<F: Write + OpenFile + Drop>(
 fn write_all<H: AllocGlobal + Files + Clock, E: Write>(
     rt: &H,
     words: &SaveWords<'_>,
-    plan: &Plan<'_>,
+    plan: &Plan,
     channels: ChannelPlan,
     main: &mut Outlet<H::File>,
     outlets: Vec<Outlet<H::File>>,
@@ -202,7 +204,7 @@ fn of_main<F: Drop>(main: &Outlet<F>, trouble: Trouble) -> Trouble {
 fn write_named<H: AllocGlobal + Files + Clock, E: Write>(
     rt: &H,
     words: &SaveWords<'_>,
-    plan: &Plan<'_>,
+    plan: &Plan,
     channels: ChannelPlan,
     main: &mut Outlet<H::File>,
     errors: &mut E,
@@ -218,7 +220,7 @@ fn write_named<H: AllocGlobal + Files + Clock, E: Write>(
 fn save_into<H: AllocGlobal + Files + Clock, E: Write>(
     rt: &H,
     words: &SaveWords<'_>,
-    plan: &Plan<'_>,
+    plan: &Plan,
     channels: ChannelPlan,
     main: &mut Outlet<H::File>,
     errors: &mut E,
@@ -232,7 +234,7 @@ fn save_into<H: AllocGlobal + Files + Clock, E: Write>(
 fn save_all<H: AllocGlobal + Files + Clock, E: Write>(
     rt: &H,
     words: &SaveWords<'_>,
-    plan: &Plan<'_>,
+    plan: &Plan,
     channels: ChannelPlan,
     errors: &mut E,
 ) -> Result<Saved, Trouble> {
@@ -250,7 +252,7 @@ fn save_all<H: AllocGlobal + Files + Clock, E: Write>(
 pub(crate) fn save_channels<H: AllocGlobal + Files + Clock, E: Write>(
     rt: &H,
     words: &SaveWords<'_>,
-    plan: &Plan<'_>,
+    plan: &Plan,
     channels: ChannelPlan,
     errors: &mut E,
 ) -> Result<Saved, Trouble> {

@@ -6,6 +6,8 @@ ghost use Rattle.mig_stream.specs.Writer.{HasPut};
 ghost use Rattle.mig_send.specs.Sending.{HasSentDrained};
 ghost use Rattle.zimgasol_files.specs.Differing.{piece_of, AreSent};
 
+use crate::section::{set_section_id, start_end};
+use crate::state::State;
 use mig_mem::{NoMemory, Place, Table};
 use mig_send::{OpenRound, SingleSender};
 use mig_stream::Frame;
@@ -26,6 +28,8 @@ pub(crate) struct Sending {
     pub pages: u64,
     /// The bytes that were written.
     pub written: u64,
+    // the id of RAM's section in the stream of a machine with its state
+    id: Option<u32>,
 }
 
 // Adds a page to `round`. Returns whether its table has the place.
@@ -169,6 +173,37 @@ impl Sending {
             bytes: Vec::new(alloc),
             pages: 0,
             written: written as u64,
+            id: None,
+        })
+    }
+
+    /// Begins the stream of a machine with its state: writes the bytes before RAM's records, and
+    /// the end of START. The machine's blocks are those of `table`.
+    ///
+    /// # Errors
+    ///
+    /// `Trouble::Output` if `out` can't be written, `Trouble::NoMemory`.
+    pub(crate) fn begin_state<W: Write>(
+        alloc: Global,
+        out: &mut W,
+        table: &Table,
+        state: &State,
+    ) -> Result<Sending, Trouble> {
+        let (_, mut sender) = SingleSender::with_configuration(alloc, table, &[])?;
+        // START as the sender writes it: the machine's own is among the bytes before the records
+        let mut bytes = Vec::new(alloc);
+        sender.drain_into(&mut bytes);
+        let end = start_end(state.id);
+        write(out, &state.libvirt)?;
+        write(out, &state.before)?;
+        write(out, &end)?;
+        let before = state.libvirt.len().saturating_add(state.before.len());
+        Ok(Sending {
+            sender,
+            bytes,
+            pages: 0,
+            written: before.saturating_add(end.len()) as u64,
+            id: Some(state.id),
         })
     }
 
@@ -193,22 +228,28 @@ impl Sending {
             mut bytes,
             pages: sent,
             written,
+            id,
         } = self;
         let Some((count, mut sender)) = send_section(sender, block, first, pages)? else {
             return Ok(None);
         };
         sender.drain_into(&mut bytes);
+        if let Some(id) = id {
+            set_section_id(&mut bytes, id);
+        }
         write(out, &bytes)?;
         Ok(Some(Sending {
             sender,
             pages: sent.saturating_add(count),
             written: written.saturating_add(bytes.len() as u64),
             bytes,
+            id,
         }))
     }
 
     /// Ends the stream: one of RAM with its end byte, a machine's with RAM's END and the byte
-    /// `QEMU_VM_EOF`. Returns how many pages were sent, and how many bytes were written.
+    /// `QEMU_VM_EOF`. With a state it ends RAM alone. Returns how many pages were sent, and how
+    /// many bytes were written.
     ///
     /// # Errors
     ///
@@ -219,10 +260,13 @@ impl Sending {
             bytes: _,
             pages,
             written,
+            id,
         } = self;
         let mut last = last_bytes(sender, frame)?;
-        if let Frame::Machine = frame {
-            last.push(0)?;
+        match (frame, id) {
+            (_, Some(id)) => set_section_id(&mut last, id),
+            (Frame::Machine, None) => last.push(0)?,
+            (Frame::Ram, None) => {}
         }
         write(out, &last)?;
         Ok((pages, written.saturating_add(last.len() as u64)))

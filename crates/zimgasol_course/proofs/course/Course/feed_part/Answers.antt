@@ -13,8 +13,11 @@ returns-clause-ok g c = λ given text few s.
     ap (λ n. take n (drop k p)) (sym (length-drop k p)) ∙ take-length (drop k p) ∙
     ap (λ n. drop n p) (c.min-skipped.ensures ∙ ap (λ n. min c.args.skip n) (sym (length-take-le c.args.len c.args.buffer.now c.requires))) ∙ drop_min
     c.args.skip p in
+    let seen : StandsAt (g.T.Taker.holds c.look_before.new.self) given text c.args.self.now =
+    stands_kept (g.T.Taker.holds c.args.taker.now) (g.T.Taker.holds c.look_before.new.self) given text c.args.self.now.pause
+    c.args.self.now.state c.args.self.now.sections c.args.self.now.valid c.args.self.now.has_begun c.in_ok-look_before.ensures s in
     let fed : StandsAt (g.T.Taker.holds c.feed.new.taker) given (text ++ drop c.args.skip p) c.feed.new.self =
     subst (λ (x : List ℕ). StandsAt (g.T.Taker.holds c.feed.new.taker) given (text ++ x) c.feed.new.self) same
-    (c.in_ok-feed.ensures given text (subst (λ (x : List ℕ). length (text ++ x) < 2 ^ 63) (sym same) few) s) in
+    (c.in_ok-feed.ensures given text (subst (λ (x : List ℕ). length (text ++ x) < 2 ^ 63) (sym same) few) seen) in
     stands_kept (g.T.Taker.holds c.feed.new.taker) (g.T.Taker.holds c.progress.new.self) given (text ++ drop c.args.skip p) c.feed.new.self.pause
     c.feed.new.self.state c.feed.new.self.sections c.feed.new.self.valid c.feed.new.self.has_begun c.progress.ensures fed

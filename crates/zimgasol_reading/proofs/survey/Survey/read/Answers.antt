@@ -3,8 +3,8 @@ use Rattle.mig_stream.specs.Reading.{settings, in_frame}
 use Rattle.zimgasol_reading.proofs.Surveying.{survey_of, stands_none}
 use Rattle.zimgasol_reading.proofs.survey.Survey.read.Goals as goal
 
-pub returns : goal.returns
-returns g c = λ text is few.
+pub returns-clause-found : goal.returns-clause-found
+returns-clause-found g c = λ text is few.
     let s = c.args.self.now in
     let given = in_frame s.frame (settings Single s.page_size s.limit) in
     survey_of s.frame s.page_size s.limit text _ _ _ _ _ _ _ _ _ _ _ c.requires.limit is few c.in_ok-len.ensures.bytes c.before-before.ensures
