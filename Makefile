@@ -1,57 +1,67 @@
-# `make help` prints what stands behind each `##` below. The times are those of docs/BENCHMARKS.md.
+# `make help` prints what follows each `##` below, in two groups: lines with `users |` first. The times
+# stand here and nowhere else; tools/quotes.py compares those that README repeats.
 
 SCENARIO ?= crates/mig_tool/stdin
 WORDS ?=
 CRATES ?=
 PREFIX ?= /usr/local
+# the targets with their help texts: NAME | users | TIME | TEXT, or without `users |`
+LISTED = sed -n 's/^\([a-z-]*\):.*\#\# /\1 | /p' $(MAKEFILE_LIST)
 
-.PHONY: help run check build program lib install uninstall example bindings fleet bench header try runs mutants interop promises documents site test gate
+.PHONY: help run check build program lib install uninstall dist try-dist example bindings fleet bench header try runs mutants interop promises documents pictures site test gate
 
-help: ## at once | lists the targets
-	@echo "Times on 4 processors, from a fresh clone:"
-	@sed -n 's/^\([a-z]*\):.*## \(.*\) | \(.*\)/\1|\2|\3/p' $(MAKEFILE_LIST) | \
-		awk -F '|' '{printf "  make %-10s %-23s  %s\n", $$1, $$2, $$3}'
+help: ## users | at once | lists the targets
+	@echo "Times on 4 processors, from a fresh clone. For users:"
+	@$(LISTED) | awk -F ' [|] ' '$$2 == "users" {printf "  make %-10s %-22s %s\n", $$1, $$3, $$4}'
+	@echo "For maintainers:"
+	@$(LISTED) | awk -F ' [|] ' '$$2 != "users" {printf "  make %-10s %-22s %s\n", $$1, $$2, $$3}'
 
-run: ## about a minute | runs the tool, proved or not; SCENARIO=FILE WORDS='..'
+run: ## users | about a minute | sends a small guest and loads it
 	@tools/run.sh "$(SCENARIO)" $(WORDS)
 
-check: ## up to 10 minutes | runs tests, stored runs and cases, unproved; CRATES='..'
+check: ## users | up to 10 minutes | every test and stored run, no proofs; CRATES='..'
 	@tools/check.py $(CRATES)
 
-runs: ## seconds, after test | runs the proved programs on cases, commands and captures, and refuses allocations
+runs: ## seconds | runs the proved programs on runs/; after test
 	@tools/runs/runs.py
 
-mutants: ## minutes a crate, after lib | tries the planted bugs that the gate leaves out; CRATES='..'
+mutants: ## minutes a crate | tries more planted bugs; CRATES='..'; after lib
 	@tools/mutants.py $(CRATES)
 
-build: ## half an hour and more | proves and builds the tool: crates/mig_tool/out/mig_tool
+build: ## half an hour and more | proves and builds mig_tool
 	@tools/prove.py mig_tool "half an hour and more"
 	@echo "built: crates/mig_tool/out/mig_tool"
 
-program: ## half an hour and more | proves and builds zimgasol: crates/zimgasol_cli/out/zimgasol_cli
+program: ## users | half an hour and more | proves and builds zimgasol
 	@tools/prove.py zimgasol_cli "half an hour and more"
 	@echo "built: crates/zimgasol_cli/out/zimgasol_cli"
 
-lib: header ## half an hour and more | proves and builds the library for C: out/libzimgasol.a, .so
+lib: header ## users | half an hour and more | proves and builds out/libzimgasol.a and .so
 	@tools/lib.sh
 
-install: ## at once, after lib or program | puts what was built below PREFIX=DIR; LIBDIR, INCLUDEDIR, DESTDIR
+install: ## users | at once | installs these; PREFIX, LIBDIR, INCLUDEDIR, DESTDIR
 	@tools/install.sh "$(PREFIX)"
 
-uninstall: ## at once, after install | removes what was installed; the same PREFIX and DESTDIR
+uninstall: ## users | at once | removes what was installed; PREFIX, DESTDIR
 	@tools/install.sh --uninstall "$(PREFIX)"
 
-example: lib ## some minutes, after lib | builds and runs the C programs of examples/c, and installs the library
+dist: ## users | minutes | makes a release in out/dist; UNPROVED=1, SITE=DIR; after these
+	@tools/dist/dist.py $(if $(UNPROVED),--unproved) $(if $(SITE),--site '$(SITE)')
+
+try-dist: ## minutes | makes it twice, uses it on a new system; SUITE, SITE; after lib
+	@tools/try_dist.py $(if $(SUITE),--suite '$(SUITE)') $(if $(SITE),--site '$(SITE)')
+
+example: lib ## users | some minutes | runs examples/c, tries an installation; after lib
 	@tools/example.py
 	@tools/try_install.py
 
-bindings: lib ## some minutes, after lib | checks and tests bindings/rust and bindings/python, by the system's cargo and Python
+bindings: lib ## some minutes | tests bindings/rust and bindings/python; after lib
 	@tools/try_bindings.py
 
-fleet: ## some minutes, after lib | tests examples/fleet: four workers of Dask, one killed, and GNU parallel
+fleet: ## some minutes | tests examples/fleet with Dask; after lib
 	@tools/try_fleet.py
 
-bench: ## at once, after lib | builds the benchmarks of the library for C: out/bench
+bench: ## users | at once | builds out/bench, the benchmarks in C; after lib
 	@test -f out/libzimgasol.a || { echo "out/libzimgasol.a isn't there: make lib" >&2; exit 1; }
 	@$(CC) -O2 -Wall -Wextra -Wpedantic -pthread -Iinclude -o out/bench bench/*.c out/libzimgasol.a
 	@out/bench
@@ -59,17 +69,17 @@ bench: ## at once, after lib | builds the benchmarks of the library for C: out/b
 header: ## at once | compares include/zimgasol.h with the library's exports
 	@tools/header.py
 
-try: ## at once, after build | runs the built tool in a shell: docs/TOOL.md, pipes, closed streams
+try: ## at once | runs the built mig_tool in a shell; after build
 	@tools/try_tool.py
 
-interop: ## minutes, after build and program | QEMU reads what programs write, and they QEMU's; QEMU='PROGRAM ..'
+interop: ## minutes | tests with QEMU; QEMU='PROGRAM ..'; after build, program
 	@tools/interop/interop.py $(if $(QEMU),--qemu '$(QEMU)') $(if $(SUITES),--suites '$(SUITES)')
 
-promises: ## at once | writes docs/contracts from the sources, and draws docs/proof.svg
+promises: ## at once | writes the contracts, and draws the map of the proof
 	@tools/promises.py
 	@tools/proof_map.py
 
-documents: header ## at once | compares header, case lists, contracts, examples and quotations with the code
+documents: header ## at once | compares the documents with the code
 	@tools/case_lists.py --check
 	@tools/promises.py --check
 	@tools/proof_map.py --check
@@ -78,12 +88,16 @@ documents: header ## at once | compares header, case lists, contracts, examples 
 	@tools/quotes.py
 	@tools/widths.py
 	@tools/bindings.py --check
+	@tools/pictures.py --check
 
-site: ## at once | builds the documents as HTML into out/site, and checks their links
+pictures: ## at once | draws docs/pictures
+	@tools/pictures.py
+
+site: ## at once | builds the documents as HTML in out/site
 	@tools/site.py
 
-test: ## 1 to 2 hours | the gate: all proofs, the named planted bugs, tests and programs
+test: ## users | 1 to 2 hours | all proofs, planted bugs, tests; says how far it is
 	@.ci/run
 
-gate: ## 1 to 2 hours | the gate, taking nothing from earlier runs
+gate: ## 1 to 2 hours | make test, taking nothing from earlier runs
 	@.ci/run --anew

@@ -5,7 +5,8 @@
 
 `.ci/run` and `make test` are this. It says how long it takes from nothing, and after each crate how
 many are proved and in how many minutes. After `rt ci`, tools/runs/runs.py runs the programs that
-were proved. The last line is 'N passed, M failed', of both together.
+were proved. If all passed, out/proved has a record of it (tools/records.py). The last line is
+'N passed, M failed', of both together.
 """
 import os
 import re
@@ -14,11 +15,12 @@ import subprocess
 import sys
 import time
 
+import records
 from crates import TOP, uses
 
 FIRST = """From nothing this takes {times}. `make check` shows every test in ten minutes,
 unproved. What passed before on this machine is taken from there."""
-# (docs/BENCHMARKS.md, "The gate")
+# (docs/build/BENCHMARKS.md, "The gate")
 TIMES = "1 to 2 hours on 4 processors"
 LAST = re.compile(r"(\d+) passed, (\d+) failed")
 PROVED = re.compile(r"^rt: (\S+)( proved| is kept: .*)$")
@@ -74,11 +76,16 @@ def main(words):
     if subprocess.run(["make", "-s", "documents"], cwd=TOP).returncode:
         print("0 passed, 1 failed")
         return 1
+    records.forget("gate")
+    record = records.now("gate")
     passed, failed = prove(bool(words))
     if not failed:
         more, other = run_programs()
         passed, failed = passed + more, failed + other
-    print(f"{passed} passed, {failed} failed")
+    last = f"{passed} passed, {failed} failed"
+    if passed and not failed:
+        records.write_proved("gate", record, last=last, anew=bool(words))
+    print(last)
     return 1 if failed or not passed else 0
 
 

@@ -1,19 +1,23 @@
 #!/bin/sh -e
-# Puts what was built below PREFIX, or below DESTDIR/PREFIX to make a package, or removes it:
+# Puts what was built, or the files of an unpacked release, below PREFIX, or below DESTDIR/PREFIX to
+# make a package, or removes it:
 #
 #   tools/install.sh PREFIX
 #   tools/install.sh --uninstall PREFIX
 #
-# Installed are
+# Of the repository it installs
 #
 #   of `make lib`      header, archive, shared library where there is one, pkg-config file, CMake
-#                      package, docs/C.md
-#   of `make program`  bin/zimgasol, docs/ZIMGASOL.md, and below share the man page zimgasol.1 and
-#                      the completions for bash, zsh and fish, which tools/manual.py writes
+#                      package, docs/use/C.md
+#   of `make program`  bin/zimgasol, docs/use/ZIMGASOL.md, and below share the man page zimgasol.1
+#                      and the completions for bash, zsh and fish, which tools/manual.py writes
 #
-# and the licence. Libraries go to LIBDIR, or else PREFIX/lib, and the header to INCLUDEDIR, or else
-# PREFIX/include. PREFIX/share/doc/zimgasol/installed lists what was put, and the folders that were
-# made for it. --uninstall removes what this file lists, and a folder only if it is empty then.
+# and the licence. A release (`make dist`) has all these, and more; its files are installed as they
+# are, which needs a shell, coreutils, find and sed.
+#
+# Libraries go to LIBDIR, or else PREFIX/lib, and the header to INCLUDEDIR, or else PREFIX/include.
+# PREFIX/share/doc/zimgasol/installed lists what was put, and the folders that were made for it.
+# --uninstall removes what this file lists, and a folder only if it is empty then.
 #
 # The .pc file's URL is ZIMGASOL_URL, or else the installed page.
 cd "$(dirname "$0")/.."
@@ -59,7 +63,9 @@ fi
 
 library=out/libzimgasol.a
 program=crates/zimgasol_cli/out/zimgasol_cli
-if ! test -f $library && ! test -f $program; then
+# A release has a folder bin, and the repository hasn't.
+is_release=$(test ! -d bin || echo yes)
+if test -z "$is_release" && ! test -f $library && ! test -f $program; then
     echo "make lib or make program comes first" >&2
     exit 1
 fi
@@ -141,36 +147,76 @@ relative() {
     printf '%s\n' "${way%/}"
 }
 
-mkdir -p "$DESTDIR/"
-made=$(mktemp -d)
-trap 'save; rm -rf "$made"' EXIT
-folder "$doc"
-put_file 644 LICENSE "$doc/LICENSE"
-if test -f $program; then
+# Puts the files of a release as they are, but for those that name folders.
+put_release() {
+    IFS='
+'
+    for file in $(find bin include lib share ! -type d | LC_ALL=C sort); do
+        case $file in
+            lib/pkgconfig/* | lib/cmake/*) continue ;;
+            lib/*) to=$libdir/${file#lib/} ;;
+            include/*) to=$includedir/${file#include/} ;;
+            *) to=$prefix/$file ;;
+        esac
+        if test -h "$file"; then
+            put_link "$(readlink "$file")" "$to"
+        else
+            put_file "$(test -x "$file" && echo 755 || echo 644)" "$file" "$to"
+        fi
+    done
+    unset IFS
+}
+
+# Puts what `make program` built, with what is made from its help.
+put_program() {
     put_file 755 $program "$prefix/bin/zimgasol"
-    put_file 644 docs/ZIMGASOL.md "$doc/ZIMGASOL.md"
+    put_file 644 docs/use/ZIMGASOL.md "$doc/ZIMGASOL.md"
     tools/manual.py $program "$made"
     share=$prefix/share
     put_file 644 "$made/zimgasol.1" "$share/man/man1/zimgasol.1"
     put_file 644 "$made/zimgasol.bash" "$share/bash-completion/completions/zimgasol"
     put_file 644 "$made/_zimgasol" "$share/zsh/site-functions/_zimgasol"
     put_file 644 "$made/zimgasol.fish" "$share/fish/vendor_completions.d/zimgasol.fish"
-    echo "installed: $DESTDIR$prefix/bin/zimgasol"
-fi
-test -f $library || exit 0
-put_file 644 include/zimgasol.h "$includedir/zimgasol.h"
-put_file 644 $library "$libdir/libzimgasol.a"
-put_file 644 docs/C.md "$doc/C.md"
-if test -f "out/libzimgasol.so.$version"; then
+}
+
+# Puts what `make lib` built.
+put_library() {
+    put_file 644 include/zimgasol.h "$includedir/zimgasol.h"
+    put_file 644 $library "$libdir/libzimgasol.a"
+    put_file 644 docs/use/C.md "$doc/C.md"
+    test -f "out/libzimgasol.so.$version" || return 0
     put_file 755 "out/libzimgasol.so.$version" "$libdir/libzimgasol.so.$version"
     put_link "libzimgasol.so.$version" "$libdir/libzimgasol.so.$series"
     put_link "libzimgasol.so.$series" "$libdir/libzimgasol.so"
+}
+
+# Puts the pkg-config file and the CMake package, which name the folders.
+put_packages() {
+    put_filled zimgasol.pc.in "$(by_prefix "$libdir")" "$(by_prefix "$includedir")" \
+        "$libdir/pkgconfig/zimgasol.pc"
+    cmake=$libdir/cmake/zimgasol
+    for file in zimgasolConfig.cmake zimgasolConfigVersion.cmake; do
+        put_filled $file.in "$(relative "$cmake" "$libdir")" "$(relative "$cmake" "$includedir")" \
+            "$cmake/$file"
+    done
+}
+
+mkdir -p "$DESTDIR/"
+made=$(mktemp -d)
+trap 'save; rm -rf "$made"' EXIT
+folder "$doc"
+if test -n "$is_release"; then
+    put_release
+    put_packages
+    echo "installed: the release, below $DESTDIR$prefix"
+    exit 0
 fi
-put_filled zimgasol.pc.in "$(by_prefix "$libdir")" "$(by_prefix "$includedir")" \
-    "$libdir/pkgconfig/zimgasol.pc"
-cmake=$libdir/cmake/zimgasol
-for file in zimgasolConfig.cmake zimgasolConfigVersion.cmake; do
-    put_filled $file.in "$(relative "$cmake" "$libdir")" "$(relative "$cmake" "$includedir")" \
-        "$cmake/$file"
-done
+put_file 644 LICENSE "$doc/LICENSE"
+if test -f $program; then
+    put_program
+    echo "installed: $DESTDIR$prefix/bin/zimgasol"
+fi
+test -f $library || exit 0
+put_library
+put_packages
 echo "installed: $DESTDIR$libdir/libzimgasol.a"

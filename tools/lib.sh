@@ -61,4 +61,5 @@ if command -v "${CC:-cc}" > /dev/null; then
 else
     echo "no C compiler (${CC:-cc}): no shared library"
 fi
+tools/records.py --linked "$built" out/libzimgasol.a "out/libzimgasol.so.$version"
 rm -rf out/objects

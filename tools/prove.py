@@ -5,7 +5,8 @@
 
 TIME is printed at the beginning: the approximate duration. A crate that hasn't changed since it was
 proved here isn't proved again. The toolchain's output is written to out/prove.log; if a step fails
-its last lines are printed, and its status is returned.
+its last lines are printed, and its status is returned. Else out/proved has a record of what was
+proved and built (tools/records.py).
 
 Each crate finds the crates below it built. If rt proves only CRATE, it begins with a quick pass
 over all sources, also of functions that CRATE doesn't reach. For these it prints
@@ -18,6 +19,7 @@ import subprocess
 import sys
 import time
 
+import records
 from crates import CRATES, TOP, below, is_program, uses
 
 LOG = TOP / "out" / "prove.log"
@@ -48,6 +50,12 @@ def prove(name, log):
         return wait(name, subprocess.Popen(command, cwd=crate, stdin=stdin, stderr=log))
 
 
+def built(name):
+    """Returns the file that a crate is built as."""
+    crate = CRATES / name / "out"
+    return crate / name if is_program(name) else crate / f"lib{name}.a"
+
+
 def failed(name, status, text):
     print("\n".join(text.splitlines()[-40:]))
     print(f"{name} FAILED, with status {status}; all that was said is in {LOG.relative_to(TOP)}")
@@ -59,6 +67,8 @@ def main(name, how_long):
     print(f"proves {len(names)} crates: {', '.join(names)}")
     print(f"from nothing this takes {how_long} on 4 processors", flush=True)
     LOG.parent.mkdir(exist_ok=True)
+    records.forget(name)
+    record = records.now(name)
     with open(LOG, "w+") as log:
         for count, it in enumerate(names, 1):
             begin, start = log.seek(0, 2), time.monotonic()
@@ -68,6 +78,7 @@ def main(name, how_long):
                 return failed(it, status, log.read())
             minutes, seconds = divmod(round(time.monotonic() - start), 60)
             print(f"{count} of {len(names)}: {it} proved ({minutes} min {seconds} s)", flush=True)
+    records.write_proved(name, record, files=records.files_of([built(name)]))
     return 0
 
 
