@@ -37,7 +37,7 @@ use core::ffi::c_void;
 
 def doc(comment, indent=""):
     """The lines of a comment, as documentation."""
-    lines = [re.sub(r"^ ?\* ?", "", line.strip()).rstrip() if i else line.strip() for i, line in enumerate((comment or "").strip().splitlines())]
+    lines = [re.sub(r"^ ?\* ?", "", line.strip()).rstrip() for line in (comment or "").strip().splitlines()]
     # (Markdown would set what is indented as code: it is code, or a list that goes on)
     fenced, found = False, []
     for i, line in enumerate(lines):

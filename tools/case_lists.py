@@ -1,9 +1,12 @@
 #!/usr/bin/env python3
-"""The lists of cases in docs/EXAMPLES.md, from the names in the data of mig_rows and in runs/tool.
+"""The files of cases: what docs/build/EXAMPLES.md says of them, and the names of the cases.
 
-    tools/case_lists.py            writes them between the two marks there
-    tools/case_lists.py --check    compares them with the files, and fails if they differ
+    tools/case_lists.py            prints the names of all cases, by file and heading
+    tools/case_lists.py --check    fails if the page lacks a file, or a word with which a line begins,
+                                   or has a word that no case uses, or if the stored run of mig_rows
+                                   leaves out a file
 """
+import re
 import sys
 import textwrap
 from pathlib import Path
@@ -11,9 +14,9 @@ from pathlib import Path
 TOP = Path(__file__).resolve().parent.parent
 ROWS = TOP / "crates" / "mig_rows"
 TOOL = TOP / "runs" / "tool"
-PAGE = TOP / "docs" / "EXAMPLES.md"
-BEGIN = "<!-- made by tools/case_lists.py -->\n"
-END = "<!-- end of what is made -->\n"
+PAGE = TOP / "docs" / "build" / "EXAMPLES.md"
+# Words of the page that no case in the repository uses.
+BY_HAND = {"file"}
 
 
 def groups(text):
@@ -28,37 +31,45 @@ def groups(text):
     return [(heading, names) for heading, names in found if names]
 
 
-def part(file, whose):
+def part(file):
     listed = groups(file.read_text())
-    lines = [f"### `{file.name}`{whose}: {sum(len(names) for _, names in listed)} cases\n\n"]
+    lines = [f"{file.relative_to(TOP)}: {sum(len(names) for _, names in listed)} cases\n"]
     for heading, names in listed:
-        names = f"- **{heading}:** {'; '.join(names)}"
+        names = f"- {heading}: {'; '.join(names)}"
         lines.append(textwrap.fill(names, 100, subsequent_indent="  ", break_on_hyphens=False) + "\n")
     return "".join(lines)
 
 
-def rows():
-    """The files that the stored run of mig_rows names, which have to be all that it has."""
-    files = [ROWS / "data" / it for it in (ROWS / "args").read_text().split()]
-    unrun = sorted(it.name for it in {*(ROWS / "data").glob("*.txt")} - {*files})
-    if unrun:
-        sys.exit(f"crates/mig_rows/args doesn't name {', '.join(unrun)}")
-    return files
+def first_words(file):
+    lines = [line.split() for line in file.read_text().splitlines()]
+    return {words[0] for words in lines if words and not words[0].startswith("#")}
+
+
+def problems(files):
+    """What the page, the stored run and the files of cases don't say alike."""
+    page = PAGE.read_text()
+    # a row of a table begins with one or more words in backticks, each a kind of line or a file
+    cells = " ".join(re.findall(r"^\| (`[^|]*) \|", page, re.MULTILINE))
+    said = {it.split()[0] for it in re.findall(r"`([^`]+)`", cells)}
+    used = set().union(*map(first_words, files)) - {"case", "text", "from"}
+    names = {it.name for it in files}
+    run = {ROWS / "data" / it for it in (ROWS / "args").read_text().split()}
+    for word in sorted((used | names) - said):
+        yield f"{PAGE.relative_to(TOP)} lacks {word}"
+    for word in sorted(said - used - names - BY_HAND):
+        yield f"{PAGE.relative_to(TOP)} has {word}, which no case uses"
+    for file in sorted({*(ROWS / "data").glob("*.txt")} - run):
+        yield f"crates/mig_rows/args doesn't name {file.name}"
 
 
 def main(words):
     if words not in ([], ["--check"]):
         sys.exit(__doc__)
-    page = PAGE.read_text()
-    if BEGIN not in page or END not in page:
-        sys.exit("docs/EXAMPLES.md lacks the marks of the part that is made")
-    before, behind = page[:page.index(BEGIN)], page[page.index(END) + len(END):]
-    parts = [part(it, "") for it in rows()] + [part(it, " of the tool") for it in sorted(TOOL.glob("*.txt"))]
-    made = before + BEGIN + "\n" + "\n".join(parts) + "\n" + END + behind
+    files = [*sorted((ROWS / "data").glob("*.txt")), *sorted(TOOL.glob("*.txt"))]
     if not words:
-        PAGE.write_text(made)
-    elif made != page:
-        sys.exit("docs/EXAMPLES.md doesn't list the cases as they are: run tools/case_lists.py")
+        print("\n".join(map(part, files)), end="")
+    elif wrong := list(problems(files)):
+        sys.exit("\n".join(wrong))
 
 
 if __name__ == "__main__":

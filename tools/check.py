@@ -157,7 +157,7 @@ def main(names):
     nothing = [it for it in names if it not in {name for _, name in runs}]
     if nothing:
         print(f"with no test and no program: {', '.join(nothing)}"
-              " (docs/ARCHITECTURE.md lists the crates with their tests)")
+              " (docs/build/ARCHITECTURE.md lists the crates with their tests)")
     if stopped:
         print(f"{stopped} stopped for their time, which says nothing of them: try these again alone")
     print(f"{passed} passed, {failed} failed")

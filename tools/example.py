@@ -10,10 +10,10 @@ end or the fault. Of several channels the blocks have whole rounds after each pi
 by page has the same answer. Then the example programs send and load files of memory, a guest is
 migrated while it runs, on one stream and on several channels, and a program has each allocation
 refused in turn. Connections are lost in the middle of a round, at either end. The three programs of
-docs/C.md have a peer that is written here, and read files that are made here. All but the cases
+docs/use/C.md have a peer that is written here, and read files that are made here. All but the cases
 also run under valgrind, if it is installed, and the live migrations with AddressSanitizer, that on
 several channels with ThreadSanitizer, too. The binding from Rust is built if rustc is installed.
-The names that the archive defines and needs are compared with those in docs/C.md.
+The names that the archive defines and needs are compared with those in docs/use/C.md.
 """
 
 import contextlib
@@ -35,7 +35,7 @@ TOP = pathlib.Path(__file__).resolve().parent.parent
 OUT = TOP / "out/c"
 LIBRARY = TOP / "out/libzimgasol.a"
 FLAGS = ["-std=c11", "-O1", "-g", "-Wall", "-Wextra", "-Werror", f"-I{TOP}/include"]
-# beside these, of the programs that docs/C.md quotes
+# beside these, of the programs that docs/use/C.md quotes
 STRICT = ["-O2", "-Wpedantic"]
 CUTS = (0, 1, 7, 100, 4096)
 DATA = TOP / "crates/mig_rows/data"
@@ -951,7 +951,7 @@ def stored_scenario(before, rows):
         run(*before, OUT / "load", "other=1", stdin=file, wanted="fault 63 round 0", status=1)
 
 
-# ---- the programs of the tutorial (docs/C.md), with streams that are made and read here
+# ---- the programs of the tutorial (docs/use/C.md), with streams that are made and read here
 
 
 MACHINE = [(2048, b"mem0"), (2048, b"mem1")]
@@ -1218,7 +1218,7 @@ def reading(before):
 
 
 def tutorial():
-    """The three programs of docs/C.md, with streams that are made and read here, and one with another."""
+    """The three programs of docs/use/C.md, with streams that are made and read here, and one with another."""
     for before in [[]] + ([VALGRIND] if VALGRIND else []):
         receiving(before)
         reading(before)
@@ -1286,7 +1286,7 @@ def main():
         print(run(*before, OUT / "apart").decode().strip() + under)
     failing_read()
     tutorial()
-    print("the programs of docs/C.md: with a peer in Python, and one with another, each as it should be")
+    print("the programs of docs/use/C.md: with a peer in Python, and one with another, each as it should be")
     live()
     print("a guest migrated while it ran: no page differs")
     channels()

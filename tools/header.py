@@ -4,9 +4,9 @@
 Each export is written as C would declare it: a slice as a pointer and a length, a reference as a
 pointer, a `Global` as nothing. The names of arguments have to be the same, except for a slice's
 length. The structs that are passed and the numbers of the statuses are compared, too, and so are
-the numbers and names of faults, with their definitions. Each status has the message that
-docs/FAULTS.md lists, and no two have the same. ZIMGASOL_CHECKED stands before the calls that return
-a status, and before no other.
+the numbers and names of faults, with their definitions. The table of docs/use/FAULTS.md has each
+fault and status, with its name, its message and its text in C; no two texts are the same.
+ZIMGASOL_CHECKED stands before the calls that return a status, and before no other.
 """
 
 import pathlib
@@ -193,21 +193,75 @@ def versions():
     return parts + [f"version: {place} has {found}, not {number}" for place, found in places.items() if int(found) != number]
 
 
+# the columns of the table of docs/use/FAULTS.md that are compared, and what an empty cell has
+COLUMNS = "| No. | Name | Message | In C |"
+EMPTY = "-"
+
+
+def fault_rows():
+    """The rows of the table of all numbers: number, names, messages, and text in C."""
+    page = (TOP / "docs/use/FAULTS.md").read_text()
+    table = re.search(rf"^{re.escape(COLUMNS)}.*\n\|[-|]+\n((?:\|.*\n)+)", page, re.M)[1]
+    for line in table.splitlines():
+        number, names, said, text, *_ = (cell.strip() for cell in line.strip("|").split(" | "))
+        yield number, names.split(", "), [] if said == EMPTY else said.split(" / "), None if text == EMPTY else text
+
+
+def named_statuses():
+    """The statuses that the header names, with their numbers, in its order."""
+    listed = re.search(r"typedef enum zimgasol_status \{(.*?)\n\}", (TOP / "include/zimgasol.h").read_text(), re.S)[1]
+    return re.findall(r"ZIMGASOL_(\w+) = (\d+)", listed)
+
+
 def messages():
-    """What of the messages of statuses isn't as docs/FAULTS.md has it."""
+    """What of the texts of statuses isn't as docs/use/FAULTS.md has it."""
     ours = dict(re.findall(r'^\s+(\d+) => b"(.*)\\0",$', (TOP / "crates/mig_c_calls/src/text.rt").read_text(), re.M))
-    listed = re.search(r"\| No\. \| Message \|\n\|---\|---\|\n(.*?)\n\n", (TOP / "docs/FAULTS.md").read_text(), re.S)[1]
-    theirs = dict(re.fullmatch(r"\| (\d+) \| (.*) \|", line).groups() for line in listed.splitlines())
-    named = set(re.findall(r"ZIMGASOL_\w+ = (\d+)", re.search(r"typedef enum zimgasol_status \{(.*?)\n\}", (TOP / "include/zimgasol.h").read_text(), re.S)[1]))
-    wrong = [f"message {it}: {ours.get(it)!r} here, {theirs.get(it)!r} in FAULTS" for it in ours.keys() | theirs.keys() | named
+    theirs = {number: text for number, _, _, text in fault_rows() if text}
+    named = {number for _, number in named_statuses()}
+    wrong = [f"text {it}: {ours.get(it)!r} here, {theirs.get(it)!r} in FAULTS" for it in ours.keys() | theirs.keys() | named
              if it not in ours or ours[it] != theirs.get(it) or it not in named]
-    return wrong + [f"message {it!r}: of several statuses" for it in ours.values() if list(ours.values()).count(it) > 1]
+    return wrong + [f"text {it!r}: of several statuses" for it in ours.values() if list(ours.values()).count(it) > 1]
+
+
+# where the faults of the libraries and of mig_tool have their numbers and messages
+MESSAGES = ("mig_mem/src/fault", "mig_stream/src/fault", "mig_packet/src/fault", "mig_assemble/src/fault", "mig_load_types/src/fault",
+            "mig_send/src/fault", "mig_mapped/src/fault", "mig_session/src/pumping", "mig_in_place/src/source_reader",
+            "mig_scenario/src/fault", "mig_command/src/fault")
+NO_MEMORY = "60"
+
+
+def messages_of(text):
+    """The faults of a source: number, name and message. A value in a message is a capital letter in the page."""
+    numbers = {it[:2]: it[2] for it in re.findall(r"(\w*Fault)::(\w+)(?:\([^)]*\))? => (\d+),", text)}
+    said = re.findall(r'(\w*Fault)::(\w+)(?:\([^)]*\))? => (?:write!\(\s*f,\s*|f\.write_str\()?"(?:\{\}: )?([^:"][^"]*)"', text)
+    yield from ((number, of[1], None) for of, number in numbers.items())
+    yield from ((numbers.get((enum, name), NO_MEMORY), name, message) for enum, name, message in said)
+    yield from ((NO_MEMORY, "NoMemory", message) for message in re.findall(r'const REFUSED: &str = "(.*)";', text))
+    yield from ((number, name, None) for number, name in re.findall(r'#\[error\("fault (\d+)"\)\]\s*(\w+),', text))
+
+
+def fault_messages():
+    """What of the names and messages of faults isn't as docs/use/FAULTS.md has it."""
+    ours = {it for path in MESSAGES for it in messages_of((TOP / f"crates/{path}.rt").read_text())}
+    rows = {number: (names, said) for number, names, said, _ in fault_rows()}
+    found = {number: (set(), set()) for number in rows}
+    calls = {(number, name, None) for name, number in named_statuses() if number == "0" or int(number) >= 100}
+    for number, name, message in ours | calls:
+        names, said = rows.get(number, ([], []))
+        form = message and "[A-Z]".join(map(re.escape, re.split(r"\{[^}]*\}", message)))
+        written = [it for it in said if form and re.fullmatch(form, it)]
+        if name not in names or message and not written:
+            yield f"fault {number} {name}: {message!r} isn't in FAULTS"
+            continue
+        found[number][0].add(name)
+        found[number][1].update(written)
+    for number, (names, said) in rows.items():
+        yield from (f"fault {number}: {it!r} in FAULTS is of no source" for it in {*names, *said} - found[number][0] - found[number][1])
 
 
 def out_of_order():
     """The header's statuses whose number isn't above the one before."""
-    header = (TOP / "include/zimgasol.h").read_text()
-    listed = re.findall(r"ZIMGASOL_(\w+) = (\d+)", re.search(r"typedef enum zimgasol_status \{(.*?)\n\}", header, re.S)[1])
+    listed = named_statuses()
     return [b[0] for a, b in zip(listed, listed[1:]) if int(a[1]) >= int(b[1])]
 
 
@@ -218,7 +272,7 @@ def main():
     wrong += [f"{name}: exported as {ours[name]}, declared as {theirs[name]}" for name in ours.keys() & theirs.keys() if not same(ours[name], theirs[name])]
     wrong += [f"struct {name}: {a} here, {b} in the header" for name, a, b in struct_fields() if a != b]
     wrong += [f"status {name}: {a}, {b} in the header, {c} in specs" for name, a, b, c in statuses() if not a == b == c]
-    wrong += versions() + messages()
+    wrong += versions() + messages() + list(fault_messages())
     wrong += [f"{name}: ZIMGASOL_CHECKED stands before what returns no status, or is missing" for name in unchecked()]
     wrong += [f"fault {name}: {a}, {b} in the header" for name, a, b in faults() if a != b]
     wrong += [f"status {name} stands behind a larger one" for name in out_of_order()]

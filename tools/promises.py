@@ -1,8 +1,8 @@
 #!/usr/bin/env python3
-"""The pages of docs/contracts/ and docs/CONTRACTS.md: the public functions and their contracts.
+"""The pages of out/contracts: the public functions of each crate, and their contracts.
 
-    tools/promises.py            writes them
-    tools/promises.py --check    compares them, and fails if it would write something else
+    tools/promises.py            writes them, with CONTRACTS.md as their index
+    tools/promises.py --check    writes nothing, and fails for what is listed below
 
 A page has the public types and functions of one crate of the product: for each function its
 signature, its sentence and its clauses, unchanged except for line breaks, and below them the
@@ -10,15 +10,22 @@ definitions that these cite. The sentence is the function's comment, and the tex
 tools/promises.md on it, which is put before the errors. The page of a crate that only re-exports
 names has its comment, and the page of each name.
 
-It fails if a public function with a contract has no sentence, if tools/promises.md names a function
-or a definition that doesn't exist, and if it read other numbers of public functions and clauses
-than a count line by line.
+It fails if
+
+- a public function with a contract has no sentence,
+- tools/promises.md has a heading or a name that is in no source,
+- docs/trust/PROMISES.md has the name of a call, a law or a definition that is in no source,
+- a link of a page leads to no file,
+- it read other numbers of public functions and clauses than a count line by line.
 """
+import os
 import re
+import shutil
 import sys
 import textwrap
 from dataclasses import dataclass
 from functools import cache
+from pathlib import Path
 
 import rattle_source
 from crates import CRATES, TOP, uses
@@ -27,12 +34,13 @@ from rattle_source import WORD
 # The crates of crates.txt that are no part of the product.
 BESIDE = """mig_fixtures mig_cases mig_rows mig_uses mig_bench mig_mem_tests mig_send_tests mig_stream_tests mig_relay_tests mig_session_tests
     mig_in_place_tests mig_tool_tests""".split()
-PAGES = TOP / "docs" / "contracts"
-INDEX = TOP / "docs" / "CONTRACTS.md"
+PAGES = TOP / "out" / "contracts"
+INDEX = PAGES / "CONTRACTS.md"
 SENTENCES = TOP / "tools" / "promises.md"
+PROMISES = TOP / "docs" / "trust" / "PROMISES.md"
 MADE = "<!-- made by tools/promises.py: change the sources or tools/promises.md, and run it -->\n"
 COUNT = """{} public functions, of which {} are laws; {} clauses `requires` and {} `ensures`.
-[All crates](../CONTRACTS.md), and [what is proved in plain words](../PROMISES.md).
+[All crates](CONTRACTS.md), and [what is proved in plain words](../../docs/trust/PROMISES.md).
 """
 CITED = re.compile(rf"(?<![\w.]){WORD}(?:\.{WORD})?")
 
@@ -281,11 +289,11 @@ def facade_page(crate, crates):
 def index(crates, says):
     rows = ["| Crate | Functions | Laws | `requires` | `ensures` |", "|---|---|---|---|---|"]
     row = lambda first, counts: f"| {first} | {' | '.join(map(str, counts))} |"
-    rows += [row(f"[{it.name}](contracts/{it.name}.md)", numbers(it))
+    rows += [row(f"[{it.name}]({it.name}.md)", numbers(it))
              for it in crates if it.functions]
     rows.append(row("all", map(sum, zip(*map(numbers, crates)))))
     paths = lambda it: ", ".join(dict.fromkeys(f"`{path}`" for path, _ in it.gives))
-    gives = [fill(f"[{it.name}](contracts/{it.name}.md) has none of its own. It re-exports names "
+    gives = [fill(f"[{it.name}]({it.name}.md) has none of its own. It re-exports names "
                   f"of {paths(it)}.") for it in crates if it.gives and not it.functions]
     parts = [MADE.strip(), "# Contracts", says["Contracts"], "\n".join(rows), *gives]
     return "\n\n".join(parts) + "\n"
@@ -293,14 +301,21 @@ def index(crates, says):
 
 @cache
 def source_words():
-    """The words of all sources and definitions."""
+    """The words of all sources and definitions, and of the header for C."""
     files = [it for crate in uses() for kind in ("src/**/*.rt", "specs/**/*.antt")
              for it in (CRATES / crate).glob(kind)]
+    files.append(TOP / "include" / "zimgasol.h")
     return set(re.findall(r"\w+", " ".join(it.read_text() for it in files)))
 
 
+def unknown(text):
+    """The names in backticks of a text that are in no source."""
+    names = [it for name in re.findall(r"`([^\W_][\w:]*)`", text) for it in name.split("::")]
+    return [it for it in dict.fromkeys(names) if it not in source_words()]
+
+
 def problems(crates, says):
-    """What is wrong with the sources or with tools/promises.md."""
+    """What is wrong with the sources, with tools/promises.md or with docs/trust/PROMISES.md."""
     found, keys = [], {"Contracts"}
     for crate in crates:
         functions = {f"{crate.name}::{called(it)}": it for it in crate.functions}
@@ -313,11 +328,20 @@ def problems(crates, says):
             found.append(f"{crate.name}: public functions and clauses are {counted(crate.name)} by "
                          f"lines, but {numbers_read} were read")
     for key, text in says.items():
-        names = [it for name in re.findall(r"`([^\W_][\w:]*)`", text) for it in name.split("::")]
         found += [f"tools/promises.md: {key} is no public function"] * (key not in keys)
-        found += [f"tools/promises.md, {key}: there is no {it}" for it in names
-                  if it not in source_words()]
+        found += [f"tools/promises.md, {key}: there is no {it}" for it in unknown(text)]
+    found += [f"docs/trust/PROMISES.md: there is no {it}" for it in unknown(PROMISES.read_text())]
     return found + [f"{name}: no crate of crates.txt" for name in BESIDE if name not in uses()]
+
+
+def broken(pages):
+    """The links of the pages that lead to no page and to no file of the repository."""
+    for file, text in pages.items():
+        prose = re.sub(r"```.*?```|`[^`]*`", "", text, flags=re.DOTALL)
+        for link in re.findall(r"\]\(([^)#:]+)[^):]*\)", prose):
+            target = Path(os.path.normpath(PAGES / link))
+            if target not in pages and not target.exists():
+                yield f"{file.relative_to(TOP)}: the link {link} leads nowhere"
 
 
 def main(words):
@@ -330,14 +354,11 @@ def main(words):
               for it in crates if it.gives and not it.functions}
     pages[INDEX] = index(crates, says)
     if not words:
-        PAGES.mkdir(exist_ok=True)
+        shutil.rmtree(PAGES, ignore_errors=True)
+        PAGES.mkdir(parents=True)
         for file, text in pages.items():
             file.write_text(text)
-    wrong = problems(crates, says)
-    wrong += [f"{it.relative_to(TOP)} isn't what tools/promises.py writes: run it"
-              for it, text in pages.items() if not it.is_file() or it.read_text() != text]
-    wrong += [f"{it.relative_to(TOP)} is of no crate: remove it"
-              for it in PAGES.glob("*.md") if it not in pages]
+    wrong = [*problems(crates, says), *broken(pages)]
     functions, laws, requires, ensures = map(sum, zip(*map(numbers, crates)))
     print(f"{functions} public functions, {laws} of them laws, have {requires} requires and "
           f"{ensures} ensures, as by lines; tools/promises.md has {len(says)} parts")

@@ -1,5 +1,5 @@
 #!/usr/bin/env python3
-"""The map of the proof: docs/proof.svg, which graphviz draws from docs/proof.dot.
+"""The map of the proof: docs/trust/proof.svg, which graphviz draws from docs/trust/proof.dot.
 
     tools/proof_map.py            draws it (apt-get install -y graphviz)
     tools/proof_map.py --check    fails if an arrow's evidence isn't in its file, if a name in a box
@@ -15,7 +15,7 @@ import sys
 
 from crates import CRATES, TOP
 
-MAP, DRAWING = TOP / "docs" / "proof.dot", TOP / "docs" / "proof.svg"
+MAP, DRAWING = TOP / "docs" / "trust" / "proof.dot", TOP / "docs" / "trust" / "proof.svg"
 ARROW = re.compile(r'^ *(\w+) -> (\w+) \[.*tooltip="(\S+): ([^"]+)"\];$', re.MULTILINE)
 BOX = re.compile(r'^ *(\w+) \[label="([^"]+)"', re.MULTILINE)
 
@@ -59,8 +59,8 @@ def main(args):
     arrows = [f"{begin}->{end}" for begin, end, _, _ in ARROW.findall(text)]
     drawing = DRAWING.read_text() if DRAWING.is_file() else ""
     if titles(drawing) != sorted(["proof", *boxes, *arrows]):
-        wrong.append("docs/proof.svg is of another map: run tools/proof_map.py")
-    print(f"{len(boxes)} boxes and {len(arrows)} arrows of docs/proof.dot, each arrow with its evidence")
+        wrong.append("docs/trust/proof.svg is of another map: run tools/proof_map.py")
+    print(f"{len(boxes)} boxes and {len(arrows)} arrows of docs/trust/proof.dot, each arrow with its evidence")
     sys.exit("\n".join(wrong) if wrong else 0)
 
 

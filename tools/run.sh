@@ -6,7 +6,7 @@
 # builds it.
 set -eu
 if [ -z "${1-}" ]; then
-    echo "tools/run.sh SCENARIO [WORD ..]: docs/TOOL.md has what a scenario is" >&2
+    echo "tools/run.sh SCENARIO [WORD ..]: crates/mig_tool/README.md has what a scenario is" >&2
     exit 2
 fi
 if [ ! -r "$1" ]; then

@@ -1,9 +1,9 @@
 #!/usr/bin/env python3
 """Builds out/site: README.md, the other documents and the contracts as HTML, by pandoc.
 
-A link to another document leads to its page, and one to another file of the repository to a copy. A
-document that is only named, for example `docs/FORMATS.md`, becomes a link, too. It fails if a link
-of the site leads to no page, no file or no heading.
+A link to another document leads to its page, and one to another file of the repository to a copy.
+It fails if a link of the site leads to no page, no file or no heading, or if a picture is of
+another source (tools/pictures.py).
 
     tools/site.py
 """
@@ -18,16 +18,23 @@ from string import Template
 
 TOP = Path(__file__).resolve().parent.parent
 SITE = TOP / "out" / "site"
-# The navigation, in this order. Documents that aren't named here follow under the last heading.
+# The pages, and the navigation in this order. Pages that no group names follow under the last
+# heading, but those of crates' contracts, which the index of contracts lists.
+SOURCES = ("*.md", "docs/**/*.md", "bindings/*/README.md", "examples/*/README.md",
+           "crates/*/README.md", "out/contracts/*.md")
 GROUPS = {
-    "": "README",
-    "Use it": "docs/EMBEDDING docs/C docs/contracts/zimgasol docs/TOOL docs/ZIMGASOL docs/INTEROP "
-              "docs/FAULTS docs/BENCHMARKS docs/SCALE",
-    "Proof": "docs/PROMISES docs/CONTRACTS docs/FORMATS docs/EXAMPLES",
-    "The project": "docs/ARCHITECTURE docs/DECISIONS docs/TOOLCHAIN CONTRIBUTING", "More": ""}
-# What the navigation calls pages whose headings say too little there.
-NAMES = {"docs/ZIMGASOL": "The program zimgasol", "docs/TOOL": "The program mig_tool",
-         "docs/EXAMPLES": "Cases and tests", "docs/INTEROP": "QEMU at the other end"}
+    "": "README docs/README",
+    "A saved guest": "docs/use/ZIMGASOL docs/use/FAULTS docs/use/QEMU docs/use/SCALE "
+                     "bindings/python/README examples/fleet/README",
+    "In a hypervisor": "docs/use/EMBEDDING docs/use/C bindings/rust/README docs/use/FORMATS",
+    "Proofs": "docs/trust/PROMISES out/contracts/CONTRACTS SECURITY",
+    "To change it": "CONTRIBUTING docs/build/ARCHITECTURE docs/build/DECISIONS "
+                    "docs/build/BENCHMARKS docs/build/EXAMPLES crates/mig_tool/README CHANGELOG", "More": ""}
+# What the navigation calls pages whose headings say too little or too much there.
+NAMES = {"docs/README": "All documents", "docs/use/ZIMGASOL": "The program",
+         "docs/use/QEMU": "QEMU and libvirt", "bindings/python/README": "Python",
+         "bindings/rust/README": "Rust", "docs/use/C": "C", "docs/use/EMBEDDING": "Which call",
+         "examples/fleet/README": "Many saves"}
 PAGE = Template((TOP / "tools" / "site.html").read_text())
 
 
@@ -46,10 +53,13 @@ class Links(HTMLParser):
         self.links += [it for it in links if not re.match("[a-z]+:", it)]
 
 
+def file_of(page):
+    """A page's file in the site; README.md is the front page, and what out/ has is beside it."""
+    return "index.html" if page == "README" else f"{page.removeprefix('out/')}.html"
+
+
 def path_of(page, seen_from):
-    """The way to a page from another one; README.md is the front page."""
-    file = "index.html" if page == "README" else f"{page}.html"
-    return os.path.relpath(file, os.path.dirname(seen_from))
+    return os.path.relpath(file_of(page), os.path.dirname(file_of(seen_from)))
 
 
 def linked(body, page, titles):
@@ -60,7 +70,11 @@ def linked(body, page, titles):
         file = os.path.normpath(os.path.join(os.path.dirname(page), path))
         if file.endswith(".md") and file[:-3] in titles:
             return f'<a href="{path_of(file[:-3], page)}{anchor}">{match[2]}</a>'
-        return match[2] if path and (TOP / file).is_dir() else match[0]  # a folder has no page
+        if path and (TOP / file).is_dir():
+            return match[2]  # a folder has no page
+        if path and (TOP / file).is_file():
+            return f'<a href="{os.path.relpath(file, os.path.dirname(file_of(page)))}">{match[2]}</a>'
+        return match[0]
 
     def name(match):
         is_other = match[1] in titles and match[1] != page
@@ -73,9 +87,9 @@ def linked(body, page, titles):
 
 
 def navigation(page, titles):
-    """The list of all pages but those of crates, which docs/CONTRACTS.md lists."""
+    """The list of all pages but those of the contracts, which their index lists."""
     named = " ".join(GROUPS.values()).split()
-    rest = [it for it in titles if it not in named and "/contracts/" not in it]
+    rest = [it for it in titles if it not in named and "contracts/" not in it]
     parts = []
     for heading, group in GROUPS.items():
         pages = filter(titles.get, rest if heading == "More" else group.split())
@@ -86,20 +100,21 @@ def navigation(page, titles):
 
 
 def build(page, titles):
-    run = ["pandoc", "--from=gfm", "--to=html5", "--no-highlight", TOP / f"{page}.md"]
+    run = ["pandoc", "--from=gfm", "--to=html5", "--no-highlight", "--wrap=none",
+           TOP / f"{page}.md"]
     ran = subprocess.run(run, capture_output=True, text=True)
     if ran.returncode:
         sys.exit(f"pandoc ended with status {ran.returncode} on {page}.md:\n{ran.stderr}")
     body = linked(ran.stdout, page, titles)
     body = re.sub(r"<table.*?</table>", r'<div class="wide">\g<0></div>', body, flags=re.DOTALL)
     body = re.sub(r'<img src="([^"]*)"[^>]*>', r'<a class="drawing" href="\1">\g<0></a>', body)
-    style = os.path.relpath("site.css", os.path.dirname(page))
+    style = os.path.relpath("site.css", os.path.dirname(file_of(page)))
     title = titles[page] if page == "README" else f"{titles[page]} · Zimgasol"
     text = PAGE.substitute(title=title, style=style, body=body, nav=navigation(page, titles))
-    file = os.path.normpath(path_of(page, ""))
-    (SITE / file).parent.mkdir(parents=True, exist_ok=True)
-    (SITE / file).write_text(text)
-    return file, Links(text)
+    file = SITE / file_of(page)
+    file.parent.mkdir(parents=True, exist_ok=True)
+    file.write_text(text)
+    return file_of(page), Links(text)
 
 
 def broken(built):
@@ -119,8 +134,9 @@ def main():
         sys.exit(__doc__)
     if not shutil.which("pandoc"):
         sys.exit("there is no pandoc on the PATH: apt-get update && apt-get install -y pandoc")
-    files = [*TOP.glob("*.md"), *TOP.glob("docs/*.md"), *TOP.glob("docs/contracts/*.md")]
-    texts = {str(it.relative_to(TOP))[:-3]: it.read_text() for it in sorted(files)}
+    pictures = subprocess.run([sys.executable, TOP / "tools" / "pictures.py", "--check"])
+    files = sorted(file for it in SOURCES for file in TOP.glob(it))
+    texts = {str(it.relative_to(TOP))[:-3]: it.read_text() for it in files}
     heading = re.compile(r"^# (.*)$", re.MULTILINE)
     titles = {it: heading.search(text)[1].replace("`", "") for it, text in texts.items()}
     shutil.rmtree(SITE, ignore_errors=True)
@@ -128,7 +144,7 @@ def main():
     shutil.copy(TOP / "tools" / "site.css", SITE)
     wrong = list(broken(built))
     print(f"{len(built)} pages in out/site, {sum(len(it.links) for it in built.values())} links")
-    sys.exit("\n".join(["These lead nowhere:", *wrong]) if wrong else 0)
+    sys.exit("\n".join(["These lead nowhere:", *wrong]) if wrong else pictures.returncode)
 
 
 main()

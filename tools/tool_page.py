@@ -1,5 +1,5 @@
 #!/usr/bin/env python3
-"""The examples of docs/TOOL.md as a case of the tool: runs/tool/page.txt.
+"""The examples of crates/mig_tool/README.md as a case of the tool: runs/tool/page.txt.
 
     tools/tool_page.py            writes the file
     tools/tool_page.py --check    compares it with the page, and fails if they differ
@@ -12,10 +12,10 @@ import sys
 from pathlib import Path
 
 TOP = Path(__file__).resolve().parent.parent
-PAGE = TOP / "docs" / "TOOL.md"
+PAGE = TOP / "crates" / "mig_tool" / "README.md"
 CASES = TOP / "runs" / "tool" / "page.txt"
 BEYOND = "## From one machine to another"
-HEAD = """# The examples of docs/TOOL.md, in their order, made by tools/tool_page.py: don't edit.
+HEAD = """# The examples of crates/mig_tool/README.md, in their order, made by tools/tool_page.py: don't edit.
 
 case the examples of the page
 """
@@ -25,7 +25,7 @@ FLAGS = ("--feed",)
 # What the page prints where the schedule decides, and what it says else comes: which channel has
 # the only page is another one each time.
 OTHERS = {"fault 44 round 0 in channel 0": "fault 43 round 0 in channel 0"}
-# The statuses of the tool's own faults, as docs/FAULTS.md has them. Any other fault has 1.
+# The statuses of the tool's own faults, as docs/use/FAULTS.md has them. Any other fault has 1.
 STATUSES = {"62": 2, "86": 2, "87": 2, "88": 2, "71": 3, "90": 3, "91": 3}
 
 
@@ -69,7 +69,7 @@ def lines_of(command, said, status):
     """The lines of the case for a command. Returns them, and the status that it ends with."""
     if command == "echo $?":
         if said != [str(status)]:
-            sys.exit(f"docs/TOOL.md has the status {said} where {status} is right")
+            sys.exit(f"crates/mig_tool/README.md has the status {said} where {status} is right")
         return [], status
     changed = re.fullmatch(r"printf '\\(\d{3})' \| dd of=(\w+) conv=notrunc status=none", command)
     if changed:
@@ -79,7 +79,7 @@ def lines_of(command, said, status):
     if program == "cat" and len(words) == 1:
         return [f"write {words[0]} " + "".join(f"{line}\\n" for line in said)], 0
     if program != "mig_tool" or not words:
-        sys.exit(f"docs/TOOL.md has an example that is no line of a case: {command}")
+        sys.exit(f"crates/mig_tool/README.md has an example that is no line of a case: {command}")
     status, line = status_of(said), f"run {words_of(words)}"
     answer = f"{status} " + "".join(f"{line}\\n" for line in said)
     other = OTHERS.get(said[0])
@@ -91,7 +91,7 @@ def lines_of(command, said, status):
 def made():
     page = PAGE.read_text()
     if BEYOND not in page:
-        sys.exit(f"docs/TOOL.md has no heading '{BEYOND}'")
+        sys.exit(f"crates/mig_tool/README.md has no heading '{BEYOND}'")
     text = page[:page.index(BEYOND)]
     lines, status = [f"write s {scenario_of(text)}"], 0
     for command, said in examples(text):
@@ -107,7 +107,7 @@ def main(words):
         CASES.write_text(made())
     elif not CASES.is_file() or CASES.read_text() != made():
         file = CASES.relative_to(TOP)
-        sys.exit(f"{file} hasn't the examples of docs/TOOL.md: run tools/tool_page.py")
+        sys.exit(f"{file} hasn't the examples of crates/mig_tool/README.md: run tools/tool_page.py")
 
 
 if __name__ == "__main__":

@@ -190,7 +190,7 @@ def in_a_distribution(folder, has):
     run("make", "-s", "install", *words)
     compare("installed", below(root), wanted("usr", LIBDIR[1:], "usr/include"))
     for name, source in (("usr/include/zimgasol.h", "include/zimgasol.h"), (f"{LIBDIR[1:]}/libzimgasol.a", "out/libzimgasol.a"),
-                         ("usr/share/doc/zimgasol/C.md", "docs/C.md")):
+                         ("usr/share/doc/zimgasol/C.md", "docs/use/C.md")):
         compare(f"whether {name} is {source}", (root / name).read_bytes() == (TOP / source).read_bytes(), True)
     print(f"installed into {LIBDIR} below DESTDIR: {len(below(root))} files and links")
     if has["pkg-config"]:

@@ -3,7 +3,7 @@
 
     tools/try_tool.py [PROGRAM ..]
 
-PROGRAM is the tool's command, by default crates/mig_tool/out/mig_tool. All examples of docs/TOOL.md
+PROGRAM is the tool's command, by default crates/mig_tool/out/mig_tool. All examples of crates/mig_tool/README.md
 run in their order, in bash, with named pipes. A folder takes the place of each of the page's
 machines, and a script that of `ssh`, which runs the command in the folder `there`. Then follow
 arguments, pipes, and outputs and inputs that are closed or fail.

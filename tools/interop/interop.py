@@ -22,13 +22,14 @@ from pathlib import Path
 import channels
 import packages
 import qemu
-from checks import (NO_CONFIGURATION, Bench, chain, chain_devices, load_saved, read_between,
-                    read_single, refuse_single, refuse_xbzrle)
-from guests import KINDS, NONE, OLD, PC, PC_UUID, PC_WRITING, SMALL
+import states
+from checks import (NO_CONFIGURATION, Bench, chain, load_saved, read_between, read_single,
+                    refuse_single, refuse_xbzrle)
+from guests import KINDS, NONE, OLD, PC, PC_UUID, PC_WRITING, Q35, SMALL
 from ours import Differs, Programs
 
 CHANNELS = (1, 2, 4)
-# QEMU before 8.1 may leave out packets' numbers, and send a page twice in a round: the faults of docs/EMBEDDING.md
+# QEMU before 8.1 may leave out packets' numbers, and send a page twice in a round: the faults of docs/use/QEMU.md
 UNLAWFUL = (54, 55, 56, 59)
 HEADS = ("QEMU", "from, to", "guest", "how", "compared", "")
 
@@ -95,7 +96,7 @@ def read_files(table, bench, version):
 
 
 def refuse_files(table, bench, version):
-    """QEMU's files of other layouts, which `zimgasol` refuses with the faults of EMBEDDING."""
+    """QEMU's files of other layouts, which `zimgasol` refuses with the faults of QEMU.md."""
     for how in ("x-ignore-shared", *(("mapped-ram",) if qemu.number(version) >= (9, 0) else ())):
         row = Row(version, "QEMU, verify", PC.name, how)
         table.try_(row, lambda: refuse_single(bench, PC, 47, (how,)))
@@ -152,10 +153,20 @@ def run_chains(table, bench, version, programs):
     if qemu.number(version) >= (8, 1):
         row = Row(version, "QEMU, extract, save, QEMU", NONE.name, on_channels(2))
         table.try_(row, lambda: channels.chain_several(bench, 2))
-    for kind in (PC, PC_WRITING):
-        how = "with its devices" + (", and runs on" if kind.writes else "")
-        row = Row(version, "QEMU, extract, save, QEMU", kind.name, how)
-        table.try_(row, lambda: chain_devices(bench, kind))
+
+
+def restore_machines(table, bench, version):
+    """QEMU's files, which `zimgasol` extracts and saves with their state, and which QEMU resumes."""
+    way = "QEMU, extract, save --state, QEMU"
+    for kind in (PC, PC_WRITING, Q35):
+        table.try_(Row(version, way, kind.name, "a file"), lambda: states.restore(bench, kind))
+    row = Row(version, way, PC_WRITING.name, "after libvirt's header, made by hand")
+    table.try_(row, lambda: states.restore_libvirt(bench, PC_WRITING))
+    row = Row(version, way, PC_WRITING.name, "a full save and changes")
+    table.try_(row, lambda: states.restore_changes(bench, PC_WRITING))
+    if qemu.number(version) >= (8, 1):
+        row = Row(version, way, PC_WRITING.name, f"{on_channels(2)}, saved as one stream")
+        table.try_(row, lambda: states.restore_channels(bench, PC_WRITING, 2))
 
 
 def at_hand(words):
@@ -193,6 +204,7 @@ def main():
             read_channels(table, bench, version)
             load_ours(table, bench, version)
             run_chains(table, bench, version, found)
+            restore_machines(table, bench, version)
     table.show()
     wrong = table.wrong()
     print(f"{len(table.rows)} rows, {wrong or 'none'} that {'differs' if wrong == 1 else 'differ'}")

@@ -1,6 +1,6 @@
 """Runs the commands of `zimgasol` in a shell, and compares what they print and write.
 
-`runs/zimgasol/commands.txt` has a command a line, those of `docs/ZIMGASOL.md` first; beside them
+`runs/zimgasol/commands.txt` has a command a line, those of `docs/use/ZIMGASOL.md` first; beside them
 lie the files that they read, in `data`. `expected.txt` has each command after `$ `, and below it
 what it prints: its output, and then what it says of errors. `tools/zimgasol_page.py` makes both.
 """

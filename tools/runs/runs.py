@@ -9,7 +9,7 @@ a minute or two. With --built they are taken whatever their age: the gate has ju
 took them from an earlier run of the same files. KIND is one of
 
     tool       the files of cases of the tool, runs/tool
-    zimgasol   the commands of docs/ZIMGASOL.md and more, runs/zimgasol
+    zimgasol   the commands of docs/use/ZIMGASOL.md and more, runs/zimgasol
     captures   QEMU's own migrations, runs/captures
     manual     the man page of `zimgasol`, and its completions
     refused    allocations refused: of both programs, and of the cases that `mig_rows` plays;

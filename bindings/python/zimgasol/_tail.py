@@ -1,4 +1,4 @@
-"""Checks what follows RAM in a machine's stream, by the rules of docs/ZIMGASOL.md.
+"""Checks what follows RAM in a machine's stream, by the rules of docs/use/ZIMGASOL.md.
 
 Devices' sections don't have their lengths, so they aren't followed. A stream is whole if it ends
 with the end byte alone, or exactly with a valid description of the devices.

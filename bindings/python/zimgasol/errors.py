@@ -15,7 +15,7 @@ MAIN = "main"
 
 @dataclass(frozen=True)
 class Fault:
-    """The fault of a stream, as docs/FAULTS.md numbers it."""
+    """The fault of a stream, as docs/use/FAULTS.md numbers it."""
 
     #: The fault's number.
     number: int

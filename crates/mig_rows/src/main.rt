@@ -2,7 +2,7 @@
 //! the calls, and reports an answer that isn't the expected one.
 //!
 //! Its arguments are the files' names. Without arguments it reads its input. A case consists of
-//! lines (`docs/EXAMPLES.md` has them all): lines that build a guest and streams, and questions,
+//! lines (`docs/build/EXAMPLES.md` has them all): lines that build a guest and streams, and questions,
 //! each with ` = ` and its answer. For a question without an expected answer, the answer is
 //! printed, one a line. So another implementation can be compared with this one over many cases in
 //! one run.

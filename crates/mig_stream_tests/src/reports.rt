@@ -1,5 +1,5 @@
 //! Reports of what a machine's stream has beside its page records, read in pieces. The bytes of the
-//! items are counted by hand, as `docs/FORMATS.md` lists them.
+//! items are counted by hand, as `docs/use/FORMATS.md` lists them.
 
 ghost use Rattle.std.specs.Prelude.{IfSome};
 ghost use Rattle.mig_stream.specs.Giving.{HasNoneLeft};

@@ -1,5 +1,5 @@
 //! The valid prefix of a stream's bytes, fed byte by byte. The lengths of its items are counted by
-//! hand, as `docs/FORMATS.md` lists them.
+//! hand, as `docs/use/FORMATS.md` lists them.
 
 use crate::building::{FRAMES, closed_at, followed};
 use mig_load_types::LoadSettings;

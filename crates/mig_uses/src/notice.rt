@@ -9,7 +9,7 @@ use zimgasol::{LoadFault, Origin};
 /// The notice that a user is shown of a failed load.
 #[derive(Drop)]
 pub struct Notice<A: Allocator = Global> {
-    /// The fault's number, as `docs/FAULTS.md` has it. 60 is `NoMemory`: the load may be tried
+    /// The fault's number, as `docs/use/FAULTS.md` has it. 60 is `NoMemory`: the load may be tried
     /// again.
     pub number: u8,
     /// The number of rounds before the fault. The memory has them.

@@ -262,7 +262,7 @@
 //! ```
 //!
 //! Before each read of a socket it says what comes next, so that a page is read straight to where
-//! it belongs (`docs/EMBEDDING.md`, "Copies of a page"):
+//! it belongs (`docs/use/EMBEDDING.md`, "Copies of a page"):
 //!
 //! <!-- quoted from crates/mig_stream_tests/src/wanted_in_place.rt -->
 //! ```rust
@@ -363,7 +363,7 @@
 //!
 //! # The crates below
 //!
-//! The definitions that contracts cite are in the crates below (`docs/ARCHITECTURE.md`). A crate
+//! The definitions that contracts cite are in the crates below (`docs/build/ARCHITECTURE.md`). A crate
 //! whose own contracts cite them names these crates beside this one. Readers and writers of a
 //! stream's records, `StreamReader`, `RecordReader` and `StreamWriter`, are those of `mig_stream`.
 #![tactic(auto)]
