@@ -45,6 +45,8 @@ def facts_of(capture):
     else:
         found = stream_facts.facts(data)
     found["bytes"], found["tail"] = len(data), data[found["end"]:]
+    header, front = found.get("before", 0), data[:found["list_end"]]
+    found["state"] = {"before.bin": front[header:], "after.bin": found["tail"], **({"libvirt.bin": front[:header]} if header else {})}
     sizes = [[name, len(it)] for name, it in found["memory"].items()]
     if capture.blocks:
         expect("NAME.blocks, blocks", capture.blocks, sizes)
@@ -197,7 +199,10 @@ class Run:
         files = [self.room / "out" / it["file"] for it in listed]
         expect("SHA-256 of the files", digests, [digest_of(it) for it in files])
         there = sorted(it.name for it in (self.room / "out").iterdir())
-        expect("files", sorted([*(it.name for it in files), "blocks.json"]), there)
+        expect("files", sorted([*(it.name for it in files), "blocks.json", "state"]), there)
+        state = {it.name: it.read_bytes() for it in (self.room / "out" / "state").iterdir()}
+        expect("state, names", sorted(found["state"]), sorted(state))
+        expect("state, bytes", [], [it for it in state if state[it] != found["state"][it]])
         return f"{len(files)} files"
 
     def refused(self):
