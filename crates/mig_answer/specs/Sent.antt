@@ -43,7 +43,8 @@ SendingsAreLoaded = (table : RamTable) (uuid : List ℕ) (limit : ℕ) (rounds :
     → IsSentInAnyOrder table uuid rounds main channels → total_bytes table ≤ limit
     → IsAnswer (ram_settings table.page_size limit) uuid (ended_texts main channels) answer → answer ≡ sent_answer table rounds
 
--- Rounds are let through by a limit on what waits: no channel carries more packets and pages of one.
+-- Rounds are let through by a limit on what waits: no channel carries more packets and pages of
+-- one.
 abbrev pub LetsChannelsThrough : Option ℕ → ℕ → List DealtRound → Type 0
 LetsChannelsThrough waiting channels rounds = (channel : ℕ) → channel < channels → All (IsWithin waiting) (channel_told rounds channel).rounds
 

@@ -110,8 +110,8 @@ impl<A: Allocator + Copy> ApartSession<A> {
 }
 
 impl<A: Allocator + Copy> ApartSession<A> {
-    /// Feeds the first bytes of `piece`, the next of `source`, as `InPlaceSession::feed` does, while
-    /// nothing is claimed.
+    /// Feeds the first bytes of `piece`, the next of `source`, as `InPlaceSession::feed` does,
+    /// while nothing is claimed.
     ///
     /// # Errors
     ///

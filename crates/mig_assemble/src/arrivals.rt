@@ -123,8 +123,8 @@ impl<A: Allocator> Arrivals<A> {
         self.double = mark_records(&mut self.seen, self.double, round);
     }
 
-    /// Adds the packet of a head, whatever its number and the places of its pages. Returns where they
-    /// are.
+    /// Adds the packet of a head, whatever its number and the places of its pages. Returns where
+    /// they are.
     ///
     /// # Errors
     ///

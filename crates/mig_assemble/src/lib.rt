@@ -10,7 +10,8 @@
 //! `Arrivals` judges the round as `Target::round` would.
 //!
 //! Definitions to read first, in this order: `Judging`, `Lawful`, `NamedPlaces`, `Target`, `Law`,
-//! `Arrivals` (`specs/`). Only contracts of private functions name `Sorted`, `Seen` and `PacketPages`.
+//! `Arrivals` (`specs/`). Only contracts of private functions name `Sorted`, `Seen` and
+//! `PacketPages`.
 #![tactic(auto)]
 
 mod arrivals;

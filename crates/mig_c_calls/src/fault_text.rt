@@ -170,8 +170,8 @@ fn copy_cut(text: &[u8], out: &mut [u8])
 }
 
 /// Writes the text of `f` into `out` as C's `snprintf` does: as many bytes as there is room for,
-/// then a byte 0. The text names `at`, the byte at which the fault is, if that is known. Returns the
-/// length of the whole text without the byte 0, which is less than 256.
+/// then a byte 0. The text names `at`, the byte at which the fault is, if that is known. Returns
+/// the length of the whole text without the byte 0, which is less than 256.
 pub fn log_fault(f: LoggedFault, at: Option<u64>, out: &mut [u8]) -> u64
     ensures { LogsFault f at result out.old out.new }
 {

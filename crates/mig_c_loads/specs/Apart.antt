@@ -46,8 +46,9 @@ abbrev pub ListsFilled : Option PlaceSet → ℕ → ℕ → List ℕ → Claime
 ListsFilled None page_size block head seen = ListsPacket page_size block head seen
 ListsFilled (Some filled) page_size block head seen = (all : ClaimedPages) × ListsPacket page_size block head all × LeavesOut filled block all seen
 
--- The effect of `claim`: the places of the packet are newly claimed, in a block that has them, and C
--- sees which. In every other case nothing is claimed; where C is to wait, one of them was already.
+-- The effect of `claim`: the places of the packet are newly claimed, in a block that has them, and
+-- C sees which. In every other case nothing is claimed; where C is to wait, one of them was
+-- already.
 pub record ClaimsHead (channel : ℕ) (head : List ℕ) (status : ℕ) (before after : ClaimedPages) (filled : Option PlaceSet) (old new : ApartLoad) : Type 0 where
   pub is_named : IsOneOf (running ∷ bad_source ∷ is_claimed ∷ to_feed ∷ []) status
   pub lies : status ≡ running → LieIn old.load.table after.block head

@@ -115,8 +115,8 @@ pub record TellsAllIn (told : Bool) (s : SectionsLoad) : Type 0 where
   pub closed : TellsClosedAt status 0 at s
   pub says : IsTrue told ↔ status ≡ done
 
--- C sees how many of the bytes of a source are complete items without a fault: a fault's item begins
--- after them. It isn't reported of a stream of another table.
+-- C sees how many of the bytes of a source are complete items without a fault: a fault's item
+-- begins after them. It isn't reported of a stream of another table.
 pub record TellsValidUpTo (from : Source) (told : Bool) (before after : ℕ) (s : SectionsLoad) : Type 0 where
   pub stands : from ≡ source.Main → StandsSo s (λ given first text ended. IsValidUpToOnto given first text (if_told told after))
   pub same : IsFalse told → after ≡ before

@@ -35,8 +35,8 @@ status_of (Some table) state = done
 status_of None (Bad fault) = fault_number fault
 status_of None state = running
 
--- The table is made if the first bytes have it. C sees how many of the bytes read are complete items
--- without a fault: a fault's item begins after them.
+-- The table is made if the first bytes have it. C sees how many of the bytes read are complete
+-- items without a fault: a fault's item begins after them.
 pub record MakesFirst (page_size frame : ℕ) (bytes : List ℕ) (status before after : ℕ) (made : Option RamTable) : Type 0 where
   pub wrong_size : status ≡ bad_page_size → IsPageSize page_size → ⊥
   pub no_frame : status ≡ bad_frame → frame_of frame ≡ None

@@ -1,5 +1,5 @@
--- What C passes to a load beside its streams: which source a piece is of, what they are read as, what
--- ends the rounds, and what may wait.
+-- What C passes to a load beside its streams: which source a piece is of, what they are read as,
+-- what ends the rounds, and what may wait.
 use Rattle.std.specs.Prelude.{ℕ, ◌-◌, Bool, not, ◌==◌, Option, None, Some, if◌then◌else◌}
 use Rattle.mig_stream.specs.declared.item.Frame.{Frame}
 use Rattle.mig_stream.specs.declared.item.Frame.TheVariants.{Ram, Machine}

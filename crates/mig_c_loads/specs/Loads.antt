@@ -93,7 +93,8 @@ Ends from status (load.Several old) (load.Several new) = EndsApart from status o
 Ends from status (load.Rounds old) (load.Rounds new) = EndsRounds from status old.load new.load × (new.filled ≡ old.filled)
 Ends from status old new = ⊥
 
--- Of one stream alone, each page of which goes to its place as it comes, C reads the next page there.
+-- Of one stream alone, each page of which goes to its place as it comes, C reads the next page
+-- there.
 abbrev pub ReadsPage : List (List ℕ) → ℕ → Load → Load → Type 0
 ReadsPage blocks status (load.One old) (load.One new) = TakesPage blocks status old.load new.load × FillsPage status old.load old.filled new.filled
 ReadsPage blocks status (load.Sections old) (load.Sections new) = (status ≡ out_of_turn) × (new ≡ old)

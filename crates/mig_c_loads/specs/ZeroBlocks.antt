@@ -12,7 +12,8 @@ pub record Into (L : Type 0) : Type 0 where
   pub load : L
   pub filled : Option PlaceSet
 
--- Blocks that fit the table are zeros but for these pages. If there is no set they may hold anything.
+-- Blocks that fit the table are zeros but for these pages. If there is no set they may hold
+-- anything.
 abbrev pub AreZerosBut : Option PlaceSet → List (List ℕ) → Type 0
 AreZerosBut None blocks = ⊤
 AreZerosBut (Some filled) blocks = FitTable filled.table blocks → AreZeros (lent_image filled.table blocks) filled

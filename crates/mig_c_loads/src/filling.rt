@@ -1,4 +1,5 @@
-//! The pages of packets that C reads to their places, in blocks that were zeros when the load began.
+//! The pages of packets that C reads to their places, in blocks that were zeros when the load
+//! began.
 
 ghost use Rattle.std.specs.Prelude.{ℕ, ◌≡◌, ◌+◌, ◌/◌, ◌<◌, ◌≤◌};
 ghost use Rattle.mig_mem.specs.Place.{IsPlace, place_at};

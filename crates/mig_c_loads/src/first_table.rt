@@ -1,5 +1,5 @@
-//! The table of a stream, read from its first bytes: so a caller finds the blocks of a file, and maps
-//! what it loads into.
+//! The table of a stream, read from its first bytes: so a caller finds the blocks of a file, and
+//! maps what it loads into.
 
 ghost use Rattle.std.specs.Prelude.{◌≡◌, ◌≤◌, ◌↔◌, IsTrue, IfOk, length};
 ghost use Rattle.mig_c_calls.specs.Blocks.{named_id};

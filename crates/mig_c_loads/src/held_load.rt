@@ -103,8 +103,8 @@ fn feed_blocks(
     (table, status)
 }
 
-// Feeds a piece into C's blocks, which are zeros but for `filled`, with the load's table. It returns
-// both.
+// Feeds a piece into C's blocks, which are zeros but for `filled`, with the load's table. It
+// returns both.
 fn feed_zero_blocks(
     alloc: Global,
     state: &mut InPlaceState<Global>,

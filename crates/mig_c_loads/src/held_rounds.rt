@@ -1,6 +1,6 @@
-//! A load of several channels into blocks of C by whole rounds. The pages of the open round are kept
-//! apart from the blocks until the round was judged: so between two calls the blocks have the rounds
-//! counted, and nothing else.
+//! A load of several channels into blocks of C by whole rounds. The pages of the open round are
+//! kept apart from the blocks until the round was judged: so between two calls the blocks have the
+//! rounds counted, and nothing else.
 
 ghost use Rattle.std.specs.Prelude.{◌≡◌, ◌≢◌, ◌≤◌, ◌<◌, ◌+◌, ◌^◌, ◌↔◌, IsFalse, IfOk, None, Some, length, take};
 ghost use Rattle.mig_mem.specs.RamTable.{RamTable};
@@ -219,8 +219,8 @@ impl HeldRounds {
         })
     }
 
-    /// Takes the first bytes of a piece of a source. Of the rounds that were judged lawful with them
-    /// it copies the pages into C's blocks.
+    /// Takes the first bytes of a piece of a source. Of the rounds that were judged lawful with
+    /// them it copies the pages into C's blocks.
     pub fn feed(
         &mut self,
         alloc: Global,

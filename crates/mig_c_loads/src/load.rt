@@ -62,7 +62,8 @@ fn open_one(alloc: Global, table: &Table<Global>, settings: &AskedSettings) -> R
     }
 }
 
-// Makes a load of one stream into blocks of a table by whole sections, or returns why there is none.
+// Makes a load of one stream into blocks of a table by whole sections, or returns why there is
+// none.
 fn open_sections(
     alloc: Global,
     table: &Table<Global>,
@@ -246,8 +247,8 @@ impl Load {
         }
     }
 
-    /// Takes the first bytes of a piece of a source, and writes pages into C's blocks, while nothing
-    /// is claimed. Reports how many bytes it took, and how many rounds are counted then.
+    /// Takes the first bytes of a piece of a source, and writes pages into C's blocks, while
+    /// nothing is claimed. Reports how many bytes it took, and how many rounds are counted then.
     pub fn feed(
         &mut self,
         alloc: Global,

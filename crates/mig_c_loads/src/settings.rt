@@ -4,8 +4,8 @@ ghost use Rattle.std.specs.Prelude.{◌≡◌};
 ghost use Rattle.mig_c_loads.specs.Frames.{waiting_of};
 
 /// The settings of a load. All zeros are those of a stream of RAM's sections alone, whose rounds
-/// end with FLUSH, with no limit on the page records that wait, into blocks that hold anything, with
-/// each page as it comes.
+/// end with FLUSH, with no limit on the page records that wait, into blocks that hold anything,
+/// with each page as it comes.
 #[repr(C)]
 #[derive(Clone, Copy)]
 pub struct AskedSettings {

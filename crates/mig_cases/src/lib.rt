@@ -2,8 +2,9 @@
 //! streams that a case's lines build; and the questions about guest memory and packets.
 //!
 //! `mig_rows` runs such files: it adds rounds, streams and loads. `Count` compares the answers.
-//! `docs/build/EXAMPLES.md` has all the lines. This crate depends on guest memory and packets only, and
-//! is proved beside the stream. It is no part of the product, and no function here has a contract.
+//! The README of `mig_rows` has all the lines. This crate depends on guest memory and packets only,
+//! and is proved beside the stream. It is no part of the product, and no function here has a
+//! contract.
 //!
 //! A call that was refused memory is made again (`again`), so answers are those of a run that had
 //! it. That shows that a refused call leaves what it was passed as it was.

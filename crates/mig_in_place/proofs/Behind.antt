@@ -155,8 +155,8 @@ rest_of items first a b le within =
     ∙ ap (λ (l : List ℕ). take (a - first) (drop first items) ++ take (b - a) l) rest
     ∙ ap (λ (l : List ℕ). l ++ take (b - a) (drop a items)) (sym front)
 
--- A source whose buffer has these bytes, of which those before a were taken, and those up to b wait.
--- Its stream of so many bytes is closed by the first n of them.
+-- A source whose buffer has these bytes, of which those before a were taken, and those up to b
+-- wait. Its stream of so many bytes is closed by the first n of them.
 module _ (given : Settings) (text items : List ℕ) (main : KeptSource)
     (a b n : ℕ) (le : a ≤ b) (within : b ≤ length items) (taken : main.taken ≡ take a items) (waits : main.waiting ≡ take (b - a) (drop a items))
     (ends : EndsWithTaken given text main) (closed : IsClosedAt given text n) where

@@ -9,8 +9,8 @@ use Rattle.mig_sources.specs.Sources.{feed_step}
 use Rattle.mig_in_place.specs.Session.{InPlaceLoad, StandsFor}
 use Rattle.mig_in_place.specs.TakenPackets.{packet_bytes, pages_taken}
 
--- A packet of a channel was taken, whatever the memory is: if the load represented some streams with
--- a memory, it represents them, and the packet, with the packet's pages in that memory.
+-- A packet of a channel was taken, whatever the memory is: if the load represented some streams
+-- with a memory, it represents them, and the packet, with the packet's pages in that memory.
 abbrev pub TakesApart : ℕ → List ℕ → List (List ℕ) → InPlaceLoad → InPlaceLoad → Type 0
 TakesApart channel head contents old new = (given : LoadSettings) (uuid : List ℕ) (first : Image) (texts : Texts) (memory : Image) → memory.table ≡ old.table
     → StandsFor given uuid first texts memory old

@@ -127,8 +127,8 @@ impl<A: Allocator> Model for InPlaceSession<A> {
     }) (vec_capacity s.statuses) (vec_capacity s.hellos) };
 }
 
-// Written out, and not derived: a caller's proof then passes a call where a load is dropped, and not
-// each of its fields.
+// Written out, and not derived: a caller's proof then passes a call where a load is dropped, and
+// not each of its fields.
 impl<A: Allocator> Drop for InPlaceSession<A> {
     fn drop(self) {
         let InPlaceSession {
@@ -607,7 +607,8 @@ impl<A: Allocator + Copy> InPlaceSession<A> {
 }
 
 impl<A: Allocator> InPlaceSession<A> {
-    // Judges the bytes so far. Returns whether all sources have the current round, and it is lawful.
+    // Judges the bytes so far. Returns whether all sources have the current round, and it is
+    // lawful.
     fn judge_round(&mut self) -> Result<bool, NoMemory>
         ensures stands { IfOk result (λ judged. IsFalse judged → (f : Loading) (memory : Image) → IsUnsettled f memory self.old → Stands f memory self.new) }
         ensures judged { IfOk result (λ judged. IsTrue judged → (f : Loading) (memory : Image) → IsUnsettled f memory self.old → IsJudged f memory self.new) }

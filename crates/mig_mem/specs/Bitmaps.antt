@@ -1,4 +1,5 @@
--- Dirty bitmaps, as QEMU and KVM keep them: for each block of a table words of 64 bits, a bit a page.
+-- Dirty bitmaps, as QEMU and KVM keep them: for each block of a table words of 64 bits, a bit a
+-- page.
 use Rattle.std.specs.Prelude.{ℕ, ◌≡◌, ◌<◌, ◌≤◌, ◌+◌, ◌*◌, ◌/◌, ◌%◌, ◌==◌, List, [], length, map, slice_index, slice_index_or, Bool, ◌&&◌, nat_lt}
 use Rattle.std.specs.Int.{bit_at}
 use Rattle.std.specs.Borrow.{Bor}

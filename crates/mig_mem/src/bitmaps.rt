@@ -27,9 +27,9 @@ impl<A: Allocator> Table<A> {
 
 impl<A: Allocator + Copy> Dirty<A> {
     /// Creates the set of the pages whose bit is set in the bitmap of their block. The bit of a
-    /// page is bit `page % 64` of word `page / 64`, as in QEMU's bitmaps on a host of 64 bits and in
-    /// KVM's dirty log. Bits after the last page of a block aren't read. A caller tests the bitmaps
-    /// by `Table::has_bitmaps`.
+    /// page is bit `page % 64` of word `page / 64`, as in QEMU's bitmaps on a host of 64 bits and
+    /// in KVM's dirty log. Bits after the last page of a block aren't read. A caller tests the
+    /// bitmaps by `Table::has_bitmaps`.
     ///
     /// # Errors
     ///

@@ -121,8 +121,8 @@ impl<A: Allocator> Memory<A> {
         self.blocks[place.block].page(place.page)
     }
 
-    /// Returns whether a page was never written, and so is zeros. It reads none of its bytes. A page
-    /// of zeros that was written isn't blank.
+    /// Returns whether a page was never written, and so is zeros. It reads none of its bytes. A
+    /// page of zeros that was written isn't blank.
     pub fn is_blank(&self, place: Place) -> bool
         requires { IsPlace self.now.table place }
         ensures { IsTrue result → content_at self.now place ≡ zero_page self.now.table.page_size }

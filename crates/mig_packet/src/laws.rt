@@ -46,8 +46,8 @@ pub fn readings_keep_limits()
 
 /// What waits in a channel's round is within the caller's limit, and has at most as many bytes as
 /// the limit times a page. A limit only refuses the packet that would exceed it: without that fault
-/// the reading is the one without a limit. A closed channel none of whose rounds passes the limit is
-/// read as without it.
+/// the reading is the one without a limit. A closed channel none of whose rounds passes the limit
+/// is read as without it.
 pub fn waiting_is_bounded()
     ensures bounded { WaitingIsBounded }
     ensures bytes { WaitingBytesAreBounded }

@@ -73,7 +73,8 @@ pub(crate) fn is_done(loaded: &Loaded, rounds: u64, byte: u8) -> bool {
     }
 }
 
-/// Returns whether a load lacks `missing` pages, and its main stream has `len` bytes without a fault.
+/// Returns whether a load lacks `missing` pages, and its main stream has `len` bytes without a
+/// fault.
 pub(crate) fn is_read_to(loaded: &Loaded, missing: u64, len: u64) -> bool {
     loaded.missing == Some(missing)
         && loaded.closed_at == Some(len)

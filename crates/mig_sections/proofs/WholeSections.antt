@@ -1,4 +1,5 @@
--- A stream that is read by whole sections: what its reader gives, and what that makes of the memory.
+-- A stream that is read by whole sections: what its reader gives, and what that makes of the
+-- memory.
 use Rattle.std.proofs.Common.{not, ℕ, ◌≡◌, ◌<◌, ◌≤◌, ◌+◌, ◌^◌, List, [], ◌∷◌, ◌++◌, length, map, take, refl, sym, ap, ◌∙◌, inl, inr, Option, Some, None, subst}
 use Rattle.std.proofs.Common.{arith, Bool, true, false}
 use Rattle.std.specs.Prelude.{◌≢◌, All, IfSome, IsTrue, IsFalse, Result, Ok, Err, IsOk, ⊤}

@@ -30,8 +30,8 @@ pub record HasNamedSections (given : LoadSettings) (first : Image) (text : List 
   pub own : IsOfOwnTable first reading → named ≡ named_by first.table (map (pages_on first) reading.rounds)
   pub other : IsOfOtherTable first reading → named ≡ none_named first.table
 
--- So many pages of the memory have no record in the complete sections of the stream. All of them, if
--- the stream has another table.
+-- So many pages of the memory have no record in the complete sections of the stream. All of them,
+-- if the stream has another table.
 pub record HasMissingSections (given : LoadSettings) (first : Image) (text : List ℕ) (missing : ℕ) : Type 0 where
   pub reading : StreamReading
   pub is_reading : IsReading (settings_of first given) text reading
@@ -40,9 +40,9 @@ pub record HasMissingSections (given : LoadSettings) (first : Image) (text : Lis
 
 -- ---- what a sender wrote
 
--- What a sender wrote of the memory's table and of rounds is loaded, whatever follows it: the rounds
--- are in the memory, on top of what it held, and the verdict is Ok. START and END count as a section
--- each. A limit on what waits lets the rounds through.
+-- What a sender wrote of the memory's table and of rounds is loaded, whatever follows it: the
+-- rounds are in the memory, on top of what it held, and the verdict is Ok. START and END count as a
+-- section each. A limit on what waits lets the rounds through.
 abbrev pub SentIsLoadedBySections : Type 0
 SentIsLoadedBySections = (given : LoadSettings) (first : Image) (rounds : List (List Page)) (text : List ℕ) (memory : Image) (sections : ℕ) (verdict : Result ⊤ LoadFault)
     → given.frame ≡ Ram → LetsThrough given.waiting rounds → IsSent given.limit first.table rounds text
@@ -72,13 +72,14 @@ abbrev pub sections_load : Option Reader → RamTable → PlaceSet → ℕ → �
 sections_load reader table named sections fed ended =
     record { reader = reader; table = table; named = named; sections = sections; fed = fed; ended = ended }
 
--- A reader was given the stream so far, and so many sections were taken from it. The stream has this
--- table, or its table isn't known yet. Without a reader it has another table.
+-- A reader was given the stream so far, and so many sections were taken from it. The stream has
+-- this table, or its table isn't known yet. Without a reader it has another table.
 abbrev pub IsReadBy : LoadSettings → RamTable → List ℕ → ℕ → Option Reader → Type 0
 IsReadBy given table text sections (Some r) = IsOfTable given table text × Stands (settings_for table given) (put_so_far text false sections) r
 IsReadBy given table text sections None = (other : RamTable) × HasTable (settings_for table given) text (Some other) × (other ≢ table)
 
--- The memory has the complete sections of the stream so far, and the set the places that they named.
+-- The memory has the complete sections of the stream so far, and the set the places that they
+-- named.
 pub record HasSections (given : LoadSettings) (first : Image) (text : List ℕ) (memory : Image) (named : PlaceSet) (sections : ℕ) (reader : Option Reader) : Type 0 where
   pub is_page_size : IsPageSize first.table.page_size
   pub is_read : IsReadBy given first.table text sections reader

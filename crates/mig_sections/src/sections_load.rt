@@ -125,8 +125,8 @@ impl<A: Allocator + Copy> SectionsLoad<A> {
     }
 
     /// Reads the next piece of the stream, and writes the sections that it completes into the
-    /// memory. After the end byte, a fault or another table nothing more is read: the bytes are only
-    /// counted, and the call never fails with `NoMemory`.
+    /// memory. After the end byte, a fault or another table nothing more is read: the bytes are
+    /// only counted, and the call never fails with `NoMemory`.
     ///
     /// # Errors
     ///
@@ -279,8 +279,8 @@ impl<A: Allocator> SectionsLoad<A> {
     }
 }
 
-/// What a sender made of the memory's table is loaded completely: the memory has the sender's rounds
-/// in it, on top of what it held, and the verdict is Ok.
+/// What a sender made of the memory's table is loaded completely: the memory has the sender's
+/// rounds in it, on top of what it held, and the verdict is Ok.
 pub fn sent_is_loaded_by_sections()
     ensures { SentIsLoadedBySections }
 {}

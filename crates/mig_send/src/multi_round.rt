@@ -199,8 +199,8 @@ impl<A: Allocator + Copy> MultiRound<A> {
     ///
     /// # Errors
     ///
-    /// `NoMemory`: an allocation was refused, or there are more than 2^63 owners of what the workers
-    /// share. The round is as it was.
+    /// `NoMemory`: an allocation was refused, or there are more than 2^63 owners of what the
+    /// workers share. The round is as it was.
     pub fn worker(&mut self) -> Result<ChannelWorker<A>, NoMemory>
         requires left { 0 < length self.old.seats }
         ensures ok { IfOk result (λ worker. HandsOut self.old self.new worker) }

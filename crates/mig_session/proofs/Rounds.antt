@@ -1,4 +1,5 @@
--- What a load took of a piece of a source, round after round: its memory has the rounds counted alone.
+-- What a load took of a piece of a source, round after round: its memory has the rounds counted
+-- alone.
 use Rattle.std.proofs.Common.{ℕ, ◌≡◌, List, take, sym, ap, subst, ◌∙◌}
 use Rattle.std.specs.Prelude.{Result, Ok, Err, IfOk, OnErr}
 use Rattle.mig_mem.specs.RamTable.{RamTable}

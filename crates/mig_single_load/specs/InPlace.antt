@@ -38,8 +38,8 @@ pages_on first records = map (page_of first.table.page_size) records
 abbrev pub pages_of_all : Image → List (List PageRecord) → List PageRecord → List Page
 pages_of_all first sections open_section = all_pages (map (pages_on first) sections) ++ pages_on first open_section
 
--- The set has the places that the page records of the stream so far named, and no other. Of a stream
--- of another table it has none.
+-- The set has the places that the page records of the stream so far named, and no other. Of a
+-- stream of another table it has none.
 pub record HasNamedOnto (given : LoadSettings) (first : Image) (text : List ℕ) (named : PlaceSet) : Type 0 where
   pub reading : StreamReading
   pub is_reading : IsReading (settings_of first given) text reading

@@ -54,7 +54,8 @@ pub record LoadInPlace : Type 0 where
   -- the pause after which the stream is read on, if it is
   pub pause : Option Paused
   pub state : LoadState
-  -- the memory's table, the places that the records so far named, and how many sections are complete
+  -- the memory's table, the places that the records so far named, and how many sections are
+  -- complete
   pub table : RamTable
   pub named : PlaceSet
   pub rounds : ℕ

@@ -33,8 +33,8 @@ impl<A: Allocator> Model for OpenPages<A> {
 }
 
 impl<A: Allocator + Copy> OpenPages<A> {
-    /// Creates a round without pages, of memories of a table. It allocates room for all pages of the
-    /// table, which isn't touched before a round needs it, and a bit for each page.
+    /// Creates a round without pages, of memories of a table. It allocates room for all pages of
+    /// the table, which isn't touched before a round needs it, and a bit for each page.
     ///
     /// # Errors
     ///

@@ -154,8 +154,8 @@ impl<M: GuestTarget, A: Allocator> Staged<M, A> {
         memory
     }
 
-    /// Takes a memory, and an open round: one that `into_parts` returned with it, if the memory wasn't
-    /// changed since, or one without pages.
+    /// Takes a memory, and an open round: one that `into_parts` returned with it, if the memory
+    /// wasn't changed since, or one without pages.
     pub fn from_parts(memory: M, round: OpenPages<A>) -> Staged<M, A>
         requires { round.apart.table ≡ (M.image memory).table }
         ensures kept { result.kept ≡ M.image memory }

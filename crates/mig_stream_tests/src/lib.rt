@@ -1,6 +1,6 @@
 //! Tests of the stream and of the complete path, from senders to loads: what is held while a guest
-//! is sent and loaded in pieces, sections that wait for the guest's memory, loads by whole sections,
-//! and one example each of calls that no other test and no program makes.
+//! is sent and loaded in pieces, sections that wait for the guest's memory, loads by whole
+//! sections, and one example each of calls that no other test and no program makes.
 //!
 //! The worked examples are cases of `mig_rows`.
 #![tactic(auto)]

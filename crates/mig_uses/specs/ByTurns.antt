@@ -27,8 +27,8 @@ pub record IsReceived (given : LoadSettings) (uuid : List ℕ) (first : Image) (
   pub rounds : ℕ
   pub is_answer : IsInPlaceAnswer given uuid first texts memory rounds verdict
 
--- If the connections give what a `MultiSender` sent of a guest of the memory's table, the memory has
--- the rounds sent, on top of what it held.
+-- If the connections give what a `MultiSender` sent of a guest of the memory's table, the memory
+-- has the rounds sent, on top of what it held.
 abbrev pub SentIsReceived : ℕ → List ℕ → Image → List (Option (List ℕ)) → Image → Type 0
 SentIsReceived limit uuid first connections memory = (rounds : List DealtRound) (main : List ℕ) (channels : List (List ℕ)) → connections ≡ map Some (main ∷ channels)
     → IsImage first → IsImage memory → IsSentInAnyOrder first.table uuid rounds main channels → total_bytes first.table ≤ limit → memory ≡ with_rounds first (sent_rounds rounds)

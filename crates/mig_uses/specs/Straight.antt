@@ -60,8 +60,8 @@ origin_of (source.Channel j) = origin.Channel j
 abbrev pub cut_in_a_packet : ℕ → Source → Verdict
 cut_in_a_packet round from = failed round (origin_of from) (fault.Channel channel_fault.Truncated)
 
--- The answer of a load in place on some streams, or the connection of a source ended in the pages of
--- a packet.
+-- The answer of a load in place on some streams, or the connection of a source ended in the pages
+-- of a packet.
 abbrev pub IsAnswered : LoadSettings → List ℕ → Image → Image → Verdict → Type 0
 IsAnswered given uuid first memory verdict =
     ((texts : Texts) × (rounds : ℕ) × IsInPlaceAnswer given uuid first texts memory rounds verdict) ⊎ ((round : ℕ) × (from : Source) × (verdict ≡ cut_in_a_packet round from))

@@ -322,10 +322,10 @@
 //!
 //! # ApartSession
 //!
-//! Take it for the same with a thread for each channel, behind one lock of yours. `claim` says which
-//! pages the channel's next packet has, by its head. The thread reads them to their places without
-//! the lock, and `take` takes the packet. Here `content` is the page that was read, if it isn't one
-//! of zeros:
+//! Take it for the same with a thread for each channel, behind one lock of yours. `claim` says
+//! which pages the channel's next packet has, by its head. The thread reads them to their places
+//! without the lock, and `take` takes the packet. Here `content` is the page that was read, if it
+//! isn't one of zeros:
 //!
 //! <!-- quoted from crates/mig_in_place_tests/src/apart.rt -->
 //! ```rust
@@ -336,8 +336,8 @@
 //! # LoadSettings
 //!
 //! Take it for a machine's stream, as QEMU writes it, or to bound what waits for the end of its
-//! round (`with_waiting`). Each load takes it; `load_single`, `load_multi` and `Session::new` have a
-//! sibling `.._with` that does:
+//! round (`with_waiting`). Each load takes it; `load_single`, `load_multi` and `Session::new` have
+//! a sibling `.._with` that does:
 //!
 //! <!-- quoted from crates/mig_in_place_tests/src/framed.rt -->
 //! ```rust
@@ -363,8 +363,8 @@
 //!
 //! # The crates below
 //!
-//! The definitions that contracts cite are in the crates below (`docs/build/ARCHITECTURE.md`). A crate
-//! whose own contracts cite them names these crates beside this one. Readers and writers of a
+//! The definitions that contracts cite are in the crates below (`docs/build/ARCHITECTURE.md`). A
+//! crate whose own contracts cite them names these crates beside this one. Readers and writers of a
 //! stream's records, `StreamReader`, `RecordReader` and `StreamWriter`, are those of `mig_stream`.
 #![tactic(auto)]
 

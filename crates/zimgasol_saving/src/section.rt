@@ -1,7 +1,7 @@
 //! RAM's sections in the stream of a machine that has ids of its own for its sections.
 //!
-//! `mig_send` writes each section with the id 1. A machine's RAM may have another one, and a section
-//! of a device that one.
+//! `mig_send` writes each section with the id 1. A machine's RAM may have another one, and a
+//! section of a device that one.
 
 ghost use Rattle.std.specs.Prelude.{◌≡◌, ◌<◌, ◌^◌, ◌∷◌, [], List, length};
 ghost use Rattle.mig_mem.specs.RamTable.{RamTable};
