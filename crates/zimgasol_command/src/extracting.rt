@@ -2,8 +2,8 @@
 //!
 //! Pages are written to their places as they are read. A file gets its final name when the stream
 //! is complete and the file is synced to its disk. With `--since` each file begins as a copy of its
-//! block in another folder, and the stream's pages are written over it. The state of a machine beside
-//! its RAM is written into files of its own.
+//! block in another folder, and the stream's pages are written over it. The state of a machine
+//! beside its RAM is written into files of its own.
 
 use crate::leftovers::{leftovers, put_leftovers};
 use crate::state_files::StateFiles;
@@ -481,6 +481,10 @@ impl<H: Files> GuestSink<H> for Extraction<H> {
 }
 
 impl<H: Files> PageSink for Extraction<H> {
+    ghost use Rattle.std.specs.Prelude.{⊤};
+
+    ghost holds = { λ _ _ _. ⊤ };
+
     fn take_page(&mut self, place: Place, content: Option<&[u8]>) -> Result<(), SinkTrouble> {
         self.put_page(place, content)
     }
@@ -527,19 +531,20 @@ fn extraction_of<H: AllocGlobal + Files>(
     Extraction::<H>::new(rt.alloc(), words, since)
 }
 
-// Reads a single stream into the files of `extraction`. After an error they are removed.
+// Reads a single stream into the files of `extraction`, and returns it, too. After an error they
+// are removed.
 fn read_single<H: AllocGlobal + Files + Clock, R: Read, E: Write>(
     rt: &H,
     words: &StreamWords<'_>,
-    extraction: &mut Extraction<H>,
+    extraction: Extraction<H>,
     input: &mut R,
     errors: &mut E,
-) -> Result<Survey, Trouble> {
-    let read = read_stream(rt, words, input, extraction, errors);
+) -> (Result<Survey, Trouble>, Extraction<H>) {
+    let (read, extraction) = read_stream(rt, words, input, extraction, errors);
     if read.is_err() {
         extraction.remove(rt);
     }
-    read
+    (read, extraction)
 }
 
 // Reads a single stream into the files of `extraction`, and completes or removes them. Returns the
@@ -547,18 +552,19 @@ fn read_single<H: AllocGlobal + Files + Clock, R: Read, E: Write>(
 fn fill_single<H: AllocGlobal + Files + Clock + Threads + Sync, R: Read, E: Write>(
     rt: &H,
     words: &ExtractWords<'_>,
-    extraction: &mut Extraction<H>,
+    extraction: Extraction<H>,
     input: &mut R,
     errors: &mut E,
 ) -> Result<Survey, Trouble> {
-    let mut survey = read_single(rt, &words.stream, extraction, input, errors)?;
+    let (read, mut extraction) = read_single(rt, &words.stream, extraction, input, errors);
+    let mut survey = read?;
     survey.is_laid_over = words.since.is_some();
     extraction.finish(rt, is_complete(&survey), &survey.ending, errors)?;
     Ok(survey)
 }
 
-/// Extracts the memory of a single stream, and its state. Returns the survey of the stream. If the stream isn't
-/// complete, all files are removed.
+/// Extracts the memory of a single stream, and its state. Returns the survey of the stream. If the
+/// stream isn't complete, all files are removed.
 ///
 /// # Errors
 ///
@@ -570,8 +576,8 @@ pub(crate) fn extract_survey<H: AllocGlobal + Files + Clock + Threads + Sync, R:
     input: &mut R,
     errors: &mut E,
 ) -> Result<Survey, Trouble> {
-    let mut extraction = extraction_of(rt, words)?;
-    fill_single(rt, words, &mut extraction, input, errors)
+    let extraction = extraction_of(rt, words)?;
+    fill_single(rt, words, extraction, input, errors)
 }
 
 // Prints the verdict on a single stream. Returns whether it is complete; `name` is printable.

@@ -30,3 +30,4 @@ mod verifying;
 pub use running::run;
 pub use screen::Screen;
 pub use troubles::{FAILED, WORDS};
+pub use verifying::verify_input;

@@ -242,7 +242,8 @@ fn inspect_single<H: AllocGlobal + Files + Clock, R: Read, W: Write, E: Write>(
     output: &mut W,
     errors: &mut E,
 ) -> Result<bool, Trouble> {
-    let survey = read_stream(rt, words, input, &mut NoSink, errors)?;
+    let (read, _sink) = read_stream(rt, words, input, NoSink, errors);
+    let survey = read?;
     list_single(rt.alloc(), listing, &survey, output, errors)
 }
 

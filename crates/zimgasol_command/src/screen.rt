@@ -23,8 +23,8 @@ pub struct Screen {
 
 impl Screen {
     /// Creates the screen of the two outputs, of which each may be a terminal. `columns` is the
-    /// variable COLUMNS, if it is set. Below 40 it counts as 40, and above 80, or if it is no number,
-    /// as 80.
+    /// variable COLUMNS, if it is set. Below 40 it counts as 40, and above 80, or if it is no
+    /// number, as 80.
     pub fn new(is_terminal: bool, has_error_terminal: bool, columns: Option<&str>) -> Screen
         ensures least { 40 ≤ result.columns }
         ensures most { result.columns ≤ 80 }

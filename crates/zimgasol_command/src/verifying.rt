@@ -1,7 +1,8 @@
 //! `verify`: reports whether saved guests are complete, one file after another or some at once.
 
-ghost use Rattle.std.specs.Prelude.{◌≡◌, ◌↔◌, ◌≤◌, ◌<◌, IfOk, IsNone, IsTrue};
+ghost use Rattle.std.specs.Prelude.{◌≡◌, ◌↔◌, ◌≤◌, ◌<◌, ◌^◌, ℕ, List, length, Some, All, IfOk, IsNone, IsTrue};
 ghost use Rattle.zimgasol_reading.specs.Coverage.{IsComplete};
+ghost use Rattle.zimgasol_reading.specs.Surveyed.{HasCompleteStream};
 
 use crate::troubles::{FAILED, REFUSED, WELL, put_message, put_named_trouble, trouble_status};
 use rayon::prelude::*;
@@ -130,9 +131,15 @@ fn judge_single<W: Write, E: Write>(
     put_verdict(alloc, output, errors, name, survey, talk)
 }
 
-// Reads the stream in `input`, prints whether it is complete, and returns whether it is. `metadata`
-// is that of the file that `input` is, if it is one; `name` is printable.
-fn verify_input<H: AllocGlobal + Files + Clock, R: Read, W: Write, E: Write>(
+/// Reads the stream in `input`, prints whether it is complete, and returns whether it is. If it is,
+/// a complete stream is in the bytes of `input`, after libvirt's header: closed, and with a record
+/// of each page, unless `--partial` is set. `metadata` is that of the file that `input` is, if it
+/// is one; `name` is printable.
+///
+/// # Errors
+///
+/// Those of `read_input`, and `Trouble::Output`.
+pub fn verify_input<H: AllocGlobal + Files + Clock, R: Read, W: Write, E: Write>(
     rt: &H,
     words: &StreamWords<'_>,
     metadata: Option<&Metadata>,
@@ -141,8 +148,12 @@ fn verify_input<H: AllocGlobal + Files + Clock, R: Read, W: Write, E: Write>(
     input: &mut R,
     output: &mut W,
     errors: &mut E,
-) -> Result<bool, Trouble> {
-    let survey = read_input(rt, words, metadata, input, &mut NoSink, errors)?;
+) -> Result<bool, Trouble>
+    ensures complete { IfOk result (λ is_whole. IsTrue is_whole → (text : List ℕ) → R.remaining input.old ≡ Some text
+        → length text < 2 ^ 63 → All (λ byte. byte < 2 ^ 8) text → HasCompleteStream words.now.frame words.now.partial text) }
+{
+    let (read, _sink) = read_input(rt, words, metadata, input, NoSink, errors);
+    let survey = read?;
     judge_single(rt.alloc(), words.talk, json, name, &survey, output, errors)
 }
 
@@ -346,8 +357,8 @@ where
         .collect(rt, rt.alloc())
 }
 
-// Verifies `count` files at once, from the file `first` in the arguments on. Prints what it found of
-// each, in their order, and counts them.
+// Verifies `count` files at once, from the file `first` in the arguments on. Prints what it found
+// of each, in their order, and counts them.
 fn verify_at_once<H: AllocGlobal + Files + Clock + Threads + Sync, W: Write, E: Write>(
     rt: &H,
     words: &VerifyWords<'_>,

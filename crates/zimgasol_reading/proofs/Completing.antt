@@ -1,6 +1,6 @@
 -- Whether a stream is complete, as its survey has it.
-use Rattle.std.proofs.Common.{ℕ, ◌≡◌, ◌<◌, ◌^◌, Bool, List, [], ◌++◌, Option, Some, None, inl, inr, sym, ap, ◌∙◌, subst}
-use Rattle.std.specs.Prelude.{All, IfSome, IsSomeAnd, IsTrue, ◌↔◌}
+use Rattle.std.proofs.Common.{ℕ, ◌≡◌, ◌<◌, ◌^◌, Bool, List, ◌++◌, Option, Some, None, inl, inr, sym, ap, ◌∙◌, subst}
+use Rattle.std.specs.Prelude.{All, IfSome, IsSomeAnd, ◌↔◌}
 use Rattle.std.proofs.lemmas.List.{append-nil}
 use Rattle.mig_mem.specs.declared.place.Place.{Place}
 use Rattle.mig_mem.specs.RamTable.{RamTable}

@@ -1,3 +1,4 @@
 pub mod Coverage
+pub mod Libvirt
 pub mod Recorded
 pub mod Surveyed

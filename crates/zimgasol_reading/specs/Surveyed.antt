@@ -1,16 +1,19 @@
 -- What the survey of a single stream says of its bytes.
-use Rattle.std.specs.Prelude.{◌≡◌, ℕ, ◌<◌, ◌≤◌, ◌^◌, List, [], ◌++◌, length, drop, Option, Some, None, All, IfSome, IsSomeAnd, Bool, false}
+use Rattle.std.specs.Prelude.{◌≡◌, ◌⊎◌, ℕ, ◌<◌, ◌≤◌, ◌^◌, List, [], ◌++◌, length, drop, Option, Some, None, All, IfSome, IsSomeAnd, Bool, false}
 use Rattle.mig_mem.specs.PageSize.{IsPageSize}
+use Rattle.mig_mem.specs.RamTable.{RamTable}
 use Rattle.mig_stream.specs.declared.item.Frame.{Frame}
 use Rattle.mig_stream.specs.declared.item.Mode.TheVariants.{Single}
 use Rattle.mig_stream.specs.declared.item.StreamState.{StreamState}
 use Rattle.mig_stream.specs.declared.item.StreamState.TheVariants.{Closed}
+use Rattle.mig_stream.specs.PageRecord.{PageRecord}
 use Rattle.mig_stream.specs.Reading.{Settings, StreamReading, IsReading, settings, in_frame}
 use Rattle.mig_stream.specs.Reader.{IsValidUpTo}
 use Rattle.zimgasol_reading.specs.declared.blocks.Blocks.{Blocks}
 use Rattle.zimgasol_reading.specs.declared.libvirt.LibvirtHeader.{LibvirtHeader}
 use Rattle.zimgasol_reading.specs.declared.survey.Survey.{Survey}
 use Rattle.zimgasol_reading.specs.Coverage.{HasItsPages}
+use Rattle.zimgasol_reading.specs.Libvirt.{IsHeader}
 use Rattle.zimgasol_reading.specs.Recorded.{AreNamed, NameEachPage, records_of}
 
 -- the bytes before the stream
@@ -32,15 +35,24 @@ pub record IsSurveyed (given : Settings) (text : List ℕ) (state : StreamState)
   -- The blocks of a closed stream are those of its table.
   pub has_table : state ≡ Closed → All (λ byte. byte < 2 ^ 8) text → IsSomeAnd blocks (λ b. reading.table ≡ Some b.recorded.table)
 
+-- What took the pages of a stream has its table, and each record so far, in the order of the stream,
+-- unless no record came. After a closed stream it has the table and the records of all sections.
+pub record IsTaken (holds : RamTable → List PageRecord → Type 0) (given : Settings) (text : List ℕ) (state : StreamState) : Type 0 where
+  pub reading : StreamReading
+  pub is_reading : IsReading given text reading
+  pub has_records : (records_of reading.rounds ++ is_reading.to.records ≡ [])
+      ⊎ IsSomeAnd reading.table (λ table. holds table (records_of reading.rounds ++ is_reading.to.records))
+  pub has_all : state ≡ Closed → All (λ byte. byte < 2 ^ 8) text → IsSomeAnd reading.table (λ table. holds table (records_of reading.rounds))
+
 -- The stream is closed, and a record of it names each page of its table, unless pages may lack.
 abbrev pub IsCompleteStream : StreamReading → Bool → Bool → Type 0
 IsCompleteStream reading is_laid_over is_partial =
     (reading.state ≡ Closed) × HasItsPages is_laid_over is_partial (NameEachPage reading.table (records_of reading.rounds))
 
--- In the bytes, after a header of so many of them, is a complete stream, read in this frame.
+-- In the bytes, after libvirt's header or without one, is a complete stream, read in this frame.
 abbrev pub HasCompleteStream : Frame → Bool → List ℕ → Type 0
 HasCompleteStream frame is_partial text =
-    (before : ℕ) × (page_size : ℕ) × (limit : ℕ) × (reading : StreamReading) × IsPageSize page_size × (limit ≤ 2 ^ 40)
+    (before : ℕ) × ((before ≡ 0) ⊎ IsHeader text before) × (page_size : ℕ) × (limit : ℕ) × (reading : StreamReading) × IsPageSize page_size × (limit ≤ 2 ^ 40)
     × IsReading (in_frame frame (settings Single page_size limit)) (drop before text) reading × IsCompleteStream reading false is_partial
 
 -- What the reading was asked for stays.

@@ -1,5 +1,5 @@
-//! Keeps the bytes before RAM's records until they are complete, for a sink that takes them: no file
-//! is made before the size list was accepted.
+//! Keeps the bytes before RAM's records until they are complete, for a sink that takes them: no
+//! file is made before the size list was accepted.
 
 ghost use Rattle.std.specs.Prelude.{◌≡◌, ◌+◌, ◌≤◌, ◌++◌, length, take, OnOk};
 

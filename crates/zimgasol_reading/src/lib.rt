@@ -7,7 +7,7 @@
 //!
 //! | Modules | What they do |
 //! |---|---|
-//! | `survey`, `noting`, `libvirt`, `heads`, `place` | read a single stream, and locate its fault |
+//! | `survey`, `noting`, `beside`, `libvirt`, `heads`, `place` | read a single stream, and locate its fault |
 //! | `several`, `main_stream`, `channel`, `lane`, `several_place` | the same of channels |
 //! | `load`, `passing`, `shadow` | load the channels, and pass the pages on |
 //! | `notes` | notes what is between RAM's sections |
@@ -15,14 +15,17 @@
 //! | `blocks` | counts the page records of each block, and the pages without any |
 //! | `front` | keeps the bytes before RAM's records |
 //! | `sink` | takes the pages, and the bytes before and after RAM |
+//! | `laws` | laws of the memory that a stream leaves |
 #![tactic(auto)]
 
+mod beside;
 mod blocks;
 mod channel;
 mod description;
 mod front;
 mod heads;
 mod lane;
+mod laws;
 mod libvirt;
 mod load;
 mod main_stream;
@@ -43,6 +46,7 @@ pub use description::Device;
 pub use front::MOST_FRONT_LEN;
 pub use heads::{Head, section_id, section_name};
 pub use lane::{ChannelCounts, Lane};
+pub use laws::{records_make_the_rounds, streams_over_zeros_make_loads};
 pub use libvirt::{LibvirtHeader, header_of};
 pub use load::{Load, Reporting};
 pub use main_stream::MainStream;

@@ -1,6 +1,9 @@
 //! Reads the header that libvirt puts before QEMU's stream in the file of `virsh save`
 //! (`virQEMUSaveHeader` in libvirt's `src/qemu/qemu_saveimage.h`).
 
+ghost use Rattle.std.specs.Prelude.{◌≡◌, ◌+◌, ◌≤◌, Bool, length, IfOk, IfSome};
+ghost use Rattle.zimgasol_reading.specs.Libvirt.{IsHeader, field_at};
+
 use zimgasol_files::{Packed, Trouble};
 
 /// The bytes of the header, before its XML.
@@ -24,16 +27,18 @@ pub struct LibvirtHeader {
     pub was_running: bool,
 }
 
-// Returns the number of 4 bytes at the byte `at`, little-endian if `is_little`; 0 if there is none.
-fn field(bytes: &[u8], at: usize, is_little: bool) -> u32 {
-    let Some(rest) = bytes.get(at..) else {
-        return 0;
-    };
-    match rest.first_chunk::<4>() {
-        Some(bytes) if is_little => u32::from_le_bytes(*bytes),
-        Some(bytes) => u32::from_be_bytes(*bytes),
-        None => 0,
+// Returns the number of 4 bytes at the byte `at`, little-endian if `is_little`.
+#[tactic(auto, unfolding(crate::specs::Libvirt::field_at))]
+fn field(bytes: &[u8], at: usize, is_little: bool) -> u32
+    requires { at + 4 ≤ length bytes.now }
+    ensures { result ≡ field_at is_little at bytes.now }
+{
+    let part = &bytes[at..at + 4];
+    let number = [part[0], part[1], part[2], part[3]];
+    if is_little {
+        return u32::from_le_bytes(number);
     }
+    u32::from_be_bytes(number)
 }
 
 // Returns why a stream in the format `format`, after a header of `len` bytes, can't be read.
@@ -59,13 +64,36 @@ fn format_trouble(format: u32, len: u64) -> Trouble {
     Trouble::Packed(None, Packed { packer, first })
 }
 
+// Returns the header whose bytes are `header`: those of a save that was completed.
+fn read_header(header: &[u8]) -> Result<LibvirtHeader, Trouble>
+    requires { 92 ≤ length header.now }
+    ensures { IfOk result (λ found. (is_little : Bool) × (field_at is_little 16 header.now ≡ 2) × (field_at is_little 28 header.now ≡ 0)
+        × (found.len ≡ 92 + field_at is_little 20 header.now)) }
+{
+    let is_little = field(header, 16, true) == VERSION;
+    if !is_little && field(header, 16, false) != VERSION {
+        return Err(Trouble::Libvirt("libvirt's header has a version other than 2"));
+    }
+    let len = HEADER_LEN as u64 + u64::from(field(header, 20, is_little));
+    let format = field(header, 28, is_little);
+    if format != 0 {
+        return Err(format_trouble(format, len));
+    }
+    Ok(LibvirtHeader {
+        len,
+        was_running: field(header, 24, is_little) != 0,
+    })
+}
+
 /// Returns the header at the beginning of a file; None if the file isn't libvirt's.
 ///
 /// # Errors
 ///
 /// `Trouble::Libvirt` if the save was never completed, the header is cut or has another version, or
 /// the stream is sparse. `Trouble::Packed` if the stream is compressed.
-pub fn header_of(bytes: &[u8]) -> Result<Option<LibvirtHeader>, Trouble> {
+pub fn header_of(bytes: &[u8]) -> Result<Option<LibvirtHeader>, Trouble>
+    ensures { IfOk result (λ found. IfSome found (λ header. IsHeader bytes.now header.len)) }
+{
     if bytes.starts_with(PARTIAL_MAGIC) {
         return Err(Trouble::Libvirt("libvirt never completed this save"));
     }
@@ -75,17 +103,5 @@ pub fn header_of(bytes: &[u8]) -> Result<Option<LibvirtHeader>, Trouble> {
     if bytes.len() < HEADER_LEN {
         return Err(Trouble::Libvirt("libvirt's header is cut"));
     }
-    let is_little = field(bytes, 16, true) == VERSION;
-    if !is_little && field(bytes, 16, false) != VERSION {
-        return Err(Trouble::Libvirt("libvirt's header has a version other than 2"));
-    }
-    let len = HEADER_LEN as u64 + u64::from(field(bytes, 20, is_little));
-    let format = field(bytes, 28, is_little);
-    if format != 0 {
-        return Err(format_trouble(format, len));
-    }
-    Ok(Some(LibvirtHeader {
-        len,
-        was_running: field(bytes, 24, is_little) != 0,
-    }))
+    Ok(Some(read_header(&bytes[..HEADER_LEN])?))
 }

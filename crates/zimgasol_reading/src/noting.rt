@@ -1,68 +1,85 @@
 //! What takes the records of a stream for its survey: it passes them to a sink, and notes what is
 //! printed of them.
 
-ghost use Rattle.std.specs.Prelude.{◌≡◌, List, [], ◌∷◌, ◌++◌, Some, OnOk};
+ghost use Rattle.std.specs.Prelude.{◌≡◌, List, [], ◌∷◌, ◌++◌, None, Some, OnOk};
 ghost use Rattle.std.specs.Option.{option_copied};
 ghost use Rattle.mig_mem.specs.RamTable.{RamTable};
 ghost use Rattle.mig_mem.specs.Place.{IsPlace};
 ghost use Rattle.mig_stream.specs.PageRecord.{PageRecord};
 ghost use Rattle.zimgasol_course.specs.Course.{Keeps};
-ghost use Rattle.zimgasol_reading.specs.Recorded.{AreCounted};
+ghost use Rattle.zimgasol_reading.specs.Recorded.{AreCounted, StillHolds};
 
+use crate::beside::Beside;
 use crate::blocks::Blocks;
 use crate::front::Front;
-use crate::heads::Head;
-use crate::notes::Notes;
 use crate::sink::GuestSink;
-use crate::tail::Tail;
 use mig_mem::{Place, Table};
 use mig_stream::{Report, StreamState};
 use std::alloc::{AllocGlobal, Global};
 use std::fs::Files;
-use std::io::Write;
-use std::rt::Clock;
+use std::marker::PhantomData;
 use zimgasol_course::Taker;
-use zimgasol_files::{Trouble, Watch};
+use zimgasol_files::Trouble;
 
-/// A sink, and the parts of a survey that note what a stream has.
+/// A sink, and what notes what a stream has.
 #[derive(Drop)]
-pub(crate) struct Noting<'a, H, S, E> {
-    pub(crate) rt: &'a H,
-    pub(crate) sink: &'a mut S,
-    pub(crate) errors: &'a mut E,
-    pub(crate) last: &'a mut Option<Place>,
-    pub(crate) notes: &'a mut Notes,
-    pub(crate) head: &'a mut Head,
-    pub(crate) tail: &'a mut Tail,
-    pub(crate) watch: &'a mut Watch,
-    pub(crate) len: &'a mut u64,
+pub(crate) struct Noting<H, B: Drop, S: Drop> {
+    pub(crate) beside: B,
+    pub(crate) sink: S,
     // the blocks and their records, once the size list is complete
-    pub(crate) blocks: Option<Blocks>,
+    blocks: Option<Blocks>,
     // the bytes before RAM's records, until the sink takes them, and whether it has the table
-    pub(crate) front: Front,
-    pub(crate) has_begun: bool,
+    front: Front,
+    has_begun: bool,
     // the number of the stream's bytes that were read
-    pub(crate) fed: u64,
+    fed: u64,
+    // the handle by which the sink opens files
+    handle: PhantomData<H>,
 }
 
-impl<'a, H: AllocGlobal + Files + Clock, S: GuestSink<H>, E: Write> Noting<'a, H, S, E> {
+impl<H: AllocGlobal + Files, B: Beside<H> + Drop, S: GuestSink<H> + Drop> Noting<H, B, S> {
+    /// Creates what passes a stream to `sink`, before its first byte was read.
+    pub(crate) fn new(alloc: Global, beside: B, sink: S) -> Noting<H, B, S>
+        ensures blocks { result.blocks ≡ None }
+        ensures sink { result.sink ≡ sink }
+    {
+        Noting {
+            beside,
+            sink,
+            blocks: None,
+            front: Front::new(alloc),
+            has_begun: false,
+            fed: 0,
+            handle: PhantomData,
+        }
+    }
+
     // Keeps `piece`, after it was read, until the bytes before RAM's records are complete, and
     // passes them to the sink, if it takes them.
     fn keep_front(&mut self, piece: &[u8]) -> Result<(), Trouble>
-        ensures { self.new.blocks ≡ self.old.blocks }
+        ensures blocks { self.new.blocks ≡ self.old.blocks }
+        ensures sink { OnOk result (StillHolds (S.holds self.old.sink) (S.holds self.new.sink)) }
     {
         if self.front.is_taken || !self.sink.keeps_state() {
             return Ok(());
         }
         self.front.keep(piece)?;
         if self.has_begun
-            && let Some(end) = self.notes.list_end()
+            && let Some(end) = self.beside.list_end()
         {
             let (libvirt, stream) = self.front.parts_to(end);
-            self.sink.take_front(self.rt, libvirt, stream)?;
+            self.sink.take_front(self.beside.rt(), libvirt, stream)?;
             self.front.set_taken();
         }
         Ok(())
+    }
+
+    /// Returns the blocks and their records, and the sink.
+    pub(crate) fn into_parts(self) -> (Option<Blocks>, S)
+        ensures blocks { result.0 ≡ self.blocks }
+        ensures sink { result.1 ≡ self.sink }
+    {
+        (self.blocks, self.sink)
     }
 }
 
@@ -94,29 +111,30 @@ fn list_blocks(
     Ok(())
 }
 
-impl<'a, H: AllocGlobal + Files + Clock, S: GuestSink<H>, E: Write> Taker for Noting<'a, H, S, E> {
-    ghost use Rattle.zimgasol_reading.specs.Recorded.{AreCounted};
+impl<H: AllocGlobal + Files, B: Beside<H> + Drop, S: GuestSink<H> + Drop> Taker
+    for Noting<H, B, S> {
+    ghost use Rattle.zimgasol_reading.specs.Recorded.{AreCountedAndTaken};
 
-    ghost holds = { λ noting. AreCounted noting.blocks };
+    ghost holds = { λ noting. AreCountedAndTaken noting.blocks (S.holds noting.sink) };
 
     // Lists the blocks, and passes the table to the sink.
     fn begin(&mut self, table: &Table) -> Result<(), Trouble> {
-        self.sink.begin(self.rt, table)?;
+        self.sink.begin(self.beside.rt(), table)?;
         self.has_begun = true;
-        self.blocks = Some(Blocks::new(self.rt.alloc(), table.try_copy()?)?);
+        let alloc = self.beside.rt().alloc();
+        self.blocks = Some(Blocks::new(alloc, table.try_copy()?)?);
         Ok(())
     }
 
     // Counts a record, and passes it to the sink.
     fn put(&mut self, place: Place, content: Option<&[u8]>) -> Result<(), Trouble> {
         self.sink.take_page(place, content)?;
-        *self.last = Some(place);
+        self.beside.set_last(place);
         count(&mut self.blocks, place, content)
     }
 
     fn note(&mut self, report: &mut Report) -> Result<(), Trouble> {
-        self.notes.take(report)?;
-        Ok(())
+        self.beside.note(report)
     }
 
     // Keeps the first bytes of the item that isn't complete, and those after RAM. Lists the blocks
@@ -128,15 +146,15 @@ impl<'a, H: AllocGlobal + Files + Clock, S: GuestSink<H>, E: Write> Taker for No
         found: StreamState,
         table: Option<&Table>,
     ) -> Result<(), Trouble> {
-        list_blocks(self.rt.alloc(), &mut self.blocks, table)?;
+        list_blocks(self.beside.rt().alloc(), &mut self.blocks, table)?;
         let start = self.fed;
         self.fed = start.saturating_add(piece.len() as u64);
-        self.head.look(piece, start, valid)?;
+        self.beside.look(piece, start, valid)?;
         self.keep_front(piece)?;
         if let StreamState::Closed = found {
             let from = valid.saturating_sub(start);
             let after = piece.get(from as usize..).unwrap_or(&[]);
-            self.tail.look(after)?;
+            self.beside.look_after(after)?;
             self.sink.take_after(after)?;
         }
         Ok(())
@@ -151,12 +169,11 @@ impl<'a, H: AllocGlobal + Files + Clock, S: GuestSink<H>, E: Write> Taker for No
     }
 
     fn look_after(&mut self, piece: &[u8]) -> Result<(), Trouble> {
-        self.tail.look(piece)?;
+        self.beside.look_after(piece)?;
         self.sink.take_after(piece)
     }
 
     fn progress(&mut self, len: usize) {
-        *self.len = self.len.saturating_add(len as u64);
-        self.watch.show(self.rt, self.errors, *self.len);
+        self.beside.progress(len);
     }
 }

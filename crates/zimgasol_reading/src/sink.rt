@@ -1,5 +1,12 @@
 //! The traits of a sink, which takes the pages of a stream as they are read.
 
+ghost use Rattle.std.specs.Prelude.{◌≡◌, List, [], ◌∷◌, ◌++◌, length, IfSome, OnOk, ⊤};
+ghost use Rattle.std.specs.Option.{option_copied};
+ghost use Rattle.mig_mem.specs.RamTable.{RamTable};
+ghost use Rattle.mig_mem.specs.Place.{IsPlace};
+ghost use Rattle.mig_stream.specs.PageRecord.{PageRecord};
+ghost use Rattle.zimgasol_reading.specs.Recorded.{StillHolds};
+
 use mig_mem::{NoMemory, Place, Table};
 use std::alloc::{AllocError, Global};
 use std::fs::Files;
@@ -48,12 +55,17 @@ impl From<SinkTrouble> for Trouble {
 
 /// Takes the pages of a stream, in the order of its records.
 pub trait PageSink {
+    /// What holds of it once it has taken this table, and then the pages of these records.
+    ghost holds: { Self → RamTable → List PageRecord → Type 0 };
+
     /// Takes the content of a page from its record: its bytes, or None for a page of zeros.
     ///
     /// # Errors
     ///
     /// The trouble that the sink had.
-    fn take_page(&mut self, place: Place, content: Option<&[u8]>) -> Result<(), SinkTrouble>;
+    fn take_page(&mut self, place: Place, content: Option<&[u8]>) -> Result<(), SinkTrouble>
+        ensures { OnOk result ((table : RamTable) (records : List PageRecord) → IsPlace table place → IfSome content.entry (λ bytes. length bytes.now ≡ table.page_size)
+            → holds self.old table records → holds self.new table (records ++ record { place = place; content = option_copied content.entry } ∷ [])) };
 }
 
 /// A sink that takes the stream's table first.
@@ -63,7 +75,8 @@ pub trait GuestSink<H: Files>: PageSink {
     /// # Errors
     ///
     /// The trouble that the sink had.
-    fn begin(&mut self, rt: &H, table: &Table) -> Result<(), Trouble>;
+    fn begin(&mut self, rt: &H, table: &Table) -> Result<(), Trouble>
+        ensures { OnOk result (Self.holds self.new table.now []) };
 
     /// Returns whether the sink takes the bytes before and after RAM.
     fn keeps_state(&self) -> bool {
@@ -76,7 +89,9 @@ pub trait GuestSink<H: Files>: PageSink {
     /// # Errors
     ///
     /// The trouble that the sink had.
-    fn take_front(&mut self, _rt: &H, _libvirt: &[u8], _stream: &[u8]) -> Result<(), Trouble> {
+    fn take_front(&mut self, _rt: &H, _libvirt: &[u8], _stream: &[u8]) -> Result<(), Trouble>
+        ensures { OnOk result (StillHolds (Self.holds self.old) (Self.holds self.new)) }
+    {
         Ok(())
     }
 
@@ -85,7 +100,9 @@ pub trait GuestSink<H: Files>: PageSink {
     /// # Errors
     ///
     /// The trouble that the sink had.
-    fn take_after(&mut self, _bytes: &[u8]) -> Result<(), Trouble> {
+    fn take_after(&mut self, _bytes: &[u8]) -> Result<(), Trouble>
+        ensures { OnOk result (StillHolds (Self.holds self.old) (Self.holds self.new)) }
+    {
         Ok(())
     }
 }
@@ -95,6 +112,10 @@ pub trait GuestSink<H: Files>: PageSink {
 pub struct NoSink;
 
 impl PageSink for NoSink {
+    ghost use Rattle.std.specs.Prelude.{⊤};
+
+    ghost holds = { λ _ _ _. ⊤ };
+
     fn take_page(&mut self, _place: Place, _content: Option<&[u8]>) -> Result<(), SinkTrouble> {
         Ok(())
     }

@@ -2,17 +2,18 @@
 //! and finds its fault.
 
 ghost use Rattle.std.specs.Prelude.{◌≡◌, ◌↔◌, ◌<◌, ◌≤◌, ◌++◌, ◌^◌, ℕ, List, [], length, take, drop, Some, IfOk, OnOk, IfSome, IsTrue, false};
-ghost use Rattle.std.specs.Io.KnownBytes.{IsAtEnd};
+ghost use Rattle.std.specs.Io.KnownBytes.{Consumes, IsAtEnd};
 ghost use Rattle.mig_mem.specs.PageSize.{IsPageSize};
 ghost use Rattle.mig_stream.specs.declared.item.Mode.TheVariants.{Single};
 ghost use Rattle.mig_stream.specs.Reading.{Settings, settings, in_frame};
 ghost use Rattle.zimgasol_course.specs.Course.{Stands};
 ghost use Rattle.zimgasol_reading.specs.Coverage.{IsWhole, HasItsPages};
-ghost use Rattle.zimgasol_reading.specs.Recorded.{AreCounted};
-ghost use Rattle.zimgasol_reading.specs.Surveyed.{IsSurveyed, IsAsked, before_of};
+ghost use Rattle.zimgasol_reading.specs.Libvirt.{IsHeader};
+ghost use Rattle.zimgasol_reading.specs.Recorded.{AreCountedAndTaken};
+ghost use Rattle.zimgasol_reading.specs.Surveyed.{IsSurveyed, IsTaken, IsAsked, before_of};
 
+use crate::beside::{Beside, Parts};
 use crate::blocks::{Blocks, Coverage};
-use crate::front::Front;
 use crate::heads::Head;
 use crate::libvirt::{LibvirtHeader, header_of};
 use crate::notes::Notes;
@@ -152,48 +153,34 @@ impl Survey {
         self.file_len
     }
 
-    /// Reads `input` to its end, or to a fault, and passes the pages of its stream to `sink`. What
-    /// it finds is what the one reading of the bytes after libvirt's header has.
-    ///
-    /// # Errors
-    ///
-    /// `Trouble::Unread` if a read fails, `Trouble::Libvirt` and `Trouble::Packed` of libvirt's
-    /// header, `Trouble::NoMemory`, and those of `sink`.
-    pub fn read<H: AllocGlobal + Files + Clock, R: Read, S: GuestSink<H>, E: Write>(
-        &mut self,
-        rt: &H,
-        input: &mut R,
-        buffer: &mut [u8],
-        sink: &mut S,
-        errors: &mut E,
-    ) -> Result<(), Trouble>
-        requires room { 0 < length buffer.old }
-        requires page_size { IsPageSize self.old.page_size }
-        requires limit { self.old.limit ≤ 2 ^ 40 }
-        ensures asked { OnOk result (IsAsked self.old self.new) }
-        ensures found { OnOk result ((text : List ℕ) → R.remaining input.old ≡ Some text → length text < 2 ^ 63
-            → IsSurveyed (in_frame self.old.frame (settings Single self.old.page_size self.old.limit)) (drop (before_of self.new.libvirt) text) self.new.state self.new.sections self.new.valid self.new.blocks) }
+    // Reads the first piece of `input`, and libvirt's header in it. Returns the piece's length.
+    fn read_first<R: Read>(&mut self, input: &mut R, buffer: &mut [u8]) -> Result<usize, Trouble>
+        ensures room { length buffer.new ≡ length buffer.old }
+        ensures within { IfOk result (λ len. len ≤ length buffer.new) }
+        ensures bytes { IfOk result (λ len. Consumes (R.remaining input.old) (R.remaining input.new) (take len buffer.new)) }
+        ensures end { IfOk result (λ len. len < length buffer.new → IsAtEnd (R.remaining input.new)) }
+        ensures header { IfOk result (λ len. IfSome self.new.libvirt (λ header. IsHeader (take len buffer.new) header.len)) }
+        ensures asked { IsAsked self.old self.new }
     {
         let len = read_piece(input, buffer)?;
         self.libvirt = header_of(&buffer[..len])?;
-        let before = self.before();
-        let course = Course::new(rt.alloc(), self.frame, self.page_size, self.limit);
-        let noting = Noting {
-            rt,
-            sink,
-            errors,
-            last: &mut self.last,
-            notes: &mut self.notes,
-            head: &mut self.head,
-            tail: &mut self.tail,
-            watch: &mut self.watch,
-            len: &mut self.len,
-            blocks: None,
-            front: Front::new(rt.alloc()),
-            has_begun: false,
-            fed: 0,
-        };
-        let (course, blocks, is_over) = read_course(course, input, buffer, len, before, noting)?;
+        Ok(len)
+    }
+
+    // Takes how far a stream was read.
+    fn take_course(
+        &mut self,
+        course: Course,
+        blocks: Option<Blocks>,
+        is_over: bool,
+    ) -> Result<(), Trouble>
+        ensures asked { IsAsked self.old self.new }
+        ensures libvirt { self.new.libvirt ≡ self.old.libvirt }
+        ensures state { self.new.state ≡ course.state }
+        ensures sections { self.new.sections ≡ course.sections }
+        ensures valid { self.new.valid ≡ course.valid }
+        ensures blocks { self.new.blocks ≡ blocks }
+    {
         self.blocks = blocks;
         self.is_over = is_over;
         self.state = course.state;
@@ -201,6 +188,56 @@ impl Survey {
         self.valid = course.valid;
         self.ending = ending_of(&self.tail, self.state)?;
         Ok(())
+    }
+
+    /// Reads `input` to its end, or to a fault, and passes the pages of its stream to `sink`, which
+    /// it returns. What it finds is what the one reading of the bytes after libvirt's header has,
+    /// and the sink has taken the records of that reading.
+    ///
+    /// # Errors
+    ///
+    /// `Trouble::Unread` if a read fails, `Trouble::Libvirt` and `Trouble::Packed` of libvirt's
+    /// header, `Trouble::NoMemory`, and those of `sink`.
+    pub fn read<H: AllocGlobal + Files + Clock, R: Read, S: GuestSink<H> + Drop, E: Write>(
+        &mut self,
+        rt: &H,
+        input: &mut R,
+        buffer: &mut [u8],
+        sink: S,
+        errors: &mut E,
+    ) -> (Result<(), Trouble>, S)
+        requires room { 0 < length buffer.old }
+        requires page_size { IsPageSize self.old.page_size }
+        requires limit { self.old.limit ≤ 2 ^ 40 }
+        ensures asked { OnOk result.0 (IsAsked self.old self.new) }
+        ensures header { OnOk result.0 ((text : List ℕ) → R.remaining input.old ≡ Some text → IfSome self.new.libvirt (λ header. IsHeader text header.len)) }
+        ensures found { OnOk result.0 ((text : List ℕ) → R.remaining input.old ≡ Some text → length text < 2 ^ 63
+            → IsSurveyed (in_frame self.old.frame (settings Single self.old.page_size self.old.limit)) (drop (before_of self.new.libvirt) text) self.new.state self.new.sections self.new.valid self.new.blocks) }
+        ensures taken { OnOk result.0 ((text : List ℕ) → R.remaining input.old ≡ Some text → length text < 2 ^ 63
+            → IsTaken (S.holds result.1) (in_frame self.old.frame (settings Single self.old.page_size self.old.limit)) (drop (before_of self.new.libvirt) text) self.new.state) }
+    {
+        let len = match self.read_first(input, buffer) {
+            Ok(len) => len,
+            Err(trouble) => return (Err(trouble), sink),
+        };
+        let before = self.before();
+        let course = Course::new(rt.alloc(), self.frame, self.page_size, self.limit);
+        let parts = Parts {
+            rt,
+            errors,
+            last: &mut self.last,
+            notes: &mut self.notes,
+            head: &mut self.head,
+            tail: &mut self.tail,
+            watch: &mut self.watch,
+            len: &mut self.len,
+        };
+        let noting = Noting::new(rt.alloc(), parts, sink);
+        let (read, sink) = read_course(course, input, buffer, len, before, noting);
+        match read {
+            Ok((course, blocks, is_over)) => (self.take_course(course, blocks, is_over), sink),
+            Err(trouble) => (Err(trouble), sink),
+        }
     }
 }
 
@@ -212,78 +249,109 @@ fn ending_of(tail: &Tail, found: StreamState) -> Result<Ending, Trouble> {
     }
 }
 
-// Reads a stream. Returns how far it was read, its blocks, and whether the input's end was reached.
-fn read_course<H: AllocGlobal + Files + Clock, R: Read, S: GuestSink<H>, E: Write>(
+// Reads a stream. Returns how far it was read, its blocks, and whether the input's end was reached;
+// and the sink.
+fn read_course<H: AllocGlobal + Files, R: Read, B: Beside<H> + Drop, S: GuestSink<H> + Drop>(
     mut course: Course,
     input: &mut R,
     buffer: &mut [u8],
     len: usize,
     before: u64,
-    mut noting: Noting<'_, H, S, E>,
-) -> Result<(Course, Option<Blocks>, bool), Trouble>
+    mut noting: Noting<H, B, S>,
+) -> (Result<(Course, Option<Blocks>, bool), Trouble>, S)
     requires room { 0 < length buffer.old }
     requires within { len ≤ length buffer.old }
     requires end { len < length buffer.old → IsAtEnd (R.remaining input.old) }
-    ensures { IfOk result (λ r. (given : Settings) (rest : List ℕ) → R.remaining input.old ≡ Some rest → length (take len buffer.old ++ rest) < 2 ^ 63
-        → Stands (AreCounted noting.entry.blocks) given [] course.pause course.state course.sections course.valid course.has_begun
-        → Stands (AreCounted r.1) given (drop before (take len buffer.old ++ rest)) r.0.pause r.0.state r.0.sections r.0.valid r.0.has_begun) }
+    ensures { IfOk result.0 (λ r. (given : Settings) (rest : List ℕ) → R.remaining input.old ≡ Some rest → length (take len buffer.old ++ rest) < 2 ^ 63
+        → Stands (AreCountedAndTaken noting.blocks (S.holds noting.sink)) given [] course.pause course.state course.sections course.valid course.has_begun
+        → Stands (AreCountedAndTaken r.1 (S.holds result.1)) given (drop before (take len buffer.old ++ rest)) r.0.pause r.0.state r.0.sections r.0.valid r.0.has_begun) }
 {
-    let is_over = course.read(input, buffer, len, before, &mut noting)?;
-    Ok((course, noting.blocks.take(), is_over))
+    let read = course.read(input, buffer, len, before, &mut noting);
+    let (blocks, sink) = noting.into_parts();
+    match read {
+        Ok(is_over) => (Ok((course, blocks, is_over)), sink),
+        Err(trouble) => (Err(trouble), sink),
+    }
 }
 
-/// Reads the stream in `input` to its end or to a fault, and passes its pages to `sink`. `metadata`
-/// is that of the file that `input` is, if it is one. A fault of the stream is no error: the survey
-/// has it.
-///
-/// What the survey has is what the one reading of the bytes after libvirt's header has.
-///
-/// # Errors
-///
-/// `Trouble::Unread` if a read fails, `Trouble::Libvirt` and `Trouble::Packed` of libvirt's header,
-/// `Trouble::NoMemory`, and those of `sink`.
-pub fn read_input<H: AllocGlobal + Files + Clock, R: Read, S: GuestSink<H>, E: Write>(
+// Returns the buffer that a stream is read into, and the survey before its first byte.
+fn begin_survey<H: AllocGlobal + Clock>(
     rt: &H,
     words: &StreamWords<'_>,
     metadata: Option<&Metadata>,
-    input: &mut R,
-    sink: &mut S,
-    errors: &mut E,
-) -> Result<Survey, Trouble>
-    ensures asked { IfOk result (λ s. (s.frame ≡ words.now.frame) × (s.is_partial ≡ words.now.partial) × (s.is_laid_over ≡ false)) }
-    ensures bounds { IfOk result (λ s. IsPageSize s.page_size × (s.limit ≤ 2 ^ 40)) }
-    ensures found { IfOk result (λ s. (text : List ℕ) → R.remaining input.old ≡ Some text → length text < 2 ^ 63
-        → IsSurveyed (in_frame s.frame (settings Single s.page_size s.limit)) (drop (before_of s.libvirt) text) s.state s.sections s.valid s.blocks) }
+) -> Result<(Vec<u8>, Survey), Trouble>
+    ensures room { IfOk result (λ r. 0 < length r.0.items) }
+    ensures asked { IfOk result (λ r. (r.1.frame ≡ words.now.frame) × (r.1.is_partial ≡ words.now.partial) × (r.1.is_laid_over ≡ false)) }
+    ensures bounds { IfOk result (λ r. IsPageSize r.1.page_size × (r.1.limit ≤ 2 ^ 40)) }
 {
-    let mut buffer = piece_buffer(rt.alloc())?;
+    let buffer = piece_buffer(rt.alloc())?;
     let watch = Watch::new(rt, rt.alloc(), words.talk, words.file)?;
     let mut survey = Survey::new(rt.alloc(), words, watch);
     if let Some(metadata) = metadata {
         survey.expect_file(metadata);
     }
-    let read = survey.read(rt, input, &mut buffer, sink, errors);
+    Ok((buffer, survey))
+}
+
+/// Reads the stream in `input` to its end or to a fault, and passes its pages to `sink`, which it
+/// returns. `metadata` is that of the file that `input` is, if it is one. A fault of the stream is
+/// no error: the survey has it.
+///
+/// What the survey has is what the one reading of the bytes after libvirt's header has, and the
+/// sink has taken the records of that reading.
+///
+/// # Errors
+///
+/// `Trouble::Unread` if a read fails, `Trouble::Libvirt` and `Trouble::Packed` of libvirt's header,
+/// `Trouble::NoMemory`, and those of `sink`.
+pub fn read_input<H: AllocGlobal + Files + Clock, R: Read, S: GuestSink<H> + Drop, E: Write>(
+    rt: &H,
+    words: &StreamWords<'_>,
+    metadata: Option<&Metadata>,
+    input: &mut R,
+    sink: S,
+    errors: &mut E,
+) -> (Result<Survey, Trouble>, S)
+    ensures asked { IfOk result.0 (λ s. (s.frame ≡ words.now.frame) × (s.is_partial ≡ words.now.partial) × (s.is_laid_over ≡ false)) }
+    ensures bounds { IfOk result.0 (λ s. IsPageSize s.page_size × (s.limit ≤ 2 ^ 40)) }
+    ensures header { IfOk result.0 (λ s. (text : List ℕ) → R.remaining input.old ≡ Some text → IfSome s.libvirt (λ header. IsHeader text header.len)) }
+    ensures found { IfOk result.0 (λ s. (text : List ℕ) → R.remaining input.old ≡ Some text → length text < 2 ^ 63
+        → IsSurveyed (in_frame s.frame (settings Single s.page_size s.limit)) (drop (before_of s.libvirt) text) s.state s.sections s.valid s.blocks) }
+    ensures taken { IfOk result.0 (λ s. (text : List ℕ) → R.remaining input.old ≡ Some text → length text < 2 ^ 63
+        → IsTaken (S.holds result.1) (in_frame s.frame (settings Single s.page_size s.limit)) (drop (before_of s.libvirt) text) s.state) }
+{
+    let (mut buffer, mut survey) = match begin_survey(rt, words, metadata) {
+        Ok(begun) => begun,
+        Err(trouble) => return (Err(trouble), sink),
+    };
+    let (read, sink) = survey.read(rt, input, &mut buffer, sink, errors);
     survey.watch.end(errors);
-    read?;
-    Ok(survey)
+    match read {
+        Ok(()) => (Ok(survey), sink),
+        Err(trouble) => (Err(trouble), sink),
+    }
 }
 
 /// Reads a stream to its end or to a fault, from its file or from `input`, and passes its pages to
-/// `sink`. A fault of the stream is no error: the survey has it.
+/// `sink`, which it returns. A fault of the stream is no error: the survey has it.
 ///
 /// # Errors
 ///
 /// `Trouble::Unread` if the file can't be opened, and those of `read_input`.
-pub fn read_stream<H: AllocGlobal + Files + Clock, R: Read, S: GuestSink<H>, E: Write>(
+pub fn read_stream<H: AllocGlobal + Files + Clock, R: Read, S: GuestSink<H> + Drop, E: Write>(
     rt: &H,
     words: &StreamWords<'_>,
     input: &mut R,
-    sink: &mut S,
+    sink: S,
     errors: &mut E,
-) -> Result<Survey, Trouble> {
+) -> (Result<Survey, Trouble>, S) {
     if words.file == "-" {
         return read_input(rt, words, None, input, sink, errors);
     }
-    let mut file = File::open(rt, words.file).map_err(Trouble::Unread)?;
+    let mut file = match File::open(rt, words.file) {
+        Ok(file) => file,
+        Err(error) => return (Err(Trouble::Unread(error)), sink),
+    };
     let metadata = file.metadata().ok();
     read_input(rt, words, metadata.as_ref(), &mut file, sink, errors)
 }

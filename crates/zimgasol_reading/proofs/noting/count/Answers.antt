@@ -1,4 +1,4 @@
-use Rattle.std.proofs.Common.{◌≡◌, List, [], ◌∷◌, ◌++◌, Option, Some, sym, subst}
+use Rattle.std.proofs.Common.{[], ◌∷◌, ◌++◌, Option, Some, sym, subst}
 use Rattle.std.specs.Option.{option_copied}
 use Rattle.mig_stream.specs.PageRecord.{PageRecord}
 use Rattle.zimgasol_reading.specs.declared.blocks.Blocks.{Blocks}

@@ -1,11 +1,29 @@
 use Rattle.mig_stream.specs.declared.item.Mode.TheVariants.{Single}
 use Rattle.mig_stream.specs.Reading.{settings, in_frame}
-use Rattle.zimgasol_reading.proofs.Surveying.{survey_of, stands_none}
+use Rattle.zimgasol_reading.proofs.Surveying.{on_ok, if_ok, survey_of, stands_none, header_whole}
 use Rattle.zimgasol_reading.proofs.survey.Survey.read.Goals as goal
 
-pub returns-clause-found : goal.returns-clause-found
-returns-clause-found g c = λ text is few.
-    let s = c.args.self.now in
+pub returns-in-Ok-read-clause-header : goal.returns-in-Ok-read-clause-header
+returns-in-Ok-read-clause-header g c = on_ok c.take_course.result (λ text is.
+    header_whole c.read_first.new.self.libvirt c.take_course.new.self.libvirt text _ _ _ c.take_course.ensures.libvirt is c.in-Ok.ensures.bytes
+    c.in-Ok.ensures.header)
+
+pub returns-in-Ok-read-clause-found : goal.returns-in-Ok-read-clause-found
+returns-in-Ok-read-clause-found g c = on_ok c.take_course.result (λ text is few.
+    let s = c.read_first.new.self in
     let given = in_frame s.frame (settings Single s.page_size s.limit) in
-    survey_of s.frame s.page_size s.limit text _ _ _ _ _ _ _ _ _ _ _ c.requires.limit is few c.in_ok-len.ensures.bytes c.before-before.ensures
-    (λ rest left short. c.in_ok-course.ensures given rest left short (stands_none given _ _ _ _ _ _ c.new-course.ensures.begun c.new-course.ensures.ok))
+    (survey_of c.args.self.now s c.take_course.new.self (g.S.PageSink.holds c.read_course-read.result.1) text _ _ _ _ _ _ _ _ _ _ c.requires.limit
+    c.in-Ok.ensures.asked c.before-before.ensures c.take_course.ensures.libvirt c.take_course.ensures.state c.take_course.ensures.sections
+    c.take_course.ensures.valid c.take_course.ensures.blocks is few c.in-Ok.ensures.bytes
+    (λ rest left short. if_ok _ _ _ c.in-Ok-read.is c.read_course-read.ensures given rest left short
+    (stands_none _ _ given _ _ _ _ _ _ c.new-noting.ensures.blocks c.new-course.ensures.begun c.new-course.ensures.ok))).0)
+
+pub returns-in-Ok-read-clause-taken : goal.returns-in-Ok-read-clause-taken
+returns-in-Ok-read-clause-taken g c = on_ok c.take_course.result (λ text is few.
+    let s = c.read_first.new.self in
+    let given = in_frame s.frame (settings Single s.page_size s.limit) in
+    (survey_of c.args.self.now s c.take_course.new.self (g.S.PageSink.holds c.read_course-read.result.1) text _ _ _ _ _ _ _ _ _ _ c.requires.limit
+    c.in-Ok.ensures.asked c.before-before.ensures c.take_course.ensures.libvirt c.take_course.ensures.state c.take_course.ensures.sections
+    c.take_course.ensures.valid c.take_course.ensures.blocks is few c.in-Ok.ensures.bytes
+    (λ rest left short. if_ok _ _ _ c.in-Ok-read.is c.read_course-read.ensures given rest left short
+    (stands_none _ _ given _ _ _ _ _ _ c.new-noting.ensures.blocks c.new-course.ensures.begun c.new-course.ensures.ok))).1)
