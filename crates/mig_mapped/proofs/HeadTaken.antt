@@ -3,7 +3,7 @@ use Rattle.std.proofs.Common.{ℕ, ◌≡◌, ◌≢◌, ◌+◌, ◌<◌, ◌�
 use Rattle.std.proofs.Common.{sym, ap, subst, ◌∙◌, inl, inr, arith}
 use Rattle.std.specs.Prelude.{not, nat_lt, nat_le}
 use Rattle.std.proofs.lemmas.Bool.{cases_Bool, cases_order, cases_lt, cond-true, cond-false, lt-leb, lt-ltb, le-ltb, and_left, eq-eqb, ne_eqb}
-use Rattle.std.proofs.lemmas.List.{length-append, length-take-le, drop-append-le, drop_all, get_or_append_left, get_or-append-add}
+use Rattle.std.proofs.lemmas.List.{length-append, length-take-le, drop-append-le, drop_all}
 use Rattle.mig_mem.specs.declared.place.Place.{Place}
 use Rattle.mig_mem.specs.RamTable.{RamTable, block}
 use Rattle.mig_mem.specs.Place.{IsPlace}
@@ -16,19 +16,12 @@ use Rattle.mig_mapped.specs.Block.{MappedBlock, ram_block, mapped_block, page_of
 use Rattle.mig_mapped.specs.Head.{MappedProgress, start, head_fault, bitmap_end, block_in, after_block, after_head}
 use Rattle.mig_mapped.specs.Reading.{rest_of}
 use Rattle.mig_mapped.specs.Load.{MappedLoading, IsLoading, IsAtHead, AreOwn, has_come, loaded_at, loaded, last_block, LoadsMore, cleared, IsNextOwn}
+use Rattle.mig_mapped.proofs.Blocks.{before_last, the_last}
 use Rattle.mig_mapped.proofs.Heads.{IsHead, head_good}
 use Rattle.mig_mapped.proofs.Longer.{SameHead, same_front, flipped, head_same, head_none, block_same, blocks_longer, blocks_push, after_push}
 use Rattle.mig_mapped.proofs.Loading.{same_come, same_at, own_page, earlier, at_last}
 
 -- ---- one block more
-
-pub before_last : (blocks : List MappedBlock) (b : MappedBlock) (i : ℕ) → i < length blocks → mapped_block (blocks ++ b ∷ []) i ≡ mapped_block blocks i
-before_last blocks b i lt = get_or_append_left blocks (b ∷ []) _ i lt
-
-pub the_last : (blocks : List MappedBlock) (b : MappedBlock) (i : ℕ) → i ≡ length blocks → mapped_block (blocks ++ b ∷ []) i ≡ b
-the_last blocks b i e =
-    let at : i ≡ length blocks + 0 = omega arith in
-    ap (λ (n : ℕ). mapped_block (blocks ++ b ∷ []) n) at ∙ get_or-append-add blocks (b ∷ []) 0 _
 
 -- the blocks so far, and the next one of the table
 own_more : (table : RamTable) (c : MappedProgress) (bytes : List ℕ) → AreOwn table c.blocks → IsNextOwn table c bytes

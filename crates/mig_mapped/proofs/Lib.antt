@@ -7,3 +7,9 @@ pub mod HeadTaken
 pub mod Clearing
 pub mod Steps
 pub mod Whole
+pub mod Blocks
+pub mod Offsets
+pub mod Bits
+pub mod Laid
+pub mod Marking
+pub mod Parts

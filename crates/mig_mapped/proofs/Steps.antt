@@ -9,7 +9,7 @@ use Rattle.mig_mapped.specs.Block.{MappedBlock, mapped_block, page_offset, end_o
 use Rattle.mig_mapped.specs.Head.{head_fault, bitmap_end, block_in, after_head}
 use Rattle.mig_mapped.specs.Load.{MappedLoading, IsLoading, IsAtHead, last_block, AreSkipped, IsDue}
 use Rattle.mig_mapped.proofs.Heads.{IsHead, head_good, all_bytes}
-use Rattle.mig_mapped.proofs.HeadTaken.{before_last, the_last}
+use Rattle.mig_mapped.proofs.Blocks.{before_last, the_last}
 
 -- bytes passed over
 pub skip_keeps : (s : MappedLoading) (n : ℕ) → IsLoading s → AreSkipped s n → IsLoading (record s { place = s.place + n })

@@ -3,7 +3,7 @@ use Rattle.std.proofs.Common.{ℕ, zero, suc, ◌≡◌, ◌+◌, ◌-◌, ◌*�
 use Rattle.std.proofs.Common.{refl, sym, ap, subst, ◌∙◌, inl, inr, append_assoc, append-nil, arith}
 use Rattle.std.specs.Str.{bytes_eq}
 use Rattle.std.proofs.lemmas.Bool.{ltb-false, cond_both, cases_eq}
-use Rattle.std.proofs.lemmas.List.{length-append, length-map, map-append, get_or-map}
+use Rattle.std.proofs.lemmas.List.{length-append, length-map, map-append}
 use Rattle.std.proofs.lemmas.List.Elements.{All-push}
 use Rattle.mig_mem.specs.RamTable.{Block, block, block_of, IsTable}
 use Rattle.mig_mem.proofs.Lists.{position_past, any_false}
@@ -23,6 +23,7 @@ use Rattle.mig_mapped.specs.Index.{IsIndex}
 use Rattle.mig_mapped.specs.Reading.{rest_of, AreBlocks, after_blocks, end_fault}
 use Rattle.mig_mapped.specs.Law.{FaultlessIsMemory}
 use Rattle.mig_mapped.proofs.Heads.{IsEntry, IsHead, none_of, head_good, all_bytes}
+use Rattle.mig_mapped.proofs.Blocks.{block_mapped}
 
 -- ---- the table
 
@@ -119,10 +120,6 @@ page_long given file b page lt within =
     cond_both (is_set given.order b.bitmap page) _ _ (λ (x : List ℕ). length x ≡ given.page_size)
     (λ _. length_slice file (page_offset given.page_size b page) given.page_size (omega arith))
     (λ _. length-zero_page given.page_size)
-
--- the RAM block with a number
-pub block_mapped : (blocks : List MappedBlock) (i : ℕ) → i < length blocks → block (map ram_block blocks) i ≡ ram_block (mapped_block blocks i)
-block_mapped blocks i lt = get_or-map ram_block blocks i _ _ lt
 
 -- A file without a fault ends after its last page.
 no_end_fault : (file : List ℕ) (c : MappedProgress) → end_fault file c ≡ None → c.place ≤ length file

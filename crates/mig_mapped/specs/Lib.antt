@@ -5,5 +5,6 @@ pub mod Head
 pub mod Reading
 pub mod Index
 pub mod Load
+pub mod Write
 pub mod Law
 pub mod FaultNumber

@@ -1,7 +1,7 @@
-//! The bitmap of a block, for `head` and `index`: the bit of a page, and the first page whose bit
-//! is set or isn't.
+//! The bitmap of a block, for `head`, `index` and `write`: the bit of a page, and the first page
+//! whose bit is set or isn't.
 
-ghost use Rattle.std.specs.Prelude.{◌≡◌, ◌+◌, ◌*◌, ◌≤◌, ◌<◌, ◌^◌};
+ghost use Rattle.std.specs.Prelude.{ℕ, ◌≡◌, ◌+◌, ◌*◌, ◌≤◌, ◌<◌, ◌^◌, ◌==◌, length, if◌then◌else◌};
 ghost use Rattle.mig_mapped.specs.Bitmap.{byte_of, is_set, bitmap_len, has_tail, IsFirstWith};
 
 use crate::WordOrder;
@@ -36,6 +36,20 @@ pub(crate) fn is_set(order: WordOrder, bitmap: &[u8], page: u64) -> bool
         Some(byte) => (*byte >> (page % 8)) & 1 == 1,
         None => false,
     }
+}
+
+/// Sets the bit of `page` if `bit` is true, and clears it otherwise.
+pub(crate) fn put_bit(order: WordOrder, bitmap: &mut [u8], page: u64, bit: bool)
+    requires { byte_of order page < length bitmap.old }
+    ensures len { length bitmap.new ≡ length bitmap.old }
+    ensures bits { (q : ℕ) → is_set order bitmap.new q ≡ (if q == page then bit else is_set order bitmap.old q) }
+{
+    let at = byte_of(order, page) as usize;
+    if bit {
+        bitmap[at] |= 1 << (page % 8);
+        return;
+    }
+    bitmap[at] &= !(1 << (page % 8));
 }
 
 /// Returns the first page from `from` on whose bit is `bit`, or `pages` if no page before it has

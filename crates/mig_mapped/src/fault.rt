@@ -4,6 +4,7 @@ ghost use Rattle.std.specs.Prelude.{◌≡◌};
 ghost use Rattle.mig_mapped.specs.FaultNumber.{fault_number};
 
 use mig_mem::NoMemory;
+use std::alloc::{AllocError, AllocFailed};
 use std::error::Error;
 use std::fmt::{self, Display, Formatter};
 
@@ -82,10 +83,10 @@ impl Display for MappedFault {
 
 impl Error for MappedFault {}
 
-/// Why a head wasn't taken.
+/// Why a head wasn't taken, or a writer wasn't created.
 #[derive(Clone, Copy, Debug, PartialEq, Eq)]
 pub enum MappedStop {
-    /// The head has this fault. With `Truncated` the bytes end inside it.
+    /// The head has this fault, or would have it. With `Truncated` the bytes end inside it.
     Fault(MappedFault),
     /// An allocation was refused.
     NoMemory,
@@ -97,6 +98,26 @@ impl From<NoMemory> for MappedStop {
     ghost from_gives = { λ _ e. e ≡ stop_no_memory };
 
     fn from(_: NoMemory) -> MappedStop {
+        MappedStop::NoMemory
+    }
+}
+
+impl From<AllocError> for MappedStop {
+    ghost use Rattle.mig_mapped.specs.declared.fault.MappedStop.TheVariants.{NoMemory as stop_no_memory};
+
+    ghost from_gives = { λ _ e. e ≡ stop_no_memory };
+
+    fn from(_: AllocError) -> MappedStop {
+        MappedStop::NoMemory
+    }
+}
+
+impl<T: Drop> From<AllocFailed<T>> for MappedStop {
+    ghost use Rattle.mig_mapped.specs.declared.fault.MappedStop.TheVariants.{NoMemory as stop_no_memory};
+
+    ghost from_gives = { λ _ e. e ≡ stop_no_memory };
+
+    fn from(_: AllocFailed<T>) -> MappedStop {
         MappedStop::NoMemory
     }
 }

@@ -23,10 +23,10 @@ use std::marker::Model;
 
 /// A block of the file.
 pub(crate) struct IndexedBlock<A: Allocator> {
-    id: Vec<u8, A>,
-    pages: u64,
-    bitmap: Vec<u8, A>,
-    pages_at: u64,
+    pub(crate) id: Vec<u8, A>,
+    pub(crate) pages: u64,
+    pub(crate) bitmap: Vec<u8, A>,
+    pub(crate) pages_at: u64,
 }
 
 // Written out, so that a caller's proof passes a call where a value is dropped.

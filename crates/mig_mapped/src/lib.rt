@@ -9,10 +9,12 @@
 //!
 //! - `Bitmap`, `Block`: what a bitmap says, and which memory blocks stand for.
 //! - `Head`, `Reading`: how any bytes are read, head by head, with every fault by name.
+//! - `Write`: where a writer puts the parts of each block, and what a file with them stands for.
 //!
-//! `MappedIndex` reads the heads of a file, keeps the bitmaps, and says where pages lie. The file
-//! is read from the first entry of the size list on. What comes before it and after the last
-//! block's pages is a stream, which `mig_stream` reads.
+//! `MappedIndex` reads the heads of a file, keeps the bitmaps, and says where pages lie.
+//! `MappedWriter` says what a caller writes at which offsets of a file, as QEMU lays it out. Both
+//! begin with the first entry of the size list. What comes before it and after the last block's
+//! pages is a stream, which `mig_stream` reads.
 #![tactic(auto)]
 
 mod bitmap;
@@ -23,9 +25,11 @@ mod index;
 mod laws;
 mod load;
 mod settings;
+mod write;
 
 pub use fault::{MappedFault, MappedLoadFault, MappedStop};
 pub use index::{MappedIndex, MappedRun};
 pub use laws::{faultless_file_is_a_memory, file_has_one_reading, loaded_is_the_memory};
 pub use load::{MappedLoad, MappedWanted};
 pub use settings::{MappedSettings, WordOrder};
+pub use write::MappedWriter;

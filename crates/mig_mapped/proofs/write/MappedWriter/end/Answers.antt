@@ -1,0 +1,9 @@
+use Rattle.std.proofs.Common.{subst}
+use Rattle.mig_mapped.specs.Write.{MappedWriting, PartsAreRead}
+use Rattle.mig_mapped.proofs.Parts.{parts_are_read}
+use Rattle.mig_mapped.proofs.write.MappedWriter.end.Goals as goal
+
+pub returns-clause-read : goal.returns-clause-read
+returns-clause-read g c =
+    let w : MappedWriting = record { given = c.self.inside.settings; place = c.self.inside.place; blocks = c.self.inside.blocks.items } in
+    subst PartsAreRead c.self.view_is (parts_are_read w c.self.invariant)
