@@ -14,7 +14,7 @@ TEXT = GUEST.read_bytes()
 
 
 def tree(folder):
-    return {it.name: it.read_bytes() for it in folder.iterdir()}
+    return {str(it.relative_to(folder)): it.read_bytes() for it in folder.rglob("*") if it.is_file()}
 
 
 @pytest.mark.parametrize("digest", [False, True])
@@ -52,7 +52,8 @@ def test_nothing_is_left_of_a_bad_stream(tmp_path):
         zimgasol.extract(GUEST.with_name("main.sav"), tmp_path / "here")
     assert not (tmp_path / "here").exists()
     zimgasol.extract(GUEST.with_name("main.sav"), tmp_path / "here", partial=True)
-    assert sorted(tree(tmp_path / "here")) == ["blocks.json", "pc.ram.bin"]
+    state = ["state/after.bin", "state/before.bin"]
+    assert sorted(tree(tmp_path / "here")) == ["blocks.json", "pc.ram.bin", *state]
 
 
 def test_files_are_replaced_only_if_asked(tmp_path):

@@ -6,9 +6,10 @@
         print(guest.blocks["pc.ram"][:16], guest.missing)
 
 `open` loads a saved guest, `verify` reports whether one is complete, `extract` writes its memory
-into files, and `save` writes memory as a stream. `Table`, `Load` and `Sender` are the library's
-calls for streams that come and go piece by piece. What the library for C does with any bytes is
-proved; what this package does around it is tested.
+and its machine's state into files, and `save` writes memory as a stream, with a state one that QEMU
+resumes. `Table`, `Load` and `Sender` are the library's calls for streams that come and go piece by
+piece. What the library for C does with any bytes is proved; what this package does around it is
+tested.
 """
 
 from ._library import LibraryError, library_version
@@ -25,6 +26,7 @@ from .extracting import extract
 from .load import BlockInfo, Frame, Load, RoundEnd, Standing, Table, Verdict
 from .reading import Blocks, Guest, Progress, Report, open, verify
 from .saving import Saved, Sender, save
+from .state import State
 
 __version__ = "0.3.0"
 
@@ -46,6 +48,7 @@ __all__ = [
     "Saved",
     "Sender",
     "Standing",
+    "State",
     "StreamError",
     "Table",
     "Verdict",

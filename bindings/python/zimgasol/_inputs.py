@@ -6,7 +6,7 @@ import io
 import os
 import select
 import stat
-from typing import Any, List, Optional, Sequence, Union
+from typing import Any, List, Optional, Sequence, Tuple, Union
 
 from .errors import FileFormatError
 
@@ -120,26 +120,38 @@ def wait_for(inputs: Sequence[Input]) -> List[Input]:
     return [it for it, number in zip(inputs, numbers) if number in ready]
 
 
-def skip_header(source: Input) -> int:
-    """Skips libvirt's header. Returns its length, 0 without one.
+def skip_header(source: Input, most_kept: int = 0) -> Tuple[int, bytes]:
+    """Skips libvirt's header. Returns its length, 0 without one, and its bytes if they are kept:
+    `most_kept` is then the most of them, and else 0.
 
-    Raises FileFormatError if the stream is compressed, or libvirt never completed it.
+    Raises FileFormatError if the stream is compressed, libvirt never completed it, or more bytes
+    would be kept.
     """
     source.fill_to(_HEADER_LEN)
-    text = source.first(_HEADER_LEN)
+    length = header_length(source.name, source.first(_HEADER_LEN))
+    if not most_kept:
+        source.skip(length)
+        return length, b""
+    if length > most_kept:
+        raise FileFormatError(f"{source.name}: libvirt's header has more than {most_kept} bytes")
+    source.fill_to(length)
+    kept = source.first(length)
+    source.skip(length)
+    return length, kept
+
+
+def header_length(name: str, text: bytes) -> int:
+    """Returns the length of libvirt's header, of which `text` is the beginning; 0 without one.
+
+    Raises FileFormatError as `skip_header` does.
+    """
     for magic, packer in _PACKERS.items():
         if text.startswith(magic):
-            raise FileFormatError(f"{source.name}: {packer} compressed it: decompress it first")
+            raise FileFormatError(f"{name}: {packer} compressed it: decompress it first")
     if text.startswith(_LIBVIRT_PART):
-        raise FileFormatError(f"{source.name}: libvirt never completed this save")
+        raise FileFormatError(f"{name}: libvirt never completed this save")
     if not text.startswith(_LIBVIRT):
         return 0
-    length = _header_length(source.name, text)
-    source.skip(length)
-    return length
-
-
-def _header_length(name: str, text: bytes) -> int:
     if len(text) < _HEADER_LEN:
         raise FileFormatError(f"{name}: libvirt's header is cut")
     order = "little" if text[16:20] == b"\2\0\0\0" else "big"

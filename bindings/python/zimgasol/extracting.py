@@ -2,6 +2,7 @@
 
 from __future__ import annotations
 
+import contextlib
 import errno
 import hashlib
 import json
@@ -12,9 +13,11 @@ from typing import IO, Any, Dict, List, Optional, Sequence, Union
 
 from ._inputs import Given
 from ._memory import Memory
-from .load import BlockInfo, Frame, Table
+from .load import Frame, Table
 from .reading import MOST_BYTES, Progress, Report, _frame, _Options, _reader, _Reader, raise_for
+from .state import AFTER, BEFORE, FOLDER, LIBVIRT
 
+_STATE = [f"{FOLDER}/{it}" for it in (LIBVIRT, BEFORE, AFTER)]
 _MOST_NAME = 200
 _KEPT = b"-_@"
 
@@ -41,13 +44,17 @@ class _Folder:
         self._is_made = False
         self._names: List[str] = []
         self._files: List[IO[bytes]] = []
+        self._has_old_state = False
+        self._makes_state_folder = False
+        self._state: Dict[str, IO[bytes]] = {}
 
     def create(self, table: Table) -> Memory:
         """Creates a sparse file for each block, and maps it. Raises FileExistsError."""
         self._is_made = not self.path.exists()
         self.path.mkdir(exist_ok=True)
         names = [file_name(it.id, i) for i, it in enumerate(table.blocks)]
-        for name in (*names, "blocks.json"):
+        self._has_old_state = (self.path / FOLDER).is_dir()
+        for name in (*names, "blocks.json", *_STATE):
             if not self._replace and os.path.lexists(self.path / name):
                 raise FileExistsError(errno.EEXIST, "is there already", str(self.path / name))
         for name in names:
@@ -55,11 +62,37 @@ class _Folder:
             self._files.append(self._partial(name).open("w+b"))
         return Memory(table, self._files)
 
+    def create_state(self, libvirt: bytes, front: bytes) -> IO[bytes]:
+        """Creates the files of the state, and writes what is before RAM's records. Returns the file
+        of what is after RAM. Without bytes of libvirt's there is no file of it.
+        """
+        self._makes_state_folder = not self._has_old_state
+        (self.path / FOLDER).mkdir(exist_ok=True)
+        for name, text in ((LIBVIRT, libvirt), (BEFORE, front), (AFTER, b"")):
+            if name != LIBVIRT or text:
+                file = self._partial(f"{FOLDER}/{name}").open("wb")
+                self._state[f"{FOLDER}/{name}"] = file
+                file.write(text)
+        return self._state[f"{FOLDER}/{AFTER}"]
+
     def _partial(self, name: str) -> Path:
         return self.path / f"{name}.partial"
 
-    def finish(self, page_size: int, blocks: Sequence[BlockInfo], digest: bool) -> None:
+    def _finish_state(self) -> None:
+        """Gives the files of the state their names. An old state isn't that of the new memory."""
+        for name in _STATE:
+            if name in self._state:
+                os.replace(self._partial(name), self.path / name)
+            elif self._has_old_state:
+                (self.path / name).unlink(missing_ok=True)
+        if self._has_old_state and not self._state:
+            with contextlib.suppress(OSError):
+                (self.path / FOLDER).rmdir()
+        self._state.clear()
+
+    def finish(self, report: Report, digest: bool) -> None:
         """Syncs the files to their disk, and gives them their names, `blocks.json` last."""
+        page_size, blocks = report.page_size, report.blocks
         listed: List[Dict[str, Any]] = []
         for name, file, block in zip(self._names, self._files, blocks):
             os.fsync(file.fileno())
@@ -67,12 +100,19 @@ class _Folder:
             if digest:
                 one["sha256"] = _sha256(file)
             listed.append(one)
+        for file in self._state.values():
+            file.flush()
+            os.fsync(file.fileno())
+            file.close()
         self._names.append("blocks.json")
         with self._partial("blocks.json").open("w", encoding="ascii") as out:
-            text = {"blocks": listed, "page_size": page_size}
+            text: Dict[str, Any] = {"blocks": listed, "page_size": page_size}
+            if self._state:
+                text["state"] = report.tail
             out.write(json.dumps(text, indent=2, sort_keys=True) + "\n")
             out.flush()
             os.fsync(out.fileno())
+        self._finish_state()
         for name in self._names:
             os.replace(self._partial(name), self.path / name)
         self._names.clear()
@@ -81,6 +121,12 @@ class _Folder:
         """Closes the files, and removes those that have no name of their own yet."""
         for file in self._files:
             file.close()
+        for name, file in self._state.items():
+            file.close()
+            self._partial(name).unlink(missing_ok=True)
+        if self._state and self._makes_state_folder:
+            with contextlib.suppress(OSError):
+                (self.path / FOLDER).rmdir()
         for name in self._names:
             self._partial(name).unlink(missing_ok=True)
         if self._is_made and not any(self.path.iterdir()):
@@ -114,10 +160,15 @@ def extract(
     partial: bool = False,
     replace: bool = False,
     digest: bool = False,
+    state: bool = True,
     progress: Optional[Progress] = None,
 ) -> Report:
     """Writes the memory of a saved guest into `folder`: a sparse file for each block, and
     `blocks.json`, as `zimgasol extract` does. Files get their names once the stream is complete.
+
+    With `state` the folder `state` gets the state of a machine beside its RAM, from which
+    `save(.., state=folder)` makes a stream that QEMU resumes. With `frame="ram"` there is none.
+    Without it an old state in the folder is in the way as a file is, and `replace` removes it.
 
     What follows RAM is checked and reported, but doesn't make the memory incomplete. The folder's
     disk needs room for the memory, or for the inputs' bytes if they are fewer: the files are
@@ -126,7 +177,9 @@ def extract(
     Raises StreamError, IncompleteError, FileFormatError, FileExistsError without `replace`, or
     OSError if there isn't room. No file is left then.
     """
-    options = _Options(page_size, _frame(frame), uuid, limit, partial, False, False, progress)
+    options = _Options(
+        page_size, _frame(frame), uuid, limit, partial, False, False, progress, state
+    )
     reader, files = _reader(path, channels, options), _Folder(folder, replace)
     try:
         return _extract(reader, files, digest)
@@ -141,6 +194,8 @@ def _extract(reader: _Reader, files: _Folder, digest: bool) -> Report:
     memory = files.create(table)
     try:
         _test_room(files.path, reader, table)
+        if reader.options.keeps_state:
+            reader.after = files.create_state(reader.libvirt, reader.front)
         reader.load_into(memory.maps)
         report = reader.report()
         if report.fault is not None or (report.missing and not report.partial):
@@ -150,5 +205,5 @@ def _extract(reader: _Reader, files: _Folder, digest: bool) -> Report:
     finally:
         reader.close()
         memory.close()
-    files.finish(table.page_size, table.blocks, digest)
+    files.finish(report, digest)
     return report

@@ -2,11 +2,12 @@
 
 from __future__ import annotations
 
+import io
 import os
 import time
 from collections.abc import Iterator, Mapping
 from dataclasses import asdict, dataclass
-from typing import Any, Callable, Dict, List, Optional, Sequence, Tuple, Union
+from typing import IO, Any, Callable, Dict, List, Optional, Sequence, Tuple, Union
 
 from . import _library as lib
 from ._inputs import PIECE, Given, Input, skip_header, wait_for
@@ -14,6 +15,7 @@ from ._memory import Memory
 from ._tail import WHOLE, Tail
 from .errors import Error, Fault, FileFormatError, IncompleteError, StreamError, fault_of
 from .load import BlockInfo, Frame, Load, Table, Verdict
+from .state import MOST_BEFORE, State, list_end
 
 #: Is called with the bytes that were read, and with those of all inputs if that is known. An
 #: exception that it raises ends the work.
@@ -84,6 +86,12 @@ class _Options:
     ram_only: bool
     whole_rounds: bool
     progress: Optional[Progress]
+    state: bool = False
+
+    @property
+    def keeps_state(self) -> bool:
+        """Whether the state is kept: that of a machine's stream, which is read to its end."""
+        return self.state and self.frame is Frame.MACHINE and not self.ram_only
 
 
 class _Reader:
@@ -94,6 +102,10 @@ class _Reader:
         self.main = inputs[0]
         self.started = time.monotonic()
         self.before = 0
+        #: libvirt's header, and the stream up to the end of the size list, if the state is kept.
+        self.libvirt, self.front = b"", b""
+        #: Where the bytes after RAM are written, if it is set.
+        self.after: Optional[IO[bytes]] = None
         self.table: Optional[Table] = None
         self.load: Optional[Load] = None
         self.tail = Tail() if options.frame is Frame.MACHINE and not options.ram_only else None
@@ -102,9 +114,10 @@ class _Reader:
 
     def find_table(self) -> Table:
         """Reads up to the end of the size list. Raises StreamError of a fault before it."""
-        if len(self.inputs) == 1:
-            self.before = skip_header(self.main)
         options, more = self.options, 4096
+        if len(self.inputs) == 1:
+            most = MOST_BEFORE if options.keeps_state else 0
+            self.before, self.libvirt = skip_header(self.main, most)
         while self.table is None:
             self.main.fill_to(more)
             text = self.main.first(more)
@@ -115,7 +128,20 @@ class _Reader:
             more *= 2
         if self.table.total > options.limit:
             raise StreamError(fault_of(lib.RawFault(number=lib.TOTAL), None))
+        if options.keeps_state:
+            self.front = self._front()
         return self.table
+
+    def _front(self) -> bytes:
+        """Returns the stream up to the end of the size list, once an item after it is kept."""
+        more = 4096
+        while True:
+            self.main.fill_to(more)
+            text = self.main.first(more)
+            end = list_end(text, self.options.page_size)
+            if len(text) < more or (end is not None and end + 8 <= more):
+                return text[:end]
+            more *= 2
 
     def load_into(self, blocks: Sequence[Any]) -> None:
         """Loads all that the inputs have into blocks of zeros."""
@@ -163,7 +189,13 @@ class _Reader:
         if closed_at is not None:
             more = min(taken, self.load.fed(0) - closed_at)
             end = self.main.start + taken
-            self.tail.take(bytes(self.main.kept[end - more : end]))
+            self._take_after(bytes(self.main.kept[end - more : end]))
+
+    def _take_after(self, piece: bytes) -> None:
+        assert self.tail is not None
+        self.tail.take(piece)
+        if self.after is not None:
+            self.after.write(piece)
 
     def _read_some(self) -> None:
         assert self.load is not None
@@ -182,7 +214,7 @@ class _Reader:
     def _read_tail(self) -> None:
         assert self.tail is not None
         while True:
-            self.tail.take(self.main.first(PIECE * 2))
+            self._take_after(self.main.first(self.main.waiting))
             self.main.start = self.main.end
             if not self.main.fill():
                 break
@@ -275,8 +307,10 @@ class Blocks(Mapping[str, memoryview]):
 class Guest:
     """A guest whose memory was loaded. `close`, or the end of a `with`, gives the memory back."""
 
-    def __init__(self, report: Report, memory: Memory) -> None:
+    def __init__(self, report: Report, memory: Memory, state: Optional[State] = None) -> None:
         self.report = report
+        #: The machine's state beside RAM, if it was asked for.
+        self.state = state
         self._memory = memory
         ids = [it.id for it in report.blocks]
         #: The memory of each block, by its id.
@@ -349,6 +383,7 @@ def open(
     partial: bool = False,
     ram_only: bool = False,
     check: bool = True,
+    state: bool = False,
     folder: Union[str, os.PathLike[str], None] = None,
     progress: Optional[Progress] = None,
 ) -> Guest:
@@ -361,18 +396,23 @@ def open(
     Raises StreamError, IncompleteError or FileFormatError if the guest isn't complete. With
     `check=False` it returns the guest as far as it was read, by whole sections or rounds; a fault
     before the first page is raised all the same. `partial` takes pages without a record, and
-    `ram_only` leaves what follows RAM unread.
+    `ram_only` leaves what follows RAM unread. With `state` the guest has its machine's state, in
+    memory; with `frame="ram"` there is none.
     """
+    if state and ram_only:
+        raise ValueError("`ram_only` leaves the state unread")
     options = _Options(
-        page_size, _frame(frame), uuid, limit, partial, ram_only, not check, progress
+        page_size, _frame(frame), uuid, limit, partial, ram_only, not check, progress, state
     )
-    reader = _reader(path, channels, options)
+    reader, after = _reader(path, channels, options), io.BytesIO()
+    reader.after = after if options.keeps_state else None
     try:
         memory = _load(reader, folder)
         report = reader.report()
     finally:
         reader.close()
-    guest = Guest(report, memory)
+    kept = State(reader.front, after.getvalue(), reader.libvirt) if options.keeps_state else None
+    guest = Guest(report, memory, kept)
     if check and not report.complete:
         guest.close()
         raise_for(report)

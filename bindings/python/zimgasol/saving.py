@@ -4,15 +4,19 @@ from __future__ import annotations
 
 import ctypes
 import io
+import json
+import mmap
 import os
 from collections.abc import Mapping
 from dataclasses import dataclass
-from typing import Any, List, Optional, Sequence, Tuple, Union
+from pathlib import Path
+from typing import Any, Dict, List, Optional, Sequence, Tuple, Union
 
 from . import _library as lib
-from .errors import done
+from .errors import FileFormatError, done
 from .load import Table
 from .reading import Progress
+from .state import State, set_section_id, start_end
 
 #: A path, a descriptor, or an object with `write`.
 Target = Union[str, "os.PathLike[str]", int, Any]
@@ -212,6 +216,14 @@ class _Saving:
         self.done += size
         return lib.address(self.copy) + start
 
+    def drain_section(self, sender: Sender, output: _Output, number: int) -> None:
+        """Writes the section that waits of one stream, with this number as its id."""
+        section = bytearray()
+        while count := sender.drain(0, self.room):
+            section += self.out[:count]
+        set_section_id(section, number)
+        output.write(memoryview(section))
+
     def drain(self, of: Union[Sender, Worker], source: int, output: _Output) -> None:
         """Writes what waits of a source."""
         while True:
@@ -221,7 +233,14 @@ class _Saving:
             output.write(self.out[:count])
 
 
-def _single(saving: _Saving, sender: Sender, main: _Output, progress: Optional[Progress]) -> None:
+def _single(
+    saving: _Saving,
+    sender: Sender,
+    main: _Output,
+    progress: Optional[Progress],
+    number: Optional[int] = None,
+) -> None:
+    """Sends all pages as sections of one stream, with this number as their id if there is one."""
     for block, pages in enumerate(saving.pages):
         for first in range(0, pages, _ROUND):
             count = min(_ROUND, pages - first)
@@ -229,7 +248,10 @@ def _single(saving: _Saving, sender: Sender, main: _Output, progress: Optional[P
             sender.begin_round()
             sender.put_pages(block, first, count, at, saving.page_size)
             sender.end_round()
-            saving.drain(sender, 0, main)
+            if number is None:
+                saving.drain(sender, 0, main)
+            else:
+                saving.drain_section(sender, main, number)
             if progress is not None:
                 progress(saving.done, saving.table.total)
 
@@ -283,14 +305,66 @@ def _paths(target: Target, channels: int) -> List[Target]:
     return [f"{os.fspath(target)}.{i}" for i in range(channels)]
 
 
+class _FolderMemory:
+    """The files of a folder that `extract` made."""
+
+    def __init__(self, folder: Union[str, "os.PathLike[str]"], page_size: int) -> None:
+        self._path = Path(folder)
+        with (self._path / "blocks.json").open(encoding="utf-8") as file:
+            listed = json.load(file)
+        if not isinstance(listed.get("state"), str):
+            raise FileFormatError(f"{self._path / 'blocks.json'} lists no state")
+        if listed["page_size"] != page_size:
+            raise ValueError(f"{self._path} has pages of {listed['page_size']} bytes")
+        self._files = {it["id"]: it["file"] for it in listed["blocks"]}
+
+    def memory(self, block: str) -> Any:
+        """Maps the file of a block. Raises ValueError if there is none."""
+        if block not in self._files:
+            raise ValueError(f"{self._path} has no memory of block {block!r}")
+        with (self._path / self._files[block]).open("rb") as file:
+            return mmap.mmap(file.fileno(), 0, access=mmap.ACCESS_READ)
+
+
+@dataclass(frozen=True)
+class _Around:
+    """The state that is written around RAM's sections, and the id that these have."""
+
+    state: State
+    number: int
+
+
+def _blocks_of(
+    given: Union[State, str, "os.PathLike[str]"], blocks: Mapping[str, Any], page_size: int
+) -> Tuple[Dict[str, Any], _Around]:
+    """Returns the memory of a machine's blocks, in the machine's order, and its state."""
+    folder = None if isinstance(given, State) else _FolderMemory(given, page_size)
+    state = given if isinstance(given, State) else State.read(given)
+    table, number = state.check(page_size)
+    wanted = {it.id: it.pages * page_size for it in table.blocks}
+    table.close()
+    for name in blocks:
+        if name not in wanted:
+            raise ValueError(f"the machine has no block {name!r}")
+    found: Dict[str, Any] = {}
+    for name, length in wanted.items():
+        if name not in blocks and folder is None:
+            raise ValueError(f"the memory of block {name!r} isn't given")
+        found[name] = blocks[name] if name in blocks else folder.memory(name)  # type: ignore
+        if memoryview(found[name]).nbytes != length:
+            raise ValueError(f"block {name!r} has {length} bytes in the machine")
+    return found, _Around(state, number)
+
+
 def save(
     target: Target,
-    blocks: Mapping[str, Any],
+    blocks: Optional[Mapping[str, Any]] = None,
     *,
     channels: Union[int, Sequence[Target]] = 0,
     page_size: int = 4096,
     machine: Optional[str] = None,
     uuid: bytes = bytes(16),
+    state: Union[State, str, "os.PathLike[str]", None] = None,
     replace: bool = False,
     progress: Optional[Progress] = None,
 ) -> Saved:
@@ -302,17 +376,33 @@ def save(
     machine, without which the stream has no configuration: read it with either frame. Nobody may
     write to the blocks meanwhile.
 
-    Raises ValueError or CallError of blocks that a stream can't have, FileExistsError without
-    `replace`, and what an output raises. No file is left then.
+    `state` is a folder that `extract` made, or the `state` of a guest that was opened with it. The
+    stream is then a machine's, which QEMU resumes: the bytes before and after RAM are those of the
+    state, and the blocks are the machine's. With a folder, memory that `blocks` doesn't have is the
+    folder's. It is for one stream, and its machine has a name already.
+
+    Raises ValueError or CallError of blocks that a stream can't have, FileFormatError of a state
+    that isn't complete, FileExistsError without `replace`, and what an output raises. No file is
+    left then.
     """
     if isinstance(channels, int):
         channels = _paths(target, channels)
+    around: Optional[_Around] = None
+    if state is not None:
+        if channels or machine is not None:
+            raise ValueError("`state` goes with neither `channels` nor `machine`")
+        blocks, around = _blocks_of(state, blocks or {}, page_size)
+    elif blocks is None:
+        raise ValueError("without `state` there have to be blocks")
     saving = _Saving(blocks, page_size)
     outputs: List[_Output] = []
     try:
         for it in (target, *channels):
             outputs.append(_Output(it, replace))
-        _send(saving, outputs, uuid, machine, progress)
+        if around is None:
+            _send(saving, outputs, uuid, machine, progress)
+        else:
+            _send_around(saving, outputs[0], around, progress)
         for output in outputs:
             output.sync()
         for output in reversed(outputs):
@@ -347,3 +437,23 @@ def _send(
             saving.drain(sender, source, output)
     finally:
         sender.close()
+
+
+def _send_around(
+    saving: _Saving, output: _Output, around: _Around, progress: Optional[Progress]
+) -> None:
+    """Writes one stream of a machine, with its state around RAM's sections."""
+    state, number = around.state, around.number
+    # (its START isn't written: the machine's own is among the bytes before the records)
+    sender = Sender(saving.table, machine="")
+    try:
+        while sender.drain(0, saving.room):
+            pass
+        for text in (state.libvirt, state.before, start_end(number)):
+            output.write(memoryview(text))
+        _single(saving, sender, output, progress, number)
+        sender.finish(left_open=True)
+        saving.drain_section(sender, output, number)
+    finally:
+        sender.close()
+    output.write(memoryview(state.after))
