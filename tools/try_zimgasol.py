@@ -33,6 +33,8 @@ WHOLE = ("guest.sav: complete: sections 3, blocks 1, memory 131072 bytes, RAM en
 PIPED = WHOLE.replace("guest.sav", "-")
 CUT = ("byte 40000 (section 2, PART, block \"ram\"): fault 34: the stream ends early; "
        "the file was cut, or the save didn't come to its end\n")
+# erases a terminal's line from the cursor on: the only control characters that a row may want
+ERASE = "\x1b[K"
 BAD_NUMBER = "Bad file descriptor (os error 9)\n"
 FULL = "No space left on device (os error 28)\n"
 BROKEN = "zimgasol: the output: Broken pipe (os error 32)\n"
@@ -275,6 +277,12 @@ def lay_out(room):
         (room / name).mkdir()
 
 
+def without_erasing(wanted, said):
+    """What a program printed, but for the control sequence that erases a line, if a pattern has it."""
+    names_it = isinstance(wanted, re.Pattern) and re.escape(ERASE) in wanted.pattern.replace(r"\x1b", "\x1b")
+    return said.replace(ERASE, "") if names_it else said
+
+
 class Tries:
     """A folder with the program as `zimgasol`, and how many rows held."""
 
@@ -294,7 +302,7 @@ class Tries:
     def row(self, what, command, wanted, status):
         said, came = self.ran(command)
         holds = wanted.fullmatch(said) if isinstance(wanted, re.Pattern) else said == wanted
-        unprintable = [it for it in said if it != "\n" and not " " <= it <= "~"]
+        unprintable = [it for it in without_erasing(wanted, said) if it != "\n" and not " " <= it <= "~"]
         if holds and came == status and not unprintable:
             self.held += 1
             return

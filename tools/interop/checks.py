@@ -2,6 +2,7 @@
 
 Each takes a `Bench`, and returns the text on what was compared, or raises `Differs`.
 """
+import re
 from dataclasses import dataclass
 from pathlib import Path
 
@@ -12,6 +13,8 @@ from ours import (Differs, Programs, block_words, compare, extracted, fault_of,
 
 # The rounds after which a guest that writes is stopped.
 ROUNDS = 6
+# What is said of a machine that leaves out its shared memory.
+SHARED_OUT = "left out shared memory (`x-ignore-shared`)"
 # A stream without a configuration is refused unless the receiver runs with this.
 NO_CONFIGURATION = ("-global", "migration.send-configuration=off")
 
@@ -99,6 +102,26 @@ def refuse_single(bench, kind, fault, capabilities=(), **parameters):
     """QEMU writes a file that has what can't be read, and `zimgasol` says so."""
     stream, _ = write_file(bench, kind, capabilities, **parameters)
     return refused(bench, stream, fault)
+
+
+def leave_shared_out(bench, kind):
+    """QEMU writes a file without its shared RAM, which `zimgasol` says, and takes with `--partial`.
+
+    The file has all other blocks. `save --state` doesn't write such a machine again.
+    """
+    zimgasol, count = bench.programs.zimgasol, kind.mib * MIB // PAGE
+    stream, wanted = write_file(bench, kind, ("x-ignore-shared",))
+    said = ran(zimgasol, "verify", stream, status=1)
+    lacking = re.findall(r'INCOMPLETE: (\d+) of (\d+) pages of block "([^"]*)" have no record', said)
+    if lacking != [(str(count), str(count), "ram")] or SHARED_OUT not in said or "fault" in said:
+        raise Differs(f"{said}; expected all {count} pages of block ram to lack, and no other")
+    folder = bench.file("memory")
+    came = extracted(zimgasol, stream, folder, "--partial")
+    refused_state = ran(zimgasol, "save", "--state", folder, "--replace", bench.file("again.sav"), status=1)
+    if SHARED_OUT not in refused_state:
+        raise Differs(f"save --state: {refused_state}")
+    said = compare({**wanted, "ram": bytes(len(wanted["ram"]))}, came)
+    return f"INCOMPLETE: ram is left out; {said}"
 
 
 def refuse_xbzrle(bench, kind, fault):

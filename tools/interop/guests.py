@@ -59,6 +59,18 @@ OLD = (
     Kind("pc of 8.0, running", ("-M", "pc-i440fx-8.0"), 8, running=True, writes=True),
     Kind("q35 of 6.2", ("-M", "pc-q35-6.2"), 8),
 )
+# machine types of older QEMUs, each with their version, whose files are read
+OLD_FILES = (
+    ((6, 2), Kind("pc of 6.2", ("-M", "pc-i440fx-6.2"), 8)),
+    ((6, 2), Kind("q35 of 6.2, running", ("-M", "pc-q35-6.2"), 8, running=True, writes=True)),
+    ((8, 0), Kind("pc of 8.0, running", ("-M", "pc-i440fx-8.0"), 8, running=True, writes=True)),
+    ((8, 0), Kind("q35 of 8.0", ("-M", "pc-q35-8.0"), 8)),
+)
+
+
+def old_files(number):
+    """The guests of older machine types that a QEMU of this version has."""
+    return [kind for since, kind in OLD_FILES if since <= number]
 
 
 def uuid_of(kind):

@@ -23,9 +23,9 @@ import channels
 import packages
 import qemu
 import states
-from checks import (NO_CONFIGURATION, Bench, chain, load_saved, read_between, read_single,
-                    refuse_single, refuse_xbzrle)
-from guests import KINDS, NONE, OLD, PC, PC_UUID, PC_WRITING, Q35, SMALL
+from checks import (NO_CONFIGURATION, Bench, chain, leave_shared_out, load_saved, read_between,
+                    read_single, refuse_single, refuse_xbzrle)
+from guests import KINDS, NONE, OLD, PC, PC_UUID, PC_WRITING, Q35, SMALL, old_files
 from ours import Differs, Programs
 
 CHANNELS = (1, 2, 4)
@@ -82,7 +82,7 @@ class Table:
 
 def read_files(table, bench, version):
     """QEMU's files, which `zimgasol` extracts."""
-    for kind in KINDS:
+    for kind in (*KINDS, *old_files(qemu.number(version))):
         row = Row(version, "QEMU, extract", kind.name, "default words")
         table.try_(row, lambda: read_single(bench, kind))
     table.try_(Row(version, "QEMU, extract", PC_UUID.name, "validate-uuid"),
@@ -96,10 +96,14 @@ def read_files(table, bench, version):
 
 
 def refuse_files(table, bench, version):
-    """QEMU's files of other layouts, which `zimgasol` refuses with the faults of QEMU.md."""
-    for how in ("x-ignore-shared", *(("mapped-ram",) if qemu.number(version) >= (9, 0) else ())):
-        row = Row(version, "QEMU, verify", PC.name, how)
-        table.try_(row, lambda: refuse_single(bench, PC, 47, (how,)))
+    """QEMU's files that lack memory, and those of other layouts, which `zimgasol` refuses with the
+    faults of QEMU.md.
+    """
+    row = Row(version, "QEMU, verify, extract --partial", PC.name, "x-ignore-shared")
+    table.try_(row, lambda: leave_shared_out(bench, PC))
+    if qemu.number(version) >= (9, 0):
+        row = Row(version, "QEMU, verify", PC.name, "mapped-ram")
+        table.try_(row, lambda: refuse_single(bench, PC, 47, ("mapped-ram",)))
     if qemu.number(version) >= (8, 1):
         # (7.2 leaves out the pages that come in this form; see compare_written)
         row = Row(version, "QEMU, verify", PC_WRITING.name, "xbzrle")
@@ -158,7 +162,7 @@ def run_chains(table, bench, version, programs):
 def restore_machines(table, bench, version):
     """QEMU's files, which `zimgasol` extracts and saves with their state, and which QEMU resumes."""
     way = "QEMU, extract, save --state, QEMU"
-    for kind in (PC, PC_WRITING, Q35):
+    for kind in (PC, PC_WRITING, Q35, *old_files(qemu.number(version))):
         table.try_(Row(version, way, kind.name, "a file"), lambda: states.restore(bench, kind))
     row = Row(version, way, PC_WRITING.name, "after libvirt's header, made by hand")
     table.try_(row, lambda: states.restore_libvirt(bench, PC_WRITING))

@@ -124,6 +124,8 @@ def programs(suites, say):
     found = [it for it in (shutil.which(NAME),) if it]
     for suite in suites:
         try:
+            if not (PLACE / suite / NAME).exists():
+                say(f"apt downloads QEMU of {suite}, some 40 MB")
             found.append(fetched(suite))
         except (NoPackages, OSError) as error:
             say(f"no QEMU of {suite}: {error}")

@@ -15,7 +15,7 @@ import threading
 import time
 from pathlib import Path
 
-SECONDS = 60
+SECONDS = 180
 HELLO = bytes.fromhex("11223344")
 
 
