@@ -19,18 +19,24 @@ files have the same bytes. The release is marked as unproved where the records d
                by gcc and pkg-config that apt-get brings; then all is removed
 
 What isn't installed on this machine is said to be skipped, with the package that has it. The system
-needs root and Debian's archive. With --site the HTML is taken from FOLDER.
+needs root and Debian's archive. With --site the HTML is taken from FOLDER. Each step is printed as
+it starts, with its limit in seconds. If it takes longer, what it started is killed, and the status
+is 1.
 """
 import argparse
+import contextlib
 import hashlib
 import json
+import math
 import os
 import re
 import shlex
 import shutil
+import signal
 import subprocess
 import sys
 import tempfile
+import time
 from pathlib import Path
 
 TOP = Path(__file__).resolve().parent.parent
@@ -40,11 +46,15 @@ from dist import BUILT, NEEDED, VERSION  # noqa: E402
 ARCHIVE = "http://deb.debian.org/debian"
 TESTS = TOP / "examples/c/tests"
 PROVED_ARCHIVE = TOP / "crates/mig_c/out/libmig_c.a"
-SECONDS = 3600
+# how long a step may take
+SECONDS = 1800
+SYSTEM_SECONDS = 3600
 # a system without the kit: no variable of the caller, and the system's folders alone
 PLAIN = {"PATH": "/usr/bin:/bin:/usr/sbin:/sbin", "LC_ALL": "C.UTF-8", "HOME": "/nonexistent"}
 # how the two releases are made: the folder of the clone, and what is different there
 MADE = (("one", 0o022, {"LC_ALL": "C.UTF-8", "TZ": "UTC"}), ("a/deeper/two", 0o077, {"LC_ALL": "C", "TZ": "Asia/Tokyo"}))
+# asks nothing, and gives up on a mirror that doesn't answer
+APT = ("env", "DEBIAN_FRONTEND=noninteractive", "apt-get", "-qq", "-o", "Acquire::Retries=3", "-o", "Acquire::http::Timeout=60")
 PROJECT = """cmake_minimum_required(VERSION 3.10)
 project(installed C)
 find_package(zimgasol REQUIRED CONFIG)
@@ -63,27 +73,62 @@ records.write("gate", {**records.now("gate"), "last": "1 passed, 0 failed", "ane
 """
 UNKNOWN = WITH_DIST + "print(*dist.unknown(), sep='\\n')"
 COMMIT = ("git", "-c", "user.name=x", "-c", "user.email=x@x", "commit", "-q", "--allow-empty", "-m", "x")
+# licences of SPDX's list 3.23, which bookworm's python3-license-expression doesn't have
+NEWER = {"Unicode-3.0"}
 # prints what is wrong with licences of SPDX, by Debian's python3-license-expression
 EXPRESSIONS = """import sys, license_expression
 known = license_expression.get_spdx_licensing()
 print(*(it for word in sys.argv[1:] for it in known.validate(word).errors))
 """
 SKIPPED = []
+STARTED = time.monotonic()
+
+
+class Step:
+    """The step that runs: its name, and when it has to have ended."""
+
+    name, end = "", math.inf
+
+
+def step(name, seconds=SECONDS):
+    """Begins a step, which is printed."""
+    Step.name, Step.end = name, time.monotonic() + seconds
+    print(f"[{time.monotonic() - STARTED:5.0f} s] {name}, at most {seconds} s", flush=True)
+
+
+def ended(process):
+    """Waits for a process until the end of the step. After that kills it with all that it started."""
+    try:
+        return process.wait(max(0, min(Step.end - time.monotonic(), SYSTEM_SECONDS)))
+    except subprocess.TimeoutExpired:
+        return None
+    finally:
+        if process.returncode is None:
+            with contextlib.suppress(ProcessLookupError):
+                os.killpg(process.pid, signal.SIGKILL)
+            process.wait()
 
 
 def run(*words, status=0, folder=None, umask=-1, **environment):
     """Runs a command, which ends with this status, and returns what it prints."""
     words = [str(it) for it in words]
-    done = subprocess.run(words, cwd=folder, env=environment or PLAIN, umask=umask, stdin=subprocess.DEVNULL, timeout=SECONDS,
-                          stdout=subprocess.PIPE, stderr=subprocess.STDOUT, text=True, errors="replace")
-    if done.returncode != status:
-        sys.exit(f"{shlex.join(words)}: status {done.returncode}, not {status}\n{done.stdout[-4000:]}")
-    return done.stdout
+    # (a file and no pipe: nothing waits for what a command leaves running)
+    with tempfile.TemporaryFile() as output:
+        process = subprocess.Popen(words, cwd=folder, env=environment or PLAIN, umask=umask, stdin=subprocess.DEVNULL,
+                                   stdout=output, stderr=subprocess.STDOUT, start_new_session=True)
+        came = ended(process)
+        output.seek(0)
+        said = output.read().decode(errors="replace")
+    if came is None:
+        sys.exit(f"{Step.name}: {shlex.join(words)}: no end, so it was killed\n{said[-4000:]}")
+    if came != status:
+        sys.exit(f"{Step.name}: {shlex.join(words)}: status {came}, not {status}\n{said[-4000:]}")
+    return said
 
 
 def compare(what, found, expected):
     if found != expected:
-        sys.exit(f"{what}: {found!r} and not {expected!r}")
+        sys.exit(f"{Step.name}: {what}: {found!r} and not {expected!r}")
 
 
 def has(part, **packages):
@@ -122,7 +167,10 @@ def make_one(room, folder, umask, site, changed):
 
 def in_two_folders(room, site):
     """Makes the release twice, and compares all files."""
-    made = [make_one(room, folder, umask, site, changed) for folder, umask, changed in MADE]
+    made = []
+    for number, (folder, umask, changed) in enumerate(MADE, 1):
+        step(f"release {number} of {len(MADE)}")
+        made.append(make_one(room, folder, umask, site, changed))
     one, two = map(below, made)
     differ = sorted(name for name in {*one, *two} if one.get(name) != two.get(name))
     compare("files that differ between two releases of one commit", differ, [])
@@ -180,7 +228,8 @@ def files(out, tree):
     if subprocess.run([*by_debian, "import license_expression"], capture_output=True).returncode:
         SKIPPED.append("licences: no license_expression (apt-get install python3-license-expression)")
     else:
-        words = {it[one] for it in document["packages"] for one in ("licenseConcluded", "licenseDeclared")} - {"NOASSERTION"}
+        words = {it[one] for it in document["packages"] for one in ("licenseConcluded", "licenseDeclared")}
+        words -= {"NOASSERTION", *NEWER}
         compare("what is wrong with licences", run(*by_debian, EXPRESSIONS, *sorted(words)).strip(), "")
     print(f"SHA256SUMS: {len(named)} files; SPDX: {len(listed)} files, {len(document['packages']) - 1} packages that are linked")
 
@@ -259,7 +308,9 @@ def system(out, tree, room, suite):
     if os.geteuid() != 0 or not has("system", debootstrap="debootstrap"):
         return
     root = room / suite
+    step(f"a new system of {suite}, by debootstrap", SYSTEM_SECONDS)
     run("debootstrap", "--variant=minbase", "--include=xz-utils", suite, root, ARCHIVE)
+    step(f"the archive in {suite}")
     inside = ["unshare", "--mount", "--", "sh", "-c", 'mount -t proc proc "$0/proc" && exec chroot "$0" "$@"', root]
     there = run(*inside, "sh", "-c", "for it in rt cc gcc clang make python3; do command -v $it; done; true")
     compare("compilers and the kit in the new system", there, "")
@@ -269,7 +320,9 @@ def system(out, tree, room, suite):
     run(*inside, "sh", "-c", f"cd /tmp && tar xf {tree.name}.tar.xz")
     count = commands(tree, *inside, "env", "--chdir", f"/tmp/{tree.name}")
     print(f"{suite}, glibc {libc}, without a compiler and the kit: {count} commands in the unpacked folder")
+    step(f"the packages in {suite}", SYSTEM_SECONDS)
     in_packages(root, inside, suite)
+    step(f"make install in {suite}")
     in_a_prefix(root, inside, tree)
 
 
@@ -279,8 +332,8 @@ def in_packages(root, inside, suite):
     compare("the installed program", run(*inside, "zimgasol", "--version"), f"zimgasol {VERSION}\n")
     said = run(*inside, "zimgasol", "verify", "/usr/share/doc/zimgasol/examples/guest.sav")
     compare("verify in the system", ": complete: " in said, True)
-    run(*inside, "apt-get", "-qq", "update")
-    run(*inside, "apt-get", "-qq", "install", "--no-install-recommends", "-y", "gcc", "libc6-dev", "pkgconf")
+    run(*inside, *APT, "update")
+    run(*inside, *APT, "install", "--no-install-recommends", "-y", "gcc", "libc6-dev", "pkgconf")
     shutil.copy(TESTS / "installed.c", root / "tmp")
     run(*inside, "sh", "-c", "cc -o /tmp/program /tmp/installed.c $(pkg-config --cflags --libs zimgasol)")
     compare("a program by the packages", run(*inside, "/tmp/program"), f"{VERSION}\n")
@@ -310,6 +363,9 @@ def main():
     parser.add_argument("--site")
     parser.add_argument("--suite", default="bookworm")
     words = parser.parse_args()
+    # (so that what runs is killed and files are removed, also where this is told to stop)
+    for number in (signal.SIGTERM, signal.SIGHUP):
+        signal.signal(number, lambda number, _: sys.exit(128 + number))
     if not has("the release", **{tool.replace("-", "_"): package for tool, package in NEEDED.items()}):
         sys.exit(f"try_dist: {SKIPPED[0]}")
     with tempfile.TemporaryDirectory() as name:
@@ -317,16 +373,23 @@ def main():
         out = in_two_folders(room, os.path.abspath(words.site) if words.site else None)
         archive = next(out.glob("*.tar.xz"))
         tree = room / archive.name.removesuffix(".tar.xz")
+        step("files")
         run("tar", "xf", archive, folder=room)
         files(out, tree)
+        step("records")
         refusals(room / MADE[0][0])
+        step("commands")
         print(f"the first {commands(tree)} commands of the archive's README.md, without the kit")
+        step("install")
         install(tree, room)
+        step("programs")
         programs(tree, room)
+        step("lintian")
         lintian(out)
         system(out, tree, room, words.suite)
     for it in SKIPPED:
         print(f"skipped: {it}")
+    print(f"[{time.monotonic() - STARTED:5.0f} s] all of it held, of {archive.name}")
     return 0
 
 

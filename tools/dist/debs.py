@@ -17,6 +17,8 @@ LIBDIR = "usr/lib/x86_64-linux-gnu"
 MAINTAINER = "Zimgasol maintainers <maintainers@users.noreply.zimgasol.example>"
 FIELDS = Path(__file__).resolve().parent / "debian"
 DOC = "usr/share/doc/zimgasol/"
+# how long a command may take
+SECONDS = 1800
 # Where a file goes: the package, and its name there if it is another. The first that fits counts.
 PLACES = (
     (r"usr/bin/.*|usr/share/(man|bash-completion|fish)/.*", "zimgasol", None),
@@ -32,7 +34,7 @@ LEFT_OUT = ("LICENSE", "THIRD-PARTY.txt", "installed")
 
 
 def run(*words, **how):
-    subprocess.run([str(it) for it in words], check=True, **how)
+    return subprocess.run([str(it) for it in words], check=True, timeout=SECONDS, **how)
 
 
 def split(root, release, folder):
@@ -88,7 +90,7 @@ def depends(top, folder):
     (folder / "debian").mkdir(exist_ok=True)
     (top / "DEBIAN").mkdir()
     (folder / "debian/control").write_text("Source: zimgasol\n\nPackage: zimgasol\nArchitecture: amd64\n")
-    ran = subprocess.run(["dpkg-shlibdeps", "-O", *map(str, binaries)], cwd=folder, check=True, stdout=subprocess.PIPE, text=True)
+    ran = run("dpkg-shlibdeps", "-O", *binaries, cwd=folder, stdout=subprocess.PIPE, text=True)
     return ran.stdout.strip().partition("Depends=")[2]
 
 

@@ -39,6 +39,8 @@ HERE = Path(__file__).resolve().parent
 VERSION = re.search(r'^#define ZIMGASOL_VERSION "(.*)"$', (TOP / "include/zimgasol.h").read_text(), re.MULTILINE)[1]
 SERIES = VERSION.rpartition(".")[0]
 DOC = "share/doc/zimgasol"
+# how long a command may take
+SECONDS = 1800
 # what is built: its name in the release, the crate that it is of, the file, and the target of make
 BUILT = (("bin/zimgasol", "zimgasol_cli", CRATES / "zimgasol_cli/out/zimgasol_cli", "program"),
          ("bin/mig_tool", "mig_tool", CRATES / "mig_tool/out/mig_tool", "build"),
@@ -77,10 +79,19 @@ class Release:
 
 def run(*words, **how):
     """Runs a command, which has to succeed, and returns its output."""
-    ran = subprocess.run([str(it) for it in words], stdin=subprocess.DEVNULL, stdout=subprocess.PIPE, text=True, **how)
+    how = {**({} if "input" in how else {"stdin": subprocess.DEVNULL}), "stdout": subprocess.PIPE, "text": True, **how}
+    try:
+        ran = subprocess.run([str(it) for it in words], timeout=SECONDS, **how)
+    except subprocess.TimeoutExpired:
+        sys.exit(f"dist: {words[0]} has no end after {SECONDS} seconds")
     if ran.returncode:
         sys.exit(f"dist: {words[0]} ended with status {ran.returncode}")
     return ran.stdout
+
+
+def step(what):
+    """Prints a step as it starts."""
+    print(f"dist: {what}", flush=True)
 
 
 def put(file, text):
@@ -168,16 +179,14 @@ def tool_page():
     text = re.sub(r"\[([^][]+)\]\([^)\s]*\)", r"\1", text)
     words = ["--from=gfm", "--to=man", "--standalone", "--metadata=title:MIG_TOOL", "--metadata=section:1",
              f"--metadata=footer:mig_tool {VERSION}", "--metadata=header:User Commands"]
-    ran = subprocess.run(["pandoc", *words], input=TOOL_NAME + text, capture_output=True, text=True, check=True)
-    return ran.stdout
+    return run("pandoc", *words, input=TOOL_NAME + text)
 
 
 def site(tree, given):
     """Puts the documents as HTML."""
     if not given:
-        ran = subprocess.run([TOP / "tools/site.py"])
-        if ran.returncode:
-            sys.exit("dist: the documents aren't made: tools/site.py")
+        step("the documents as HTML")
+        run(TOP / "tools/site.py")
     shutil.copytree(given or TOP / "out/site", tree / DOC / "html")
 
 
@@ -198,6 +207,8 @@ def third_party(release, folder, linked):
     yield from ("", "Their licences, and what they are:", "", *licences.table(every), "",
                 "Each program and the shared library also has these object files:", "")
     yield from (f"  {what}: {licence}" for what, licence in licences.STARTUP)
+    yield from ("", "These exceptions allow to link them into programs under any licence. Their texts are below",
+                "https://spdx.org/licenses, as GCC-exception-2.0 and GCC-exception-3.1.")
     yield from ("", *licences.notices(folder, every))
 
 
@@ -210,6 +221,7 @@ def deb_copyright(folder, linked):
 
 def fill(tree, release, given):
     """Puts all files of a release into `tree`."""
+    step("the files of the archive")
     folder = licences.kit()
     linked = {name: licences.linked(folder, crate) for name, crate, _, _ in BUILT}
     copy_built(tree, release)
@@ -256,6 +268,7 @@ def main(words):
     if [it for it in words if it not in ("--unproved", "--site", given)]:
         sys.exit(__doc__)
     check_tools()
+    step("what is known to be proved")
     lacking = unknown()
     if lacking and "--unproved" not in words:
         sys.exit("\n  ".join(["dist: this isn't known to be proved (UNPROVED=1 makes a release that says so):", *lacking]))
@@ -270,7 +283,10 @@ def main(words):
         os.umask(0o022)
         fill(tree, release, given)
         settle(tree)
-        made = [archive(tree, release), *debs.make(tree, release, folder, OUT)]
+        step("the archive")
+        made = [archive(tree, release)]
+        step("the Debian packages")
+        made += debs.make(tree, release, folder, OUT)
         for source, end in ((tree / spdx.NAME, "spdx.json"), (tree / DOC / "PROVED.txt", "PROVED.txt")):
             made.append(Path(shutil.copyfile(source, OUT / f"{release.name}.{end}")))
     sums = "".join(f"{records.sum_of(it)}  {it.name}\n" for it in sorted(made))

@@ -37,10 +37,20 @@ def package(name, version, licence, comment, **more):
             "licenseDeclared": licence, "copyrightText": NONE, "comment": comment, **more}
 
 
+def own(name):
+    """The comment on a library of the kit's own."""
+    said = ("a library of the Rattle kit, which has no licence text for it: on which terms its compiled code may be passed on "
+            "isn't known")
+    more = [f"{it.name} is under {it.licence}" for it in licences.parts([name])]
+    if name in licences.OBJECTS:
+        more.append(f"with the kit's C code in {licences.OBJECTS[name]}, for which the same holds")
+    return "; ".join([said, *more])
+
+
 def crate(name, kit):
     """The entry of a crate of the kit."""
     if name not in licences.CRATES:
-        return package(name, kit, NONE, "a library of the Rattle kit, which has no licence text for it")
+        return package(name, kit, NONE, own(name))
     what, licence = licences.CRATES[name]
     return package(name, kit, licence, f"a library of the Rattle kit, {what}")
 
@@ -60,6 +70,7 @@ def document(release, files, linked):
                   packageFileName=f"{release.name}.tar.xz", licenseDeclared="Apache-2.0",
                   licenseInfoFromFiles=[NONE], sourceInfo=f"commit {release.commit}")
     crates = sorted({it for names in linked.values() for it in names})
+    parts = [package(it.name, release.kit, it.licence, f"a part of {it.crate}, {it.what}") for it in licences.parts(crates)]
     startup = [package(f"startup-{number}", "", licence, what) for number, (what, licence) in enumerate(licences.STARTUP, 1)]
     relations = [relation("SPDXRef-DOCUMENT", "DESCRIBES", top["SPDXID"])]
     relations += [relation(top["SPDXID"], "CONTAINS", it["SPDXID"]) for it in entries]
@@ -68,10 +79,12 @@ def document(release, files, linked):
         relations += [relation(one, "STATIC_LINK", identifier("Package", it)) for it in used]
         if not name.endswith(".a"):
             relations += [relation(one, "STATIC_LINK", it["SPDXID"]) for it in startup]
+    relations += [relation(identifier("Package", it.crate), "CONTAINS", identifier("Package", it.name))
+                  for it in licences.parts(crates)]
     created = datetime.fromtimestamp(release.epoch, timezone.utc).strftime("%Y-%m-%dT%H:%M:%SZ")
     text = {"spdxVersion": "SPDX-2.3", "dataLicense": "CC0-1.0", "SPDXID": "SPDXRef-DOCUMENT", "name": release.name,
             "documentNamespace": f"https://spdx.org/spdxdocs/{release.name}-{release.commit}-{code}",
             "creationInfo": {"created": created, "creators": [TOOL]},
-            "packages": [top, *(crate(it, release.kit) for it in crates), *startup],
+            "packages": [top, *(crate(it, release.kit) for it in crates), *parts, *startup],
             "files": entries, "relationships": relations}
     return json.dumps(text, indent=1) + "\n"
