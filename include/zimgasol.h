@@ -784,7 +784,8 @@ ZIMGASOL_CHECKED zimgasol_status zimgasol_load_page_read(zimgasol_load *load,
  *
  * If a connection ends while its thread reads claimed pages, the thread ends the channel without
  * _take and gives the load up: the pages stay claimed, so nothing more is fed. _fault_of reports
- * the channel's fault. The pages that the round names may hold anything, as after every fault. */
+ * CHANNEL_UNSYNCED, or no fault if the round's first packet is the one that was claimed. The pages
+ * that the round names may hold anything, as after every fault. */
 
 /* Claims the pages of the next packet of channel `channel`, from 0 on, by its head of
  * ZIMGASOL_HEAD_LEN bytes. Returns

@@ -1,5 +1,5 @@
 #!/usr/bin/env python3
-"""The files of cases: what docs/build/EXAMPLES.md says of them, and the names of the cases.
+"""The files of cases: what crates/mig_rows/README.md says of them, and the names of the cases.
 
     tools/case_lists.py            prints the names of all cases, by file and heading
     tools/case_lists.py --check    fails if the page lacks a file, or a word with which a line begins,
@@ -14,7 +14,7 @@ from pathlib import Path
 TOP = Path(__file__).resolve().parent.parent
 ROWS = TOP / "crates" / "mig_rows"
 TOOL = TOP / "runs" / "tool"
-PAGE = TOP / "docs" / "build" / "EXAMPLES.md"
+PAGE = ROWS / "README.md"
 # Words of the page that no case in the repository uses.
 BY_HAND = {"file"}
 

@@ -1,8 +1,8 @@
 #!/usr/bin/env python3
 """Builds out/site: README.md, the other documents and the contracts as HTML, by pandoc.
 
-A link to another document leads to its page, and one to another file of the repository to a copy.
-It fails if a link of the site leads to no page, no file or no heading, or if a picture is of
+tools/promises.py first writes the contracts, as Markdown, into out/contracts. A link to another
+document leads to its page, and one to another file of the repository to a copy. It fails if a link of the site leads to no page, no file or no heading, or if a picture is of
 another source (tools/pictures.py).
 
     tools/site.py
@@ -29,7 +29,7 @@ GROUPS = {
     "In a hypervisor": "docs/use/EMBEDDING docs/use/C bindings/rust/README docs/use/FORMATS",
     "Proofs": "docs/trust/PROMISES out/contracts/CONTRACTS SECURITY",
     "To change it": "CONTRIBUTING docs/build/ARCHITECTURE docs/build/DECISIONS "
-                    "docs/build/BENCHMARKS docs/build/EXAMPLES crates/mig_tool/README CHANGELOG", "More": ""}
+                    "docs/build/BENCHMARKS crates/mig_rows/README crates/mig_tool/README CHANGELOG", "More": ""}
 # What the navigation calls pages whose headings say too little or too much there.
 NAMES = {"docs/README": "All documents", "docs/use/ZIMGASOL": "The program",
          "docs/use/QEMU": "QEMU and libvirt", "bindings/python/README": "Python",
@@ -134,6 +134,8 @@ def main():
         sys.exit(__doc__)
     if not shutil.which("pandoc"):
         sys.exit("there is no pandoc on the PATH: apt-get update && apt-get install -y pandoc")
+    if subprocess.run([sys.executable, TOP / "tools" / "promises.py"]).returncode:
+        sys.exit("the contracts aren't written: tools/promises.py")
     pictures = subprocess.run([sys.executable, TOP / "tools" / "pictures.py", "--check"])
     files = sorted(file for it in SOURCES for file in TOP.glob(it))
     texts = {str(it.relative_to(TOP))[:-3]: it.read_text() for it in files}

@@ -7,12 +7,14 @@
 The expected output of a command is made here from the results of tools/stream_facts.py and
 tools/channel_facts.py on the files, and from streams that are written here: none of this shares
 anything with the library. tools/runs/runs.py runs the commands and compares their output with it.
+In the page long lines are wrapped at 100 columns, and each member of a JSON object is on one line.
 """
 import hashlib
 import json
 import re
 import struct
 import sys
+import textwrap
 import uuid
 from pathlib import Path
 
@@ -81,6 +83,17 @@ def wrong(what):
 
 # After those of the pages: commands, and what each prints and its status. None: as it is made here.
 CASES = [
+    # ---- what the page leaves out
+    ("zimgasol verify - < guest.sav", None),
+    ("zimgasol inspect machine.sav", None),
+    ("zimgasol extract guest.sav digests --digest", None),
+    ("cat digests/blocks.json", None),
+    ("zimgasol extract full.sav again --digest --replace", None),
+    ("cat again/blocks.json", None),
+    ("zimgasol extract main.sav no-part", None),
+    ("zimgasol extract later.sav restored --since memory --digest --replace", None),
+    ("cat restored/blocks.json", None),
+    ("zimgasol extract multi.sav channels --channel multi.sav.0 --channel multi.sav.1 --replace", None),
     ("zimgasol extract guest.sav bare --no-digest", None),
     ("cat bare/blocks.json", None),
     ("zimgasol extract guest.sav neither --digest --no-digest", (
@@ -903,6 +916,11 @@ class Shell:
         self.status = 0
 
     def run(self, command):
+        said = self.said(command)
+        return [it for it in said if it.startswith("zimgasol: ")] if "--quiet" in command.split(" ") else said
+
+    def said(self, command):
+        """What a command prints without `--quiet`."""
         words = command.split(" ")
         if command == "echo $?":
             return [str(self.status)]
@@ -1296,13 +1314,27 @@ def printed(shell, text):
     return [(command, shell.run(command)) for command in commands(text)]
 
 
+def shown(answer):
+    """The output as the page has it: each member of a JSON object on one line."""
+    if answer[:1] != ["{"]:
+        return answer
+    members = [f"  {json.dumps(key)}: {json.dumps(value)}" for key, value in json.loads("\n".join(answer)).items()]
+    return ["{", *(f"{it}," for it in members[:-1]), members[-1], "}"]
+
+
+def wrapped(line):
+    """A line of output as the page has it: indented, and wrapped at 100 columns."""
+    return textwrap.wrap(line, 100, initial_indent="    ", subsequent_indent="        ", break_long_words=False,
+                         break_on_hyphens=False, drop_whitespace=True) if len(line) > 96 else [f"    {line}"]
+
+
 def made_page(text, said):
     """The page with what its commands print."""
     left, lines, in_answer = list(said), [], False
     for line in text.splitlines():
         if line.startswith("    $ "):
             command, answer = left.pop(0)
-            lines += [line, *(f"    {it}" for it in answer)]
+            lines += [line, *(part for it in shown(answer) for part in wrapped(it))]
             in_answer = True
         elif not (in_answer and line.startswith("    ")):
             lines.append(line)

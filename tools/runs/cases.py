@@ -1,6 +1,6 @@
 """Plays files of cases of the tool: words, input and files, and what the program answers.
 
-`docs/build/EXAMPLES.md` has the lines of a case. Each case has an empty folder for its files. Beside an
+`crates/mig_rows/README.md` has the lines of a case. Each case has an empty folder for its files. Beside an
 answer that isn't the expected one, a line that can't be followed is wrong, too.
 """
 import hashlib
