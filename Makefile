@@ -72,7 +72,7 @@ header: ## at once | compares include/zimgasol.h with the library's exports
 try: ## at once | runs the built mig_tool in a shell; after build
 	@tools/try_tool.py
 
-interop: ## minutes | tests with QEMU; QEMU='PROGRAM ..'; after build, program
+interop: ## minutes | tests with QEMU; QEMU='PROGRAM ..'; after build, program, lib
 	@tools/interop/interop.py $(if $(QEMU),--qemu '$(QEMU)') $(if $(SUITES),--suites '$(SUITES)')
 
 promises: ## at once | writes the contracts, and draws the map of the proof

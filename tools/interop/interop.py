@@ -3,14 +3,16 @@
 
     make interop                             # with QEMU 7.2, 10.0 and 11.1 of Debian's packages
     tools/interop/interop.py [--suites 'SUITE ..'] [--qemu 'PROGRAM ..'] [--programs FOLDER]
+                             [--library FILE]
 
 SUITE is one of Debian's, for example `trixie-backports`. Its QEMU is downloaded into out/interop if
 it isn't there yet (packages.py). PROGRAM is an installed qemu-system-x86_64; with it nothing is
 downloaded. Otherwise the one in PATH is used in addition to those of the suites. FOLDER has
-`zimgasol_cli` and `mig_tool`, in place of crates/NAME/out.
+`zimgasol_cli` and `mig_tool`, in place of crates/NAME/out. FILE is the library for C, in place of
+out/libzimgasol.a. If it isn't there, or no C compiler, its rows are skipped.
 
 Each row has the writer and the reader, and `ok` or the difference. The exit status is 0 if all rows
-are `ok`. The gate doesn't run it.
+are `ok` or skipped. The gate doesn't run it.
 """
 import argparse
 import signal
@@ -20,17 +22,19 @@ from dataclasses import dataclass
 from pathlib import Path
 
 import channels
+import live
 import packages
 import qemu
 import states
 from checks import (NO_CONFIGURATION, Bench, chain, leave_shared_out, load_saved, read_between,
                     read_single, refuse_single, refuse_xbzrle)
 from guests import KINDS, NONE, OLD, PC, PC_UUID, PC_WRITING, Q35, SMALL, old_files
-from ours import Differs, Programs
+from ours import TOP, Differs, Programs
 
 CHANNELS = (1, 2, 4)
 # QEMU before 8.1 may leave out packets' numbers, and send a page twice in a round: the faults of docs/use/QEMU.md
 UNLAWFUL = (54, 55, 56, 59)
+SKIPPED = "skipped"
 HEADS = ("QEMU", "from, to", "guest", "how", "compared", "")
 
 
@@ -69,8 +73,17 @@ class Table:
         # (in the table all rows come together, at the end)
         say(f"  {row.way}; {row.guest}; {row.how}: {row.result}")
 
+    def skip(self, row, why):
+        """Adds the row of what can't be tried."""
+        self.rows.append(row)
+        row.compared, row.result = why, SKIPPED
+        say(f"  {row.way}: {SKIPPED}: {why}")
+
+    def skipped(self):
+        return sum(it.result == SKIPPED for it in self.rows)
+
     def wrong(self):
-        return sum(it.result != "ok" for it in self.rows)
+        return sum(it.result not in ("ok", SKIPPED) for it in self.rows)
 
     def show(self):
         lines = [HEADS, *(it.cells() for it in self.rows)]
@@ -173,6 +186,30 @@ def restore_machines(table, bench, version):
         table.try_(row, lambda: states.restore_channels(bench, PC_WRITING, 2))
 
 
+def connect_library(table, bench, version, built, why):
+    """The library for C and QEMU, by live connections. Its channels are those of QEMU 8.1 and later:
+    7.2 knows no FLUSH, and its own rounds may be unlawful.
+    """
+    there, here, kind = "QEMU, library for C", "library for C, QEMU", PC_WRITING
+    if not built:
+        table.skip(Row(version, there, kind.name, "live"), why)
+        return
+    has_flush = qemu.number(version) >= (8, 1)
+    for count in (0, 2):
+        faults = UNLAWFUL if count and not has_flush else ()
+        row = Row(version, there, kind.name, f"live, {by(count)}")
+        table.try_(row, lambda: live.receive(bench, built, kind, count, faults=faults))
+    for count in (0, 2) if has_flush else (0,):
+        row = Row(version, there, kind.name, f"live, {by(count)}, return-path")
+        table.try_(row, lambda: live.receive(bench, built, kind, count, returns=True))
+        row = Row(version, here, NONE.name, f"live, {by(count)}, 2 rounds")
+        table.try_(row, lambda: live.send(bench, built, count))
+        row = Row(version, there, kind.name, f"{by(count)}, connections are cut")
+        table.try_(row, lambda: live.lose_each(bench, built, kind, count))
+        row = Row(version, there, kind.name, f"{by(count)}, migrate_cancel")
+        table.try_(row, lambda: live.cancel(bench, built, kind, count))
+
+
 def at_hand(words):
     """The QEMUs, by their versions."""
     named = words.qemu.split() if words.qemu else packages.programs(words.suites.split(), say)
@@ -188,11 +225,16 @@ def on_channels(count):
     return f"multifd, {count} channel{'s' if count > 1 else ''}"
 
 
+def by(count):
+    return on_channels(count) if count else "single"
+
+
 def main():
     parser = argparse.ArgumentParser(description="Tries the programs with QEMU at the other end.")
     parser.add_argument("--suites", default=" ".join(packages.SUITES))
     parser.add_argument("--qemu", default="")
     parser.add_argument("--programs")
+    parser.add_argument("--library", default=TOP / "out" / "libzimgasol.a")
     words = parser.parse_args()
     # so that each QEMU is ended, and files are removed, also where this is told to stop
     for number in (signal.SIGTERM, signal.SIGHUP):
@@ -200,6 +242,7 @@ def main():
     programs = Programs(words.programs)
     found, table = at_hand(words), Table()
     with tempfile.TemporaryDirectory(prefix="interop-") as room:
+        built, why = live.built(words.library, Path(room))
         for version, program in found.items():
             say(f"QEMU {version}: {program}")
             bench = Bench(program, programs, Path(room))
@@ -209,9 +252,11 @@ def main():
             load_ours(table, bench, version)
             run_chains(table, bench, version, found)
             restore_machines(table, bench, version)
+            connect_library(table, bench, version, built, why)
     table.show()
-    wrong = table.wrong()
-    print(f"{len(table.rows)} rows, {wrong or 'none'} that {'differs' if wrong == 1 else 'differ'}")
+    wrong, skipped = table.wrong(), table.skipped()
+    print(f"{len(table.rows)} rows, {wrong or 'none'} that {'differs' if wrong == 1 else 'differ'}"
+          + (f", {skipped} skipped" if skipped else ""))
     return 1 if wrong else 0
 
 
