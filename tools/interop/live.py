@@ -8,6 +8,7 @@ returns the text on what was compared, or raises `Differs`.
 import os
 import random
 import re
+import select
 import shutil
 import socket
 import subprocess
@@ -26,6 +27,8 @@ HERE = Path(__file__).resolve().parent
 # the seconds within which a receiver ends whose connection is lost
 LIMIT = 60
 CUTS = 10
+# how many bytes a relay holds back until QEMU sends nothing for so many seconds
+HELD, PAUSE = 64, 0.05
 STRICT = ("-std=c11", "-Wall", "-Wextra", "-Wpedantic", "-Werror", "-O2")
 # MIG_RP_MSG_SHUT, four bytes of data: 0, the guest was loaded
 ANSWER = bytes.fromhex("0001000400000000")
@@ -48,7 +51,8 @@ def built(library, folder):
 
 class Pipe:
     """A connection of QEMU's that is passed on to the receiver, both ways. It is cut where `most`
-    bytes came and a further one. If it `drains`, it is read to its end also without a receiver.
+    bytes came and a further one. If it `drains`, it is read to its end also without a receiver. The
+    last bytes before a pause go on after it, so that an answer that comes too early is seen.
     """
 
     def __init__(self, connection, most=None, drains=False):
@@ -64,7 +68,7 @@ class Pipe:
 
     def there(self):
         try:
-            while piece := self.qemu.recv(1 << 16):
+            for piece in self.pieces():
                 if self.most is not None and len(self.bytes) + len(piece) > self.most:
                     self.ours.sendall(piece[:self.most - len(self.bytes)])
                     self.was_cut = True
@@ -75,6 +79,21 @@ class Pipe:
             self.ours.shutdown(socket.SHUT_WR)
         except OSError:
             self.shut(self.qemu)
+
+    def pieces(self):
+        """What QEMU sends, piece by piece."""
+        held, piece = b"", b" "
+        while piece:
+            if held and not select.select([self.qemu], [], [], PAUSE)[0]:
+                yield held
+                held = b""
+            piece = self.qemu.recv(1 << 16)
+            held += piece
+            if len(held) > HELD:
+                yield held[:-HELD]
+                held = held[-HELD:]
+        if held:
+            yield held
 
     def pass_on(self, piece):
         try:
