@@ -24,6 +24,7 @@ import os
 import pathlib
 import random
 import re
+import select
 import shutil
 import socket
 import subprocess
@@ -1217,11 +1218,53 @@ def reading(before):
             sys.exit(f"read_file: status {done.returncode}, {done.stderr.decode()}, not {wanted}")
 
 
+def as_qemu(before, texts, last, returns):
+    """Sends streams to from_qemu, the main one's last byte late, or never where that isn't `last`. Returns how it ended, and
+    what it answered before that byte and after it."""
+    pairs, file = [socket.socketpair() for _ in texts], OUT / "blocks"
+    file.unlink(missing_ok=True)
+    program = joined(pairs, "from_qemu", ["-r", file] if returns else [file], before)
+    sent = [texts[0][:-1], *texts[1:]]
+    threads = [threading.Thread(target=mine.sendall, args=[text]) for (mine, _), text in zip(pairs, sent)]
+    for thread in threads:
+        thread.start()
+    for thread in threads:
+        thread.join()
+    main, answers = pairs[0][0], []
+    early = select.select([main], [], [], 0.5)[0] and main.recv(8)
+    if last:
+        main.sendall(texts[0][-1:])
+    if last and returns:
+        answers.append(main.recv(8, socket.MSG_WAITALL))
+    for mine, _ in reversed(pairs):
+        mine.close()
+    return ended(program), early, b"".join(answers)
+
+
+def from_qemu(before):
+    """from_qemu loads one stream and channels: it answers behind the devices' last byte alone, and has no guest without it."""
+    description = b'{"devices": []}'
+    devices = b"\4 devices\0\6" + be(len(description), 4) + description
+    rounds, memory = rounds_of(MACHINE)
+    for channels in (0, 3):
+        main = main_of(rounds)
+        main = main[:8] + CONFIGURATION + main[8:-1] if channels else stream_of(MACHINE, rounds)[0]
+        texts = [main + devices, *(packets_of(rounds, channels)[0] if channels else [])]
+        for last, returns in ((True, True), (True, False), (False, True), (False, False)):
+            (status, said, out), early, answer = as_qemu(before if last else leaving(before), texts, last, returns)
+            wanted = (0, b"mem0 8388608\nmem1 8388608\nDONE\n") if last else (2, b"")
+            if (status, out) != wanted or early or answer != (LOADED if last and returns else b""):
+                sys.exit(f"from_qemu, {channels} channels: status {status}, {said}, answered {early} and {answer}")
+            if last and (OUT / "blocks").read_bytes() != memory:
+                sys.exit("from_qemu's blocks aren't the memory that was sent")
+
+
 def tutorial():
-    """The three programs of docs/use/C.md, with streams that are made and read here, and one with another."""
+    """The programs of docs/use/C.md, with streams that are made and read here, and one with another."""
     for before in [[]] + ([VALGRIND] if VALGRIND else []):
         receiving(before)
         reading(before)
+        from_qemu(before)
         slowly = [*before, "--fair-sched=yes"] if before else []
         sending(slowly, 1, LOADED)
         sending(slowly, 3, LOADED[:-1] + b"\1")
@@ -1239,6 +1282,7 @@ def main():
     build("receive_live", "examples/c/receive_live.c", *STRICT)
     build("send_live", "examples/c/send_live.c", "-pthread", *STRICT)
     build("read_file", "examples/c/read_file.c", *STRICT)
+    build("from_qemu", "examples/c/from_qemu.c", *STRICT)
     build("receive_live_asan", "examples/c/receive_live.c", "-fsanitize=address,undefined")
     build("send_live_asan", "examples/c/send_live.c", "-pthread", "-fsanitize=address,undefined")
     build("send_live_tsan", "examples/c/send_live.c", "-pthread", "-fsanitize=thread")

@@ -187,8 +187,8 @@ def restore_machines(table, bench, version):
 
 
 def connect_library(table, bench, version, built, why):
-    """The library for C and QEMU, by live connections. Its channels are those of QEMU 8.1 and later:
-    7.2 knows no FLUSH, and its own rounds may be unlawful.
+    """The library for C and QEMU, by live connections; channels with QEMU 8.1 and later, since 7.2
+    knows no FLUSH. 7.2's own rounds may be unlawful.
     """
     there, here, kind = "QEMU, library for C", "library for C, QEMU", PC_WRITING
     if not built:

@@ -1,9 +1,9 @@
 """The tests with each QEMU of the library for C, over live connections: a function for each row.
 
-Two small programs are built with the library: `from_qemu` receives a machine, and `to_qemu` sends
-one. Each takes connections that are made here. What QEMU sends goes through a relay, which keeps it
-and cuts a connection where a test wants that. Each function takes a `Bench` and the programs, and
-returns the text on what was compared, or raises `Differs`.
+Two small programs are built with the library: examples/c/from_qemu.c receives a machine, and
+to_qemu.c sends one. Each takes connections that are made here. What QEMU sends goes through a
+relay, which keeps it and cuts a connection where a test wants that. Each function takes a `Bench`
+and the programs, and returns the text on what was compared, or raises `Differs`.
 """
 import os
 import random
@@ -23,7 +23,7 @@ from guests import MIB, NONE, PAGE, memory
 from ours import TOP, Differs, compare, ran
 from states import wait_for_change
 
-HERE = Path(__file__).resolve().parent
+SOURCES = TOP / "examples/c/from_qemu.c", TOP / "tools/interop/to_qemu.c"
 # the seconds within which a receiver ends whose connection is lost
 LIMIT = 60
 CUTS = 10
@@ -43,10 +43,10 @@ def built(library, folder):
         return None, f"there is no {library}: make lib"
     if compiler is None:
         return None, "there is no C compiler"
-    found = {name: folder / name for name in ("from_qemu", "to_qemu")}
-    for name, program in found.items():
-        ran(compiler, *STRICT, f"-I{TOP / 'include'}", HERE / f"{name}.c", library, "-o", program)
-    return found, None
+    for source in SOURCES:
+        program = folder / source.stem
+        ran(compiler, *STRICT, f"-I{TOP / 'include'}", source, library, "-o", program)
+    return {it.stem: folder / it.stem for it in SOURCES}, None
 
 
 class Pipe:
