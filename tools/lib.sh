@@ -55,8 +55,9 @@ if command -v "${CC:-cc}" > /dev/null; then
     fi
     is_marked out/objects/libzimgasol.so
     mv out/objects/libzimgasol.so "out/libzimgasol.so.$version"
-    ln -s "libzimgasol.so.$version" "out/$soname"
-    ln -s "libzimgasol.so.$version" out/libzimgasol.so
+    # no symbolic links: rt ci refuses them in a repository
+    ln "out/libzimgasol.so.$version" "out/$soname"
+    ln "out/libzimgasol.so.$version" out/libzimgasol.so
     echo "built: out/libzimgasol.so.$version"
 else
     echo "no C compiler (${CC:-cc}): no shared library"
