@@ -28,6 +28,16 @@ PROVED = re.compile(r"^rt: (\S+)( proved| is kept: .*)$")
 ROOM = 4 << 20
 
 
+def first_link():
+    """Returns a symbolic link of the repository, None if it has none: `rt ci` refuses them."""
+    for at, folders, files in os.walk(TOP):
+        folders[:] = [name for name in folders if name != ".git"]
+        for name in [*folders, *files]:
+            if os.path.islink(os.path.join(at, name)):
+                return os.path.relpath(os.path.join(at, name), TOP)
+    return None
+
+
 def jobs():
     """A processor for each check, where 4 GB are free for it: by itself `rt ci` leaves processors idle."""
     with open("/proc/meminfo") as info:
@@ -72,6 +82,10 @@ def main(words):
     print(FIRST.format(times=TIMES), flush=True)
     if not shutil.which("rt"):
         print("there is no rt on the PATH: the Rattle kit has it in its folder bin\n0 passed, 1 failed")
+        return 1
+    link = first_link()
+    if link:
+        print(f"{link} is a symbolic link, and rt ci refuses those: move its folder out of the repository\n0 passed, 1 failed")
         return 1
     if subprocess.run(["make", "-s", "documents"], cwd=TOP).returncode:
         print("0 passed, 1 failed")
