@@ -19,7 +19,7 @@ help: ## users | at once | lists the targets
 run: ## users | about a minute | sends a small guest and loads it
 	@tools/run.sh "$(SCENARIO)" $(WORDS)
 
-check: ## users | up to 10 minutes | every test and stored run, no proofs; CRATES='..'
+check: ## users | up to 10 minutes | every test, all but large runs, no proofs; CRATES='..'
 	@tools/check.py $(CRATES)
 
 runs: ## seconds | runs the proved programs on runs/; after test

@@ -7,7 +7,9 @@ Tests run by `rt try --test`. A program runs by `rt try`, on the files stdin, ar
 its src/, and has to print its file stdout and end with the status in its file status. Each is
 compiled with checks of memory and arithmetic. The interpreter of `rt try` also runs it if it can,
 which it can't for tests and for most programs. The tool and `zimgasol` are built in this way, too,
-and then run on what the gate runs them on: cases, commands and captures (tools/runs/runs.py).
+and then run on what the gate runs them on: cases, commands and captures (tools/runs/runs.py). The
+cases' questions of large inputs take minutes with those checks, and are kept for the gate. How many
+they are stands before the last line.
 
 Several run in parallel, as many as processors and free memory allow, or RT_JOBS of them; those that
 take longest begin first. A run without an answer has failed, unless it was stopped for its time,
@@ -38,6 +40,8 @@ SECONDS = 3600
 LONG = ("mig_rows", "mig_session_tests", "mig_tool", "zimgasol_cli")
 ENDED = re.compile(rb"^run=ended status=(\d+) ", re.M)
 TESTS = re.compile(rb"^test result: ok\. ([1-9]\d*) passed; 0 failed; 0 ignored; 0 filtered out$", re.M)
+# What runs.py says of the questions that it didn't ask.
+KEPT = re.compile(r"^.* kept for make test$", re.M)
 PASSED_TEST = re.compile(rb"^test \S+ \.\.\. ok\n", re.M)
 
 
@@ -110,9 +114,9 @@ def run_played(name):
     ran = subprocess.run([sys.executable, RUNS, *kinds], stdin=subprocess.DEVNULL, stdout=subprocess.PIPE, text=True)
     found = re.search(r"^(\d+) passed, (\d+) failed$", ran.stdout, re.M)
     passed, failed = (int(found[1]), int(found[2])) if found else (0, 1)
-    what = " and ".join(kinds)
+    what, kept = " and ".join(kinds), "".join(f"\n    {it}" for it in KEPT.findall(ran.stdout))
     if not failed and not ran.returncode:
-        return passed, 0, f"{name}: {passed} runs of {what} passed"
+        return passed, 0, f"{name}: {passed} runs of {what} passed{kept}"
     return passed, max(1, failed), f"{name}: runs of {what} FAILED\n" + last_lines(ran.stdout.encode())
 
 
@@ -143,12 +147,14 @@ def main(names):
     runs = [(run, it) for it in names for has, run in kinds if has(it)]
     print(f"{len(runs)} runs, from the source and unproved, {lanes()} side by side", flush=True)
     passed = failed = stopped = 0
+    kept = []
     with ThreadPoolExecutor(lanes()) as pool:
         futures = [pool.submit(timed, run, it) for run, it in runs]
         try:
             for future in as_completed(futures):
                 one, other, late, said = future.result()
                 passed, failed, stopped = passed + one, failed + other, stopped + late
+                kept += map(str.strip, KEPT.findall(said))
                 print(said, flush=True)
         finally:
             # (where it is interrupted, none is begun any more)
@@ -158,6 +164,8 @@ def main(names):
     if nothing:
         print(f"with no test and no program: {', '.join(nothing)}"
               " (docs/build/ARCHITECTURE.md lists the crates with their tests)")
+    for it in kept:
+        print(it)
     if stopped:
         print(f"{stopped} stopped for their time, which says nothing of them: try these again alone")
     print(f"{passed} passed, {failed} failed")

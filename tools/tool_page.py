@@ -19,6 +19,8 @@ HEAD = """# The examples of crates/mig_tool/README.md, in their order, made by t
 
 case the examples of the page
 """
+# A file that never ends: runs/tool asks a proved program alone for such a large input.
+ENDLESS = "/dev/zero"
 # The words of each command that are files, and the options that have no value.
 FILES = {"check": 0, "send": 2, "load": 2, "compare": 2}
 FLAGS = ("--feed",)
@@ -85,6 +87,8 @@ def lines_of(command, said, status):
     other = OTHERS.get(said[0])
     if other:
         line, answer = f"either {line}", f"{answer} or {status} {other}\\n"
+    if ENDLESS in words:
+        line = f"large {line}"
     return [*([f"read {given}", "input"] if given else []), f"{line} = {answer}"], status
 
 

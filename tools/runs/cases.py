@@ -1,15 +1,23 @@
 """Plays files of cases of the tool: words, input and files, and what the program answers.
 
 `crates/mig_rows/README.md` has the lines of a case. Each case has an empty folder for its files. Beside an
-answer that isn't the expected one, a line that can't be followed is wrong, too.
+answer that isn't the expected one, a line that can't be followed is wrong, too. Questions of large
+inputs (LARGE) are asked of a proved program alone. A case without another question is wrong.
 """
+import contextlib
 import hashlib
+import os
 import re
+import select
 import subprocess
 import tempfile
+import threading
 from pathlib import Path
 
 SECONDS = 60
+# What a question of a large input begins with. A program that is built with checks of memory takes
+# minutes for it: its vectors drop one byte after another, and each is checked.
+LARGE = "large "
 # The content of the file `i` before a load.
 BEFORE = b"as it was"
 # Bytes with more runs of one byte than this are written as a sum.
@@ -60,12 +68,32 @@ def compared(data, wanted):
     return f"{len(data)} bytes in place of {len(other)}"
 
 
+@contextlib.contextmanager
+def packets(data, length):
+    """Makes a pipe of which each read finds `length` bytes of the data."""
+    reading, writing = os.pipe2(os.O_DIRECT | os.O_CLOEXEC)
+
+    def write():
+        # (a program that has ended reads no more)
+        with open(writing, "wb", buffering=0) as pipe, contextlib.suppress(BrokenPipeError):
+            for at in range(0, len(data), length):
+                pipe.write(data[at:at + length])
+
+    writer = threading.Thread(target=write)
+    writer.start()
+    try:
+        with open(reading, "rb") as pipe:
+            yield pipe
+    finally:
+        writer.join()
+
+
 class Case:
     """What the lines of a case have built so far, in its own folder."""
 
     def __init__(self, program, folder):
         self.program, self.folder = program, Path(folder)
-        self.streams, self.input = [], b""
+        self.streams, self.input, self.piece = [], b"", 0
 
     # ---- lines that build
 
@@ -106,6 +134,10 @@ class Case:
         """Takes a line on the input or on files. Returns False if it is another one."""
         if name == "input":
             self.input = of_text(rest) if rest else self.streams[-1]
+        elif name == "pieces":
+            self.piece = int(rest)
+            if not 1 <= self.piece <= select.PIPE_BUF:
+                raise ValueError(f"no packet of a pipe has {rest} bytes")
         elif name == "write":
             self.path(words[0]).write_bytes(of_text(rest.partition(" ")[2]))
         elif name == "save":
@@ -129,7 +161,11 @@ class Case:
         words = [str(self.path(it[1:])) if it.startswith("@") else "" if it == '""' else it
                  for it in line.split(" ")] if line else []
         how = {"stdout": subprocess.PIPE, "stderr": subprocess.DEVNULL, "timeout": SECONDS}
-        done = subprocess.run([*self.program, *words], input=self.input, **how)
+        if self.piece:
+            with packets(self.input, self.piece) as pipe:
+                done = subprocess.run([*self.program, *words], stdin=pipe, **how)
+        else:
+            done = subprocess.run([*self.program, *words], input=self.input, **how)
         return f"{done.returncode} {as_text(done.stdout)}".rstrip(" ")
 
     def load(self, words):
@@ -210,6 +246,11 @@ def sections_of(text):
     return cases
 
 
+def lines_for(is_proved, lines):
+    """The lines of a case for a program: all if it is proved, or else those without LARGE."""
+    return [it.removeprefix(LARGE) for it in lines if is_proved or not it.startswith(LARGE)]
+
+
 def play_case(program, lines):
     """Plays a case. Returns how many answers came, and what to say of each wrong one."""
     answers, wrong = 0, []
@@ -230,15 +271,26 @@ def play_case(program, lines):
     return answers, wrong
 
 
-def play(program, files):
-    """Plays the cases of files. Prints what is wrong. Returns how many cases passed and failed."""
-    passed, failed, answers = 0, 0, 0
+def play(program, files, is_proved):
+    """Plays the cases of files. Returns how many cases passed and failed.
+
+    Prints what is wrong, and how many questions weren't asked, as the program isn't proved.
+    """
+    passed, failed, answers, kept = 0, 0, 0, []
     for file in files:
         for name, lines in sections_of(file.read_text()):
-            count, wrong = play_case(program, lines)
+            asked = lines_for(is_proved, lines)
+            count, wrong = play_case(program, asked)
+            if not any(" = " in it for it in lines_for(False, lines)):
+                wrong.append("has no question, or only of large inputs")
             answers += count
+            if len(asked) < len(lines):
+                kept.append(len(lines) - len(asked))
             passed, failed = passed + (not wrong), failed + bool(wrong)
             for it in wrong:
                 print(f"{file.name}: {name}: {it}")
     print(f"the tool: {passed + failed} cases, {answers} answers, {failed or 'none'} of the cases wrong", flush=True)
+    if kept:
+        what = f"{sum(kept)} questions of large inputs, in {len(kept)} cases,"
+        print(f"the tool: {what} are kept for make test", flush=True)
     return passed, failed

@@ -5,8 +5,9 @@
 
 The programs are those that `rt ci`, `make build` or `make program` proved and built in
 crates/*/out. One that isn't there, or is older than a source, is built unproved first, which takes
-a minute or two. With --built they are taken whatever their age: the gate has just proved them, or
-took them from an earlier run of the same files. KIND is one of
+a minute or two. The questions of large inputs are kept for a proved tool, and an unproved run says
+how many they are. With --built the programs are taken whatever their age: the gate has just proved
+them, or took them from an earlier run of the same files. KIND is one of
 
     tool       the files of cases of the tool, runs/tool
     zimgasol   the commands of docs/use/ZIMGASOL.md and more, runs/zimgasol
@@ -14,7 +15,8 @@ took them from an earlier run of the same files. KIND is one of
     manual     the man page of `zimgasol`, and its completions
     refused    allocations refused: of both programs, and of the cases that `mig_rows` plays;
                with proved programs alone
-    falsified  each of the others on an expectation that was falsified, which has to fail
+    falsified  each of the others on an expectation that was falsified, which has to fail; one of a
+               large input with a proved program alone
 
 and all of them without a KIND. The last line is 'N passed, M failed', and the status is 1 where
 something failed.
@@ -44,8 +46,13 @@ NEEDS = {"tool": ("mig_tool",), "zimgasol": ("zimgasol_cli",), "captures": ("zim
          "manual": ("zimgasol_cli",), "refused": PROGRAMS, "falsified": ("mig_tool", "zimgasol_cli")}
 
 
+def is_proved(found):
+    """Returns whether the tool is the one that was proved and built."""
+    return found["mig_tool"] == programs.built("mig_tool")
+
+
 def play_tool(found, data):
-    return cases.play(found["mig_tool"], sorted((data / "tool").glob("*.txt")))
+    return cases.play(found["mig_tool"], sorted((data / "tool").glob("*.txt")), is_proved(found))
 
 
 def play_zimgasol(found, data):
@@ -78,6 +85,9 @@ FALSE = (("an answer of the tool", play_tool, "tool/loads.txt", "fault ", "fault
          ("a line of zimgasol", play_zimgasol, "zimgasol/expected.txt", "complete", "whole"),
          ("a status of zimgasol", play_zimgasol, "zimgasol/expected.txt", "$ echo $?\n1\n", "$ echo $?\n0\n"),
          ("QEMU's memory", play_captures, "captures/none-7.2.22.sums", "3c5e", "3c5f"))
+# One that a proved program alone is asked.
+LARGE_FALSE = ("an answer on a large input", play_tool, "tool/loads.txt",
+               "large length i = 1", "large length i = 2")
 
 
 def falsified_refusals():
@@ -96,8 +106,8 @@ def falsified_refusals():
 
 
 def play_falsified(found, data):
-    failed = 0
-    for what, play, name, old, new in FALSE:
+    failed, tried = 0, [*FALSE, *[LARGE_FALSE] * is_proved(found)]
+    for what, play, name, old, new in tried:
         with tempfile.TemporaryDirectory() as room:
             copy = Path(room) / "runs"
             shutil.copytree(data, copy)
@@ -108,8 +118,10 @@ def play_falsified(found, data):
             failed += 1
             print(f"{what} was falsified, and {wrong} failed")
     failed += falsified_refusals()
-    count = len(FALSE) + 1
+    count = len(tried) + 1
     print(f"falsified: {count} expectations, {failed or 'none'} of them passed", flush=True)
+    if LARGE_FALSE not in tried:
+        print("falsified: 1 expectation of a large input is kept for make test", flush=True)
     return count - failed, failed
 
 

@@ -3,8 +3,9 @@
 //!
 //! Its arguments are the files' names. Without arguments it reads its input. A case consists of
 //! lines (this crate's README has them all): lines that build a guest and streams, and questions,
-//! each with ` = ` and its answer. For a question without an expected answer, the answer is printed,
-//! one a line. So another implementation can be compared with this one over many cases in one run.
+//! each with ` = ` and its answer. For a question without an expected answer, the answer is
+//! printed, one a line. So another implementation can be compared with this one over many cases in
+//! one run.
 //!
 //! It ends with the number of cases and answers, and with exit status 1 if an answer was wrong.
 //! `mig_cases` has the cases, and the questions about guest memory and packets. This crate isn't
