@@ -88,7 +88,8 @@ pub record IsBegun (order : WordOrder) (place : ℕ) (table : RamTable) (w : Map
   pub are_laid : AreLaid w
   pub none_set : (p : Place) → has_bit w p ≡ false
 
--- Why there is no writer: an allocation was refused, or the pages would end where no file has bytes.
+-- Why there is no writer: an allocation was refused, or the pages would end where no file has
+-- bytes.
 abbrev pub IsRefused : WordOrder → ℕ → RamTable → MappedStop → Type 0
 IsRefused order place table (stop.Fault fault) =
     (fault ≡ PagesOffset) × ((w : MappedWriting) → IsBegun order place table w → most_file_bytes ≤ end_offset w)

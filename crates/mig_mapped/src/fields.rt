@@ -1,7 +1,14 @@
-//! Big-endian numbers at their offsets in some bytes, for `head`.
+//! Big-endian numbers at their offsets in some bytes, for `head` and `front`.
 
 ghost use Rattle.std.specs.Prelude.{◌≡◌, ◌+◌, ◌≤◌, length};
-ghost use Rattle.mig_stream.specs.Fields.{be32_at, be64_at};
+ghost use Rattle.mig_stream.specs.Fields.{be16_at, be32_at, be64_at};
+
+pub(crate) fn be16(bytes: &[u8], at: usize) -> u16
+    requires { at + 2 ≤ length bytes.now }
+    ensures { result ≡ be16_at at bytes.now }
+{
+    bytes[at] as u16 * 0x100 + bytes[at + 1] as u16
+}
 
 #[tactic(auto, unfolding(mig_stream::specs::Fields::be32_at))]
 pub(crate) fn be32(bytes: &[u8], at: usize) -> u32

@@ -20,6 +20,7 @@
 mod bitmap;
 mod fault;
 mod fields;
+mod front;
 mod head;
 mod index;
 mod laws;
@@ -28,6 +29,7 @@ mod settings;
 mod write;
 
 pub use fault::{MappedFault, MappedLoadFault, MappedStop};
+pub use front::{MappedFront, end_bytes, front_bytes, front_in, plain_front, with_mapped_ram};
 pub use index::{MappedIndex, MappedRun};
 pub use laws::{faultless_file_is_a_memory, file_has_one_reading, loaded_is_the_memory};
 pub use load::{MappedLoad, MappedWanted};
