@@ -3,3 +3,5 @@ pub mod Shown
 pub mod Naming
 -- The pages that differ
 pub mod Differing
+-- A file and an older one, read in pieces
+pub mod ReadOn

@@ -16,7 +16,8 @@
 //! the names of other blocks' files. Ids and names are printed as printable ASCII, so they can't
 //! control a terminal.
 //!
-//! Definitions: `Shown`, `Naming`; `Differing`, of the pages that differ (`specs/`).
+//! Definitions: `Shown`, `Naming`; `Differing`, of the pages that differ; `ReadOn`, of a file and an
+//! older one that are read in pieces (`specs/`).
 #![tactic(auto)]
 
 mod block_file;
@@ -55,6 +56,6 @@ pub use target::{Outlet, PARTIAL, create, is_free, remove_old, rename, sync, unw
 pub use trouble::{Packed, Trouble, Unfit, wrong};
 pub use watch::Watch;
 pub use words::{
-    ChannelWords, CompareWords, ExtractWords, PageSize, Request, SaveWords, StreamWords, Talk,
-    Unasked, VerifyWords, asked,
+    ChannelWords, CompareWords, ExtractWords, Layout, PageSize, Request, SaveWords, StreamWords,
+    Talk, Unasked, VerifyWords, asked,
 };

@@ -1,6 +1,7 @@
 //! Opens a file for reading, and keeps its name for messages.
 
-ghost use Rattle.std.specs.Prelude.{◌≡◌, ◌≤◌, length, IfOk};
+ghost use Rattle.std.specs.Prelude.{◌≡◌, ◌<◌, ◌≤◌, length, take, IfOk};
+ghost use Rattle.std.specs.Io.KnownBytes.{Consumes, IsAtEnd};
 
 use crate::input::read_piece;
 use crate::pieces::Pieces;
@@ -26,11 +27,7 @@ pub struct Opened<F: Drop> {
 /// `Trouble::OfFile` where it can't be opened, `Trouble::NoMemory`.
 pub fn open<H: Files>(rt: &H, alloc: Global, path: &str) -> Result<Opened<H::File>, Trouble> {
     match File::open(rt, path) {
-        Ok(file) => Ok(Opened {
-            alloc,
-            path: String::from_str(alloc, path)?,
-            file,
-        }),
+        Ok(file) => Opened::new(alloc, path, file),
         Err(error) => Err(unwritten(alloc, path, error)),
     }
 }
@@ -43,7 +40,29 @@ pub fn unfit(alloc: Global, path: &str, why: Unfit) -> Trouble {
     }
 }
 
-impl<F: Read + OpenFile + Drop> Opened<F> {
+impl<F: Drop> Opened<F> {
+    /// Takes `file`, which is open for reading. Messages call it `path`.
+    ///
+    /// # Errors
+    ///
+    /// `Trouble::NoMemory`.
+    pub fn new(alloc: Global, path: &str, file: F) -> Result<Opened<F>, Trouble>
+        ensures { IfOk result (λ opened. opened.file ≡ file) }
+    {
+        Ok(Opened {
+            alloc,
+            path: String::from_str(alloc, path)?,
+            file,
+        })
+    }
+
+    /// Returns the error that this file is unsuitable.
+    pub fn unfit(&self, why: Unfit) -> Trouble {
+        unfit(self.alloc, &self.path, why)
+    }
+}
+
+impl<F: Read + Drop> Opened<F> {
     /// Reads until `buffer` is full or the file ends. Returns how many bytes it read.
     ///
     /// # Errors
@@ -52,6 +71,8 @@ impl<F: Read + OpenFile + Drop> Opened<F> {
     pub fn read(&mut self, buffer: &mut [u8]) -> Result<usize, Trouble>
         ensures len { length buffer.new ≡ length buffer.old }
         ensures count { IfOk result (λ n. n ≤ length buffer.old) }
+        ensures bytes { IfOk result (λ n. Consumes (F.remaining self.old.file) (F.remaining self.new.file) (take n buffer.new)) }
+        ensures end { IfOk result (λ n. n < length buffer.old → IsAtEnd (F.remaining self.new.file)) }
     {
         match read_piece(&mut self.file, buffer) {
             Ok(len) => Ok(len),
@@ -73,7 +94,9 @@ impl<F: Read + OpenFile + Drop> Opened<F> {
             Err(trouble) => Err(trouble),
         }
     }
+}
 
+impl<F: OpenFile + Drop> Opened<F> {
     /// Returns the length of the file in bytes; 0 of a pipe.
     ///
     /// # Errors
@@ -84,10 +107,5 @@ impl<F: Read + OpenFile + Drop> Opened<F> {
             Ok(metadata) => Ok(metadata.len()),
             Err(error) => Err(unwritten(self.alloc, &self.path, error)),
         }
-    }
-
-    /// Returns the error that this file is unsuitable.
-    pub fn unfit(&self, why: Unfit) -> Trouble {
-        unfit(self.alloc, &self.path, why)
     }
 }

@@ -1,13 +1,14 @@
 //! Reads a file and an older one in parallel, some pages at a time, and finds the pages that
 //! differ.
 
-ghost use Rattle.std.specs.Prelude.{◌≡◌, ◌≤◌, ◌↔◌, ◌/◌, ◌<◌, length, IsSome, IfSome, IsTrue};
-ghost use Rattle.zimgasol_files.specs.Differing.{HasPage, page_of, piece_of, Differs};
+ghost use Rattle.std.specs.Prelude.{◌≡◌, ◌≤◌, ◌↔◌, ◌*◌, ◌/◌, ◌<◌, ◌^◌, ℕ, List, [], length, take, drop, Option, IsSome, IfSome, IfOk, OnOk, IsTrue, MatchOption};
+ghost use Rattle.std.specs.Option.{option_copied, option_map};
+ghost use Rattle.zimgasol_files.specs.Differing.{Piece, HasPage, page_of, piece_of, Differs};
+ghost use Rattle.zimgasol_files.specs.ReadOn.{IsLeft, IsOldLeft, IsRead, HasPiece, IsReadTo, ReadsOn};
 
 use crate::opened::Opened;
 use crate::trouble::{Trouble, Unfit};
 use std::alloc::Global;
-use std::fs::OpenFile;
 use std::io::Read;
 
 /// The number of pages that are read at once, and so the most pages of a section.
@@ -32,9 +33,10 @@ fn page_at(bytes: &[u8], page: usize, page_size: usize) -> Option<&[u8]>
 }
 
 impl<'a> Pages<'a> {
-    /// Returns whether no page differs.
+    /// Returns whether the older bytes are the same. Without older bytes all pages count as
+    /// different, so then there have to be no pages.
     pub fn are_same(&self) -> bool
-        ensures { IfSome self.now.before (λ old. IsTrue result ↔ (old.now ≡ self.now.bytes.now)) }
+        ensures { MatchOption self.now.before (IsTrue result ↔ (self.now.bytes.now ≡ [])) (λ old. IsTrue result ↔ (old.now ≡ self.now.bytes.now)) }
     {
         match self.before {
             Some(before) => before == self.bytes,
@@ -75,14 +77,59 @@ pub struct Reading<F: Drop> {
     before: Option<Opened<F>>,
     page_size: usize,
     bytes: Vec<u8>,
-    len: usize,
     old_bytes: Vec<u8>,
-    old_len: usize,
+    // how many bytes of each were read last
+    len: usize,
     // the bytes that weren't read yet
     left: u64,
 }
 
-impl<F: Read + OpenFile + Drop> Reading<F> {
+// Returns the first `len` bytes of `buffer`; none if it hasn't as many.
+fn front(buffer: &[u8], len: usize) -> &[u8]
+    ensures { len ≤ length buffer.now → result.now ≡ take len buffer.now }
+{
+    if len > buffer.len() {
+        return &[];
+    }
+    &buffer[..len]
+}
+
+// Reads `wanted` bytes of `file` into `buffer`.
+fn read_wanted<F: Read + Drop>(
+    file: &mut Opened<F>,
+    buffer: &mut [u8],
+    wanted: usize,
+) -> Result<(), Trouble>
+    ensures len { length buffer.new ≡ length buffer.old }
+    ensures read { OnOk result ((rest : List ℕ) → IsLeft F.remaining file.old rest
+        → IsRead wanted rest buffer.new × IsLeft F.remaining file.new (drop wanted rest)) }
+{
+    let len = file.read(buffer)?;
+    if len != wanted {
+        return Err(file.unfit(Unfit::Changed));
+    }
+    Ok(())
+}
+
+// Reads `wanted` bytes of the older file into `buffer`, if there is one.
+fn read_old<F: Read + Drop>(
+    before: &mut Option<Opened<F>>,
+    buffer: &mut [u8],
+    wanted: usize,
+) -> Result<(), Trouble>
+    ensures len { length buffer.new ≡ length buffer.old }
+    ensures there { IsSome before.new → IsSome before.old }
+    ensures read { OnOk result ((old : Option (List ℕ)) → IsOldLeft F.remaining before.old old
+        → IfSome old (λ rest. IsRead wanted rest buffer.new) × IsOldLeft F.remaining before.new (option_map (λ rest. drop wanted rest) old)) }
+{
+    let Some(file) = before else {
+        return Ok(());
+    };
+    read_wanted(file, buffer, wanted)?;
+    Ok(())
+}
+
+impl<F: Read + Drop> Reading<F> {
     /// Creates the reading of `file` and the older file `before`, before its first byte was read.
     /// `left` is the length that each of them has to have.
     pub fn new(
@@ -91,19 +138,20 @@ impl<F: Read + OpenFile + Drop> Reading<F> {
         before: Option<Opened<F>>,
         page_size: usize,
         left: u64,
-    ) -> Result<Reading<F>, Trouble> {
+    ) -> Result<Reading<F>, Trouble>
+        ensures { IfOk result (λ reading. (rest : List ℕ) (old : Option (List ℕ)) → page_size * 256 < 2 ^ 64
+            → IsLeft F.remaining file rest → IsOldLeft F.remaining before old → IsReadTo F.remaining page_size left rest old reading) }
+    {
         let room = page_size.saturating_mul(PIECE_PAGES);
-        let old_room = if before.is_some() { room } else { 0 };
         let bytes = vec![in alloc; 0u8; room]?;
-        let old_bytes = vec![in alloc; 0u8; old_room]?;
+        let old_bytes = old_buffer(alloc, &before, room)?;
         Ok(Reading {
             file,
             before,
             page_size,
             bytes,
-            len: 0,
             old_bytes,
-            old_len: 0,
+            len: 0,
             left,
         })
     }
@@ -113,20 +161,16 @@ impl<F: Read + OpenFile + Drop> Reading<F> {
     /// # Errors
     ///
     /// `Trouble::OfFile` if a read fails, `Trouble::Unfit` if a file has another length.
-    pub fn read_on(&mut self) -> Result<bool, Trouble> {
+    pub fn read_on(&mut self) -> Result<bool, Trouble>
+        ensures { IfOk result (λ is_more. (size left : ℕ) (rest : List ℕ) (old : Option (List ℕ)) → IsReadTo F.remaining size left rest old self.old
+            → (count : ℕ) × (IsTrue is_more ↔ (0 < count)) × ReadsOn F.remaining size left rest old count self.new) }
+    {
         let wanted = self.left.min(self.bytes.len() as u64) as usize;
-        self.len = self.file.read(&mut self.bytes)?;
-        if self.len != wanted {
-            return Err(self.changed());
-        }
-        if let Some(before) = &mut self.before {
-            self.old_len = before.read(&mut self.old_bytes)?;
-            if self.old_len != wanted {
-                return Err(before.unfit(Unfit::Changed));
-            }
-        }
-        self.left = self.left.saturating_sub(wanted as u64);
-        Ok(wanted != 0)
+        read_wanted(&mut self.file, &mut self.bytes, wanted)?;
+        read_old(&mut self.before, &mut self.old_bytes, wanted)?;
+        self.len = wanted;
+        self.left -= wanted as u64;
+        Ok(wanted > 0)
     }
 
     /// Returns the error that the file's length has changed.
@@ -134,17 +178,40 @@ impl<F: Read + OpenFile + Drop> Reading<F> {
         self.file.unfit(Unfit::Changed)
     }
 
-    /// Returns the pages that were read last.
-    pub fn pages(&self) -> Pages<'_> {
-        let bytes = self.bytes.get(..self.len).unwrap_or(&[]);
-        let before = match self.before {
-            Some(_) => Some(self.old_bytes.get(..self.old_len).unwrap_or(&[])),
+    // Returns the older bytes at the places of those that were read last, if there are any.
+    fn old_front(&self) -> Option<&[u8]>
+        ensures { (IsSome self.now.before → self.now.len ≤ length self.now.old_bytes.items)
+            → option_copied result ≡ option_map (λ _. take self.now.len self.now.old_bytes.items) self.now.before }
+    {
+        match self.before {
+            Some(_) => Some(front(&self.old_bytes, self.len)),
             None => None,
-        };
+        }
+    }
+
+    /// Returns the pages that were read last.
+    pub fn pages(&self) -> Pages<'_>
+        ensures { (piece : Piece) → HasPiece self.now piece → piece_of result ≡ piece }
+    {
         Pages {
-            bytes,
-            before,
+            bytes: front(&self.bytes, self.len),
+            before: self.old_front(),
             page_size: self.page_size,
         }
     }
+}
+
+// Returns the buffer for the older file, if there is one.
+fn old_buffer<F: Drop>(
+    alloc: Global,
+    before: &Option<Opened<F>>,
+    room: usize,
+) -> Result<Vec<u8>, Trouble>
+    ensures { IfOk result (λ v. IsSome before.now → length v.items ≡ room) }
+{
+    let Some(_file) = before else {
+        return Ok(Vec::new(alloc));
+    };
+    let buffer = vec![in alloc; 0u8; room]?;
+    Ok(buffer)
 }

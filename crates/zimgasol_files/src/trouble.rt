@@ -26,6 +26,9 @@ pub enum Trouble {
     LongFront(u64),
     /// A stream of this name can't be read, with the reason.
     Refused(String, &'static str),
+    /// The file has a fault before its memory is read: the byte at which the part with it begins,
+    /// the fault's number, and its message.
+    Fault(u64, u8, &'static str),
     /// These arguments are wrong.
     Words(String, &'static str),
     /// The stream has no block of this id.

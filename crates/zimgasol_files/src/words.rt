@@ -197,6 +197,15 @@ impl ExtractWords<'_> {
     }
 }
 
+/// How a file that is saved has the memory.
+#[derive(Clone, Copy)]
+pub enum Layout {
+    /// As a stream.
+    Stream,
+    /// With QEMU's `mapped-ram`: each page has a place of its own in the file.
+    MappedRam,
+}
+
 /// The arguments of `save`.
 #[derive(Drop)]
 pub struct SaveWords<'a> {
@@ -213,6 +222,7 @@ pub struct SaveWords<'a> {
     pub state: Option<&'a str>,
     /// The folder that `extract` made, of which the pages that differ are saved.
     pub since: Option<&'a str>,
+    pub layout: Layout,
     /// The number of channels on which the pages are sent.
     pub channels: Option<&'a str>,
     /// The UUID of each channel's hello.
@@ -530,6 +540,16 @@ fn saved_frame_option<'a>(alloc: Global) -> Arg<'a> {
         )
 }
 
+fn layout_option<'a>(alloc: Global) -> Arg<'a> {
+    Arg::new(alloc, "layout")
+        .long("layout")
+        .value_name("LAYOUT")
+        .value_parser(ValueParser::from(["stream", "mapped-ram"].as_slice()))
+        .help(
+            "`mapped-ram` gives each page a place of its own in the file (QEMU 9.0 and later) [default: stream]",
+        )
+}
+
 fn machine_option<'a>(alloc: Global) -> Arg<'a> {
     Arg::new(alloc, "machine")
         .long("machine")
@@ -543,6 +563,7 @@ fn save_stream<'a>(alloc: Global) -> Result<Command<'a>, AllocError> {
         .arg(out_arg(alloc))?
         .arg(page_option(alloc))?
         .arg(saved_frame_option(alloc))?
+        .arg(layout_option(alloc))?
         .arg(machine_option(alloc))
 }
 
@@ -729,10 +750,19 @@ fn extract_in<'a>(matches: &ArgMatches<'a>, on_terminal: bool) -> ExtractWords<'
     }
 }
 
-// Returns the frame of a stream that is saved: a machine's if it has a state.
+fn layout_in(matches: &ArgMatches<'_>) -> Layout {
+    match matches.get_str("layout") {
+        Some("mapped-ram") => Layout::MappedRam,
+        _ => Layout::Stream,
+    }
+}
+
+// Returns the frame of a stream that is saved: a machine's if it has a state, and with mapped-ram,
+// which only a machine's configuration can name.
 fn saved_frame_in(matches: &ArgMatches<'_>) -> Frame {
     match (matches.get_str("frame"), matches.get_str("state")) {
         (Some("machine"), _) | (None, Some(_)) => Frame::Machine,
+        (None, None) if matches!(layout_in(matches), Layout::MappedRam) => Frame::Machine,
         _ => Frame::Ram,
     }
 }
@@ -751,6 +781,7 @@ fn save_in<'a>(
         machine: matches.get_str("machine"),
         state: matches.get_str("state"),
         since: matches.get_str("since"),
+        layout: layout_in(matches),
         channels: matches.get_str("channels"),
         uuid: matches.get_str("uuid"),
         replace: matches.get_flag("replace"),

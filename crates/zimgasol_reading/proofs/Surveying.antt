@@ -217,8 +217,8 @@ given_as_asked before after asked =
     ∙ ap (λ p. in_frame before.frame (settings Single p after.limit)) asked.1
     ∙ ap (λ l. in_frame before.frame (settings Single before.page_size l)) asked.2
 
--- The first piece was read before the others, for a survey that asked the same, and libvirt's header
--- is as long for one that has taken the course.
+-- The first piece was read before the others, for a survey that asked the same, and libvirt's
+-- header is as long for one that has taken the course.
 stands_whole : (holds : Option RamTable → List PageRecord → Type 0) (asked first : Survey) (text piece : List ℕ) (before k : ℕ)
     (input after : Option (List ℕ)) (pause : Option Paused) (found : StreamState) (n valid : ℕ) (begun : Bool)
     → IsAsked asked first → input ≡ Some text → length text < 2 ^ 63 → Consumes input after piece → before ≡ k

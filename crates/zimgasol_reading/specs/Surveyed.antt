@@ -35,8 +35,9 @@ pub record IsSurveyed (given : Settings) (text : List ℕ) (state : StreamState)
   -- The blocks of a closed stream are those of its table.
   pub has_table : state ≡ Closed → All (λ byte. byte < 2 ^ 8) text → IsSomeAnd blocks (λ b. reading.table ≡ Some b.recorded.table)
 
--- What took the pages of a stream has its table, and each record so far, in the order of the stream,
--- unless no record came. After a closed stream it has the table and the records of all sections.
+-- What took the pages of a stream has its table, and each record so far, in the order of the
+-- stream, unless no record came. After a closed stream it has the table and the records of all
+-- sections.
 pub record IsTaken (holds : RamTable → List PageRecord → Type 0) (given : Settings) (text : List ℕ) (state : StreamState) : Type 0 where
   pub reading : StreamReading
   pub is_reading : IsReading given text reading

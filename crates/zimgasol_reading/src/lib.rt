@@ -7,7 +7,8 @@
 //!
 //! | Modules | What they do |
 //! |---|---|
-//! | `survey`, `noting`, `beside`, `libvirt`, `heads`, `place` | read a single stream, and locate its fault |
+//! | `survey`, `noting`, `beside` | read a single stream |
+//! | `libvirt`, `heads`, `place` | read libvirt's header, and locate a fault |
 //! | `several`, `main_stream`, `channel`, `lane`, `several_place` | the same of channels |
 //! | `load`, `passing`, `shadow` | load the channels, and pass the pages on |
 //! | `notes` | notes what is between RAM's sections |
@@ -55,5 +56,5 @@ pub use place::{FaultPlace, block_at, fault_of, is_complete, kind_name};
 pub use several::{Several, read_several};
 pub use several_place::{Spot, Within};
 pub use sink::{GuestSink, NoSink, PageSink, SinkTrouble};
-pub use survey::{Survey, read_input, read_stream};
+pub use survey::{Survey, read_input};
 pub use tail::{Ending, Tail, TailFault};

@@ -23,7 +23,7 @@ use crate::tail::{Ending, Tail};
 use mig_mem::Place;
 use mig_stream::{Frame, StreamState};
 use std::alloc::{AllocGlobal, Global};
-use std::fs::{File, Files, Metadata, OpenFile};
+use std::fs::{Files, Metadata};
 use std::io::{Read, Write};
 use std::rt::Clock;
 use zimgasol_course::Course;
@@ -330,28 +330,4 @@ pub fn read_input<H: AllocGlobal + Files + Clock, R: Read, S: GuestSink<H> + Dro
         Ok(()) => (Ok(survey), sink),
         Err(trouble) => (Err(trouble), sink),
     }
-}
-
-/// Reads a stream to its end or to a fault, from its file or from `input`, and passes its pages to
-/// `sink`, which it returns. A fault of the stream is no error: the survey has it.
-///
-/// # Errors
-///
-/// `Trouble::Unread` if the file can't be opened, and those of `read_input`.
-pub fn read_stream<H: AllocGlobal + Files + Clock, R: Read, S: GuestSink<H> + Drop, E: Write>(
-    rt: &H,
-    words: &StreamWords<'_>,
-    input: &mut R,
-    sink: S,
-    errors: &mut E,
-) -> (Result<Survey, Trouble>, S) {
-    if words.file == "-" {
-        return read_input(rt, words, None, input, sink, errors);
-    }
-    let mut file = match File::open(rt, words.file) {
-        Ok(file) => file,
-        Err(error) => return (Err(Trouble::Unread(error)), sink),
-    };
-    let metadata = file.metadata().ok();
-    read_input(rt, words, metadata.as_ref(), &mut file, sink, errors)
 }

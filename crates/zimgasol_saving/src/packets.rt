@@ -8,7 +8,7 @@ ghost use Rattle.std.specs.Prelude.{◌≡◌, ◌+◌, ◌*◌, ◌<◌, ◌≤
 ghost use Rattle.mig_packet.specs.PageSize.{IsPageSize, page_limit};
 ghost use Rattle.mig_packet.specs.Written.{written_packet};
 
-use crate::saving::PieceSink;
+use crate::blocks::PieceSink;
 use crate::send::{MOST_NAME_LEN, write};
 use mig_mem::{NoMemory, Place, Table};
 use mig_packet::{hello, page_limit, put_packet};
@@ -326,6 +326,9 @@ fn last_bytes(main: StreamWriter, frame: Frame) -> Result<Vec<u8>, NoMemory> {
 }
 
 impl<F: Write + OpenFile + Drop> PieceSink for PacketSending<F> {
+    // nothing is told of the channels
+    ghost holds = { λ _ _ _ _ _. ⊥ };
+
     fn send<W: Write>(
         &mut self,
         _out: &mut W,

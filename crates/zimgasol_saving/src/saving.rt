@@ -1,185 +1,58 @@
 //! `save`: makes a single stream from files with the memory of blocks.
-//!
-//! Each file is read in pieces of 256 pages, and each piece is sent as a section, so the guest's
-//! memory is never held.
 
+ghost use Rattle.std.specs.Prelude.{None};
+
+use crate::blocks::{BlockFiles, save_blocks, save_kept};
 use crate::plan::{Plan, Source, plan_of};
 use crate::saving_channels::{ChannelPlan, channel_plan, save_channels};
-use crate::send::Sending;
-use crate::state::write_after;
+use crate::saving_mapped::{check_layout, write_mapped};
+use crate::state::{State, write_after};
 use std::alloc::AllocGlobal;
-use std::fs::{Files, OpenFile};
-use std::io::{self, Read, Write};
+use std::fs::Files;
+use std::io::{self, Write};
 use std::rt::Clock;
 use zimgasol_files::{
-    PARTIAL, Pages, Reading, SaveWords, Trouble, Unfit, Watch, create, is_free, open, rename,
-    shown_name, sync, unwritten,
+    Layout, Opened, PARTIAL, SaveWords, Trouble, Watch, create, is_free, open, rename, shown_name,
+    sync, unwritten,
 };
 
 /// The totals of a save.
 #[derive(Clone, Copy)]
 pub(crate) struct Saved {
-    /// The pages that were sent.
+    /// The pages that were sent; with mapped-ram those that were written, which aren't zeros.
     pub pages: u64,
-    /// The bytes of the stream; of the main stream if there are channels.
+    /// The bytes of the stream, of the main stream if there are channels, or of the file with
+    /// mapped-ram.
     pub bytes: u64,
     /// The number of channels, and the bytes of all of them.
     pub channels: Option<(usize, u64)>,
 }
 
-// Opens the file of a block, and that of `--since`.
-fn reading_of<H: AllocGlobal + Files>(
-    rt: &H,
-    source: &Source,
-    page_size: u64,
-) -> Result<Reading<H::File>, Trouble> {
-    let alloc = rt.alloc();
-    let file = open(rt, alloc, &source.file)?;
-    let before = match &source.before {
-        Some(path) => Some(open(rt, alloc, path)?),
-        None => None,
-    };
-    Reading::new(
-        alloc,
-        file,
-        before,
-        page_size.min(8192) as usize,
-        source.len,
-    )
-}
-
-// A block that is being sent.
-#[derive(Clone, Copy)]
-struct Part<'a> {
-    block: usize,
-    page_size: u64,
-    pages: u64,
-    // the bytes of the blocks before it
-    before: u64,
-    source: &'a Source,
-}
-
-/// Sends the pieces of blocks.
-pub(crate) trait PieceSink: Drop {
-    /// Sends the differing pages of `pages`; the first of `pages` is the block's page `first`.
-    /// Writes the stream to `out`. Returns false if the stream's table lacks the place of one of
-    /// them.
-    fn send<W: Write>(
-        &mut self,
-        out: &mut W,
-        block: usize,
-        first: u64,
-        pages: &Pages<'_>,
-    ) -> Result<bool, Trouble>;
-}
-
-// Sends pieces as sections of a single stream.
+/// The files of a plan.
 #[derive(Drop)]
-struct Single {
-    // None after a piece that couldn't be sent
-    sending: Option<Sending>,
+pub(crate) struct PlanFiles<'a, H> {
+    pub rt: &'a H,
+    pub sources: &'a [Source],
 }
 
-impl PieceSink for Single {
-    fn send<W: Write>(
-        &mut self,
-        out: &mut W,
-        block: usize,
-        first: u64,
-        pages: &Pages<'_>,
-    ) -> Result<bool, Trouble> {
-        let Some(sending) = self.sending.take() else {
-            return Ok(false);
+impl<'a, H: AllocGlobal + Files> BlockFiles for PlanFiles<'a, H> {
+    type File = H::File;
+
+    // nothing is known of the system's files
+    ghost source = { λ _ _. None };
+
+    fn open(&self, block: usize) -> Result<(Opened<H::File>, Option<Opened<H::File>>), Trouble> {
+        let alloc = self.rt.alloc();
+        let Some(source) = self.sources.get(block) else {
+            return Err(Trouble::NoMemory);
         };
-        self.sending = sending.send(out, block, first, pages)?;
-        Ok(self.sending.is_some())
-    }
-}
-
-// Sends the piece that was read last, which begins at the block's page `first`. Returns how many
-// pages it has.
-fn send_piece<F: Read + OpenFile + Drop, S: PieceSink, W: Write>(
-    reading: &Reading<F>,
-    block: usize,
-    first: u64,
-    sink: &mut S,
-    out: &mut W,
-) -> Result<u64, Trouble> {
-    let pages = reading.pages();
-    if !sink.send(out, block, first, &pages)? {
-        return Err(reading.changed());
-    }
-    Ok(pages.count())
-}
-
-// Sends what `reading` reads of a block, piece after piece. Returns how many pages there were.
-fn send_pieces<H: Clock + Files, S: PieceSink, W: Write, E: Write>(
-    rt: &H,
-    part: &Part<'_>,
-    reading: &mut Reading<H::File>,
-    sink: &mut S,
-    out: &mut W,
-    watch: &mut Watch,
-    errors: &mut E,
-) -> Result<u64, Trouble> {
-    let mut first = 0u64;
-    for _ in 0..u64::MAX {
-        if !reading.read_on()? {
-            break;
-        }
-        let count = send_piece(reading, part.block, first, sink, out)?;
-        first = first.saturating_add(count);
-        let bytes = first.saturating_mul(part.page_size);
-        watch.show(rt, errors, part.before.saturating_add(bytes));
-    }
-    Ok(first)
-}
-
-// Sends a block.
-fn send_block<H: AllocGlobal + Files + Clock, S: PieceSink, W: Write, E: Write>(
-    rt: &H,
-    part: &Part<'_>,
-    sink: &mut S,
-    out: &mut W,
-    watch: &mut Watch,
-    errors: &mut E,
-) -> Result<(), Trouble> {
-    let mut reading = reading_of(rt, part.source, part.page_size)?;
-    let pages = send_pieces(rt, part, &mut reading, sink, out, watch, errors)?;
-    if pages != part.pages {
-        return Err(reading.changed());
-    }
-    Ok(())
-}
-
-/// Sends all blocks of `plan`, in their order.
-///
-/// # Errors
-///
-/// `Trouble::OfFile` if a file can't be read, `Trouble::Unfit` if its length has changed, and those
-/// of `sink`.
-pub(crate) fn send_blocks<H: AllocGlobal + Files + Clock, S: PieceSink, W: Write, E: Write>(
-    rt: &H,
-    plan: &Plan,
-    sink: &mut S,
-    out: &mut W,
-    watch: &mut Watch,
-    errors: &mut E,
-) -> Result<(), Trouble> {
-    let page_size = plan.table.page_size();
-    let mut before = 0u64;
-    for (block, source) in plan.sources.iter().enumerate() {
-        let part = Part {
-            block,
-            page_size,
-            pages: source.len / page_size.max(1),
-            before,
-            source,
+        let file = open(self.rt, alloc, &source.file)?;
+        let before = match &source.before {
+            Some(path) => Some(open(self.rt, alloc, path)?),
+            None => None,
         };
-        send_block(rt, &part, sink, out, watch, errors)?;
-        before = before.saturating_add(source.len);
+        Ok((file, before))
     }
-    Ok(())
 }
 
 /// Creates the watch of a save that begins now.
@@ -197,28 +70,47 @@ pub(crate) fn watch_of<H: AllocGlobal + Clock>(
     Ok(watch)
 }
 
-// Begins a stream, and sends all blocks. Returns the stream, which isn't ended.
-fn send_stream<H: AllocGlobal + Files + Clock, W: Write, E: Write>(
+// Saves with the state: writes its bytes before RAM's records, these records, and its bytes after
+// them. Returns how many pages were sent, and how many bytes were written.
+fn save_state<H: AllocGlobal + Files + Clock, W: Write, E: Write>(
+    rt: &H,
+    plan: &Plan,
+    state: &State,
+    out: &mut W,
+    watch: &mut Watch,
+    errors: &mut E,
+) -> Result<(u64, u64), Trouble> {
+    let files = PlanFiles {
+        rt,
+        sources: &plan.sources,
+    };
+    let (table, libvirt, before) = (&plan.table, &state.libvirt, &state.before);
+    let (pages, bytes) = save_kept(
+        rt, table, libvirt, before, state.id, &files, out, watch, errors,
+    )?;
+    write_after(rt, state, out)?;
+    Ok((pages, bytes.saturating_add(state.after_len)))
+}
+
+// Saves without a state. Returns how many pages were sent, and how many bytes were written.
+fn save_plain<H: AllocGlobal + Files + Clock, W: Write, E: Write>(
     rt: &H,
     words: &SaveWords<'_>,
     plan: &Plan,
     out: &mut W,
     watch: &mut Watch,
     errors: &mut E,
-) -> Result<Sending, Trouble> {
-    let alloc = rt.alloc();
-    let sending = match &plan.state {
-        Some(state) => Sending::begin_state(alloc, out, &plan.table, state)?,
-        None => Sending::begin(alloc, out, &plan.table, words.machine)?,
+) -> Result<(u64, u64), Trouble> {
+    let files = PlanFiles {
+        rt,
+        sources: &plan.sources,
     };
-    let mut single = Single {
-        sending: Some(sending),
+    let name = match words.machine {
+        Some(name) => Some(name.as_bytes()),
+        None => None,
     };
-    send_blocks(rt, plan, &mut single, out, watch, errors)?;
-    match single.sending.take() {
-        Some(sending) => Ok(sending),
-        None => Err(Trouble::NoMemory),
-    }
+    let (table, frame) = (&plan.table, words.frame);
+    save_blocks(rt, table, name, frame, &files, out, watch, errors)
 }
 
 // Writes the complete stream to `out`.
@@ -244,17 +136,29 @@ fn write_watched<H: AllocGlobal + Files + Clock, W: Write, E: Write>(
     watch: &mut Watch,
     errors: &mut E,
 ) -> Result<Saved, Trouble> {
-    let sending = send_stream(rt, words, plan, out, watch, errors)?;
-    let (pages, mut bytes) = sending.finish(out, words.frame)?;
-    if let Some(state) = &plan.state {
-        write_after(rt, state, out)?;
-        bytes = bytes.saturating_add(state.after_len);
-    }
+    let (pages, bytes) = match &plan.state {
+        Some(state) => save_state(rt, plan, state, out, watch, errors)?,
+        None => save_plain(rt, words, plan, out, watch, errors)?,
+    };
     Ok(Saved {
         pages,
         bytes,
         channels: None,
     })
+}
+
+// Writes the stream, or the file with mapped-ram, into `file`.
+fn write_layout<H: AllocGlobal + Files + Clock, E: Write>(
+    rt: &H,
+    words: &SaveWords<'_>,
+    plan: &Plan,
+    file: &mut H::File,
+    errors: &mut E,
+) -> Result<Saved, Trouble> {
+    match words.layout {
+        Layout::Stream => write_stream(rt, words, plan, file, errors),
+        Layout::MappedRam => write_mapped(rt, words, plan, file, errors),
+    }
 }
 
 // Writes the stream into the file `partial`, and syncs it to its disk.
@@ -267,7 +171,7 @@ fn write_file<H: AllocGlobal + Files + Clock, E: Write>(
 ) -> Result<Saved, Trouble> {
     let alloc = rt.alloc();
     let mut file = create(rt, alloc, partial)?;
-    let saved = match write_stream(rt, words, plan, &mut file, errors) {
+    let saved = match write_layout(rt, words, plan, &mut file, errors) {
         Ok(saved) => saved,
         Err(Trouble::Output(error)) => return Err(unwritten(alloc, partial, error)),
         Err(trouble) => return Err(trouble),
@@ -309,6 +213,7 @@ fn put_counts<W: Write>(
     name: &str,
     blocks: usize,
     total: u64,
+    layout: Layout,
     saved: Saved,
 ) -> io::Result<()> {
     let pages = saved.pages;
@@ -317,12 +222,13 @@ fn put_counts<W: Write>(
         output,
         "{name}: saved: blocks {blocks}, memory {total} bytes, "
     )?;
-    match saved.channels {
-        Some((channels, all)) => writeln!(
+    match (layout, saved.channels) {
+        (Layout::MappedRam, _) => writeln!(output, "pages {pages}, file {bytes} bytes"),
+        (Layout::Stream, Some((channels, all))) => writeln!(
             output,
             "pages {pages}, stream {bytes} bytes, channels {channels} of {all} bytes together"
         ),
-        None => writeln!(output, "pages {pages}, stream {bytes} bytes"),
+        (Layout::Stream, None) => writeln!(output, "pages {pages}, stream {bytes} bytes"),
     }
 }
 
@@ -331,11 +237,12 @@ fn put_saved<W: Write>(
     output: &mut W,
     name: &str,
     plan: &Plan,
+    layout: Layout,
     saved: Saved,
 ) -> Result<(), Trouble> {
     let blocks = plan.sources.len();
     let total = plan.total();
-    match put_counts(output, name, blocks, total, saved) {
+    match put_counts(output, name, blocks, total, layout, saved) {
         Ok(()) => Ok(()),
         Err(error) => Err(Trouble::Output(error)),
     }
@@ -379,7 +286,7 @@ fn save_files<H: AllocGlobal + Files + Clock, W: Write, E: Write>(
     if words.talk.quiet {
         return Ok(());
     }
-    put_saved(output, &name, plan, saved)
+    put_saved(output, &name, plan, words.layout, saved)
 }
 
 /// Saves the memory of blocks as a stream, with channels if the arguments ask for them. Returns
@@ -387,8 +294,8 @@ fn save_files<H: AllocGlobal + Files + Clock, W: Write, E: Write>(
 ///
 /// # Errors
 ///
-/// Those of `channel_plan` and `plan_of`, `Trouble::Exists` and `Trouble::Unfit` of OUT,
-/// `Trouble::OfFile` if a file can't be read or written: then all files are removed.
+/// Those of `check_layout`, `channel_plan` and `plan_of`, `Trouble::Exists` and `Trouble::Unfit` of
+/// OUT, `Trouble::OfFile` if a file can't be read or written: then all files are removed.
 /// `Trouble::Output` if `output` can't be written: a stream that was saved in a file stays.
 pub fn save<H: AllocGlobal + Files + Clock, W: Write, E: Write>(
     rt: &H,
@@ -396,6 +303,7 @@ pub fn save<H: AllocGlobal + Files + Clock, W: Write, E: Write>(
     output: &mut W,
     errors: &mut E,
 ) -> Result<bool, Trouble> {
+    check_layout(rt.alloc(), words)?;
     let channels = channel_plan(rt.alloc(), words)?;
     let plan = plan_of(rt, words)?;
     if words.file == "-" {

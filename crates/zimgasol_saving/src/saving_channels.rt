@@ -1,8 +1,9 @@
 //! `save --channels`: makes a main stream and channels, each in a file.
 
+use crate::blocks::send_blocks;
 use crate::packets::PacketSending;
 use crate::plan::Plan;
-use crate::saving::{Saved, send_blocks, watch_of};
+use crate::saving::{PlanFiles, Saved, watch_of};
 use mig_stream::Frame;
 use std::alloc::{AllocError, AllocGlobal, Global};
 use std::fs::{Files, OpenFile};
@@ -116,7 +117,11 @@ fn send_all<H: AllocGlobal + Files + Clock, E: Write>(
     errors: &mut E,
 ) -> Result<(), Trouble> {
     let mut watch = watch_of(rt, words, plan)?;
-    let sent = send_blocks(rt, plan, sending, out, &mut watch, errors);
+    let files = PlanFiles {
+        rt,
+        sources: &plan.sources,
+    };
+    let sent = send_blocks(rt, &plan.table, &files, sending, out, &mut watch, errors);
     watch.end(errors);
     sent
 }

@@ -1,13 +1,18 @@
 //! Writes the single stream of `save`: a section for each piece that has pages to send.
 
-ghost use Rattle.std.specs.Prelude.{◌≡◌, ◌+◌, ◌++◌, ◌∷◌, [], ℕ, List, IfOk, IfSome, IsTrue};
+ghost use Rattle.std.specs.Prelude.{◌≡◌, ◌+◌, ◌++◌, ◌∷◌, [], ℕ, List, Option, Some, None, IfOk, IfSome, OnOk, IsTrue};
+ghost use Rattle.std.specs.Io.KnownBytes.{Appends};
+ghost use Rattle.std.specs.Option.{option_copied};
 ghost use Rattle.mig_mem.specs.Image.{Page};
+ghost use Rattle.mig_mem.specs.RamTable.{RamTable};
+ghost use Rattle.mig_stream.specs.declared.item.Section.{Section};
+ghost use Rattle.mig_stream.specs.Text.{Record, section};
 ghost use Rattle.mig_stream.specs.Writer.{HasPut};
-ghost use Rattle.mig_send.specs.Sending.{HasSentDrained};
+ghost use Rattle.mig_stream.specs.Written.{written_id};
 ghost use Rattle.zimgasol_files.specs.Differing.{piece_of, AreSent};
+ghost use Rattle.zimgasol_saving.specs.Written.{Front, Named, Kept, IsSending, IsStreamOf, Ends, HasSentSection, SendsPiece};
 
 use crate::section::{set_section_id, start_end};
-use crate::state::State;
 use mig_mem::{NoMemory, Place, Table};
 use mig_send::{OpenRound, SingleSender};
 use mig_stream::Frame;
@@ -107,9 +112,7 @@ fn send_section(
     first: u64,
     pages: &Pages<'_>,
 ) -> Result<Option<(u64, SingleSender)>, NoMemory>
-    ensures sent { IfOk result (λ r. IfSome r (λ s. (sent : List Page) × AreSent block first (piece_of pages.now) 256 sent
-        × ((drained : List ℕ) (rounds : List (List Page)) → HasSentDrained drained sender rounds
-        → HasSentDrained drained s.1 (rounds ++ sent ∷ [])))) }
+    ensures sent { IfOk result (λ r. IfSome r (λ s. HasSentSection block first (piece_of pages.now) sender s.1)) }
 {
     let Ok(mut round) = sender.begin_round() else {
         return Err(NoMemory);
@@ -128,27 +131,63 @@ fn send_section(
 /// # Errors
 ///
 /// `Trouble::Output` if `out` doesn't take them.
-pub(crate) fn write<W: Write>(out: &mut W, bytes: &[u8]) -> Result<(), Trouble> {
+pub(crate) fn write<W: Write>(out: &mut W, bytes: &[u8]) -> Result<(), Trouble>
+    ensures { OnOk result (Appends (W.contents out.old) (W.contents out.new) bytes.now) }
+{
     match out.write_all(bytes) {
         Ok(()) => Ok(()),
         Err(error) => Err(Trouble::Output(error)),
     }
 }
 
-// Writes the first bytes of a machine's stream, with its name. Returns their number, and the
-// sender.
+// Sets the section's id, if it isn't the sender's.
+fn set_id(bytes: &mut Vec<u8>, id: Option<u32>)
+    ensures none { id ≡ None → bytes.new ≡ bytes.old }
+    ensures section { (own : ℕ) (table : RamTable) (kind : Section) (records : List Record) → id ≡ Some own
+        → bytes.old.items ≡ section table kind written_id records → bytes.new.items ≡ section table kind own records }
+{
+    let Some(id) = id else {
+        return;
+    };
+    set_section_id(bytes, id);
+}
+
+// Begins a stream without a name, of which nothing is written yet.
+fn begin_plain(alloc: Global, table: &Table) -> Result<Sending, Trouble>
+    ensures { IfOk result (λ s. IsSending s (Named None) table.now [] []) }
+{
+    let sender = SingleSender::new(alloc, table)?;
+    Ok(Sending {
+        sender,
+        bytes: Vec::new(alloc),
+        pages: 0,
+        written: 0,
+        id: None,
+    })
+}
+
+// Begins a machine's stream: writes its first bytes, with its name.
 fn begin_named<W: Write>(
     alloc: Global,
     out: &mut W,
     table: &Table,
     name: &[u8],
-) -> Result<(usize, SingleSender), Trouble> {
+) -> Result<Sending, Trouble>
+    ensures { IfOk result (λ s. (first : List ℕ) × Appends (W.contents out.old) (W.contents out.new) first
+        × IsSending s (Named (Some name.now)) table.now first []) }
+{
     if name.len() > MOST_NAME_LEN {
         return Err(Trouble::NoMemory);
     }
     let (first, sender) = SingleSender::with_configuration(alloc, table, name)?;
     write(out, &first)?;
-    Ok((first.len(), sender))
+    Ok(Sending {
+        sender,
+        bytes: Vec::new(alloc),
+        pages: 0,
+        written: first.len() as u64,
+        id: None,
+    })
 }
 
 impl Sending {
@@ -162,48 +201,50 @@ impl Sending {
         alloc: Global,
         out: &mut W,
         table: &Table,
-        name: Option<&str>,
-    ) -> Result<Sending, Trouble> {
-        let (written, sender) = match name {
-            Some(name) => begin_named(alloc, out, table, name.as_bytes())?,
-            None => (0, SingleSender::new(alloc, table)?),
+        name: Option<&[u8]>,
+    ) -> Result<Sending, Trouble>
+        ensures { IfOk result (λ s. (first : List ℕ) × Appends (W.contents out.old) (W.contents out.new) first
+            × IsSending s (Named (option_copied name.entry)) table.now first []) }
+    {
+        let Some(name) = name else {
+            let sending = begin_plain(alloc, table)?;
+            return Ok(sending);
         };
-        Ok(Sending {
-            sender,
-            bytes: Vec::new(alloc),
-            pages: 0,
-            written: written as u64,
-            id: None,
-        })
+        begin_named(alloc, out, table, name)
     }
 
-    /// Begins the stream of a machine with its state: writes the bytes before RAM's records, and
+    /// Begins the stream of a machine that is restored: writes the bytes before RAM's records, and
     /// the end of START. The machine's blocks are those of `table`.
     ///
     /// # Errors
     ///
     /// `Trouble::Output` if `out` can't be written, `Trouble::NoMemory`.
-    pub(crate) fn begin_state<W: Write>(
+    pub(crate) fn begin_kept<W: Write>(
         alloc: Global,
         out: &mut W,
         table: &Table,
-        state: &State,
-    ) -> Result<Sending, Trouble> {
+        libvirt: &[u8],
+        before: &[u8],
+        id: u32,
+    ) -> Result<Sending, Trouble>
+        ensures { IfOk result (λ s. (first : List ℕ) × Appends (W.contents out.old) (W.contents out.new) first
+            × IsSending s (Kept (libvirt.now ++ before.now) id) table.now first []) }
+    {
         let (_, mut sender) = SingleSender::with_configuration(alloc, table, &[])?;
         // START as the sender writes it: the machine's own is among the bytes before the records
         let mut bytes = Vec::new(alloc);
         sender.drain_into(&mut bytes);
-        let end = start_end(state.id);
-        write(out, &state.libvirt)?;
-        write(out, &state.before)?;
+        let end = start_end(id);
+        write(out, libvirt)?;
+        write(out, before)?;
         write(out, &end)?;
-        let before = state.libvirt.len().saturating_add(state.before.len());
+        let front = libvirt.len().saturating_add(before.len());
         Ok(Sending {
             sender,
             bytes,
             pages: 0,
-            written: before.saturating_add(end.len()) as u64,
-            id: Some(state.id),
+            written: front.saturating_add(end.len()) as u64,
+            id: Some(id),
         })
     }
 
@@ -219,7 +260,10 @@ impl Sending {
         block: usize,
         first: u64,
         pages: &Pages<'_>,
-    ) -> Result<Option<Sending>, Trouble> {
+    ) -> Result<Option<Sending>, Trouble>
+        ensures { IfOk result (λ r. IfSome r (λ s.
+            SendsPiece (IsSending self) (IsSending s) (W.contents out.old) (W.contents out.new) block first (piece_of pages.now))) }
+    {
         if pages.are_same() {
             return Ok(Some(self));
         }
@@ -234,9 +278,7 @@ impl Sending {
             return Ok(None);
         };
         sender.drain_into(&mut bytes);
-        if let Some(id) = id {
-            set_section_id(&mut bytes, id);
-        }
+        set_id(&mut bytes, id);
         write(out, &bytes)?;
         Ok(Some(Sending {
             sender,
@@ -254,7 +296,10 @@ impl Sending {
     /// # Errors
     ///
     /// `Trouble::Output` if `out` can't be written, `Trouble::NoMemory`.
-    pub(crate) fn finish<W: Write>(self, out: &mut W, frame: Frame) -> Result<(u64, u64), Trouble> {
+    pub(crate) fn finish<W: Write>(self, out: &mut W, frame: Frame) -> Result<(u64, u64), Trouble>
+        ensures { OnOk result ((front : Front) (table : RamTable) (text : List ℕ) (pages : List Page) → IsSending self front table text pages
+            → (last : List ℕ) × Appends (W.contents out.old) (W.contents out.new) last × IsStreamOf front table pages (text ++ last)) }
+    {
         let Sending {
             sender,
             bytes: _,
@@ -262,25 +307,54 @@ impl Sending {
             written,
             id,
         } = self;
-        let mut last = last_bytes(sender, frame)?;
-        match (frame, id) {
-            (_, Some(id)) => set_section_id(&mut last, id),
-            (Frame::Machine, None) => last.push(0)?,
-            (Frame::Ram, None) => {}
-        }
+        let last = last_bytes(sender, frame, id)?;
         write(out, &last)?;
         Ok((pages, written.saturating_add(last.len() as u64)))
     }
 }
 
-// Returns the last bytes of a stream; of a machine's, those up to the end of RAM.
-fn last_bytes(sender: SingleSender, frame: Frame) -> Result<Vec<u8>, NoMemory> {
-    let ended = match frame {
-        Frame::Ram => sender.finish(),
-        Frame::Machine => sender.finish_open(),
+// Returns the last bytes of a stream; of one with a state, those up to the end of RAM, whose
+// section has the id `id`.
+fn last_bytes(sender: SingleSender, frame: Frame, id: Option<u32>) -> Result<Vec<u8>, NoMemory>
+    ensures { IfOk result (λ last. Ends id sender last.items) }
+{
+    match (id, frame) {
+        (Some(id), _) => state_end(sender, id),
+        (None, Frame::Ram) => ram_end(sender),
+        (None, Frame::Machine) => machine_end(sender),
+    }
+}
+
+// Ends a stream of RAM.
+fn ram_end(sender: SingleSender) -> Result<Vec<u8>, NoMemory>
+    ensures { IfOk result (λ last. Ends None sender last.items) }
+{
+    match sender.finish() {
+        Ok(last) => Ok(last),
+        Err(_) => Err(NoMemory),
+    }
+}
+
+// Ends a machine's stream that has no devices.
+fn machine_end(sender: SingleSender) -> Result<Vec<u8>, NoMemory>
+    ensures { IfOk result (λ last. Ends None sender last.items) }
+{
+    let Ok(mut last) = sender.finish_open() else {
+        return Err(NoMemory);
     };
-    match ended {
-        Ok(bytes) => Ok(bytes),
+    last.push(0)?;
+    Ok(last)
+}
+
+// Ends RAM in a machine's stream whose devices follow.
+fn state_end(sender: SingleSender, id: u32) -> Result<Vec<u8>, NoMemory>
+    ensures { IfOk result (λ last. Ends (Some id) sender last.items) }
+{
+    match sender.finish_open() {
+        Ok(mut last) => {
+            set_section_id(&mut last, id);
+            Ok(last)
+        }
         Err(_) => Err(NoMemory),
     }
 }

@@ -15,7 +15,12 @@ use zimgasol_files::{
     AFTER_NAME, BEFORE_NAME, LIBVIRT_NAME, Trouble, Unfit, open, piece_buffer, shown_name,
     state_path, unwritten,
 };
-use zimgasol_reading::{MOST_FRONT_LEN, Notes, Tail, TailFault, header_of};
+use zimgasol_reading::{MOST_FRONT_LEN, Noted, Notes, Tail, TailFault, header_of};
+
+/// The number of the COMMAND `MIG_CMD_POSTCOPY_ADVISE`, and its length if a stream allows postcopy.
+const POSTCOPY_ADVISE: u16 = 3;
+
+const PAGE_SIZES_LEN: u16 = 16;
 
 /// The state of a machine, which is written around RAM's sections.
 #[derive(Drop)]
@@ -26,6 +31,8 @@ pub(crate) struct State {
     pub before: Vec<u8>,
     /// The id of RAM's section.
     pub id: u32,
+    /// Whether the stream allows postcopy, so that QEMU loads it with `postcopy-ram` alone.
+    pub is_postcopy: bool,
     /// The path of the file with the bytes after RAM, and its length.
     pub after: String,
     pub after_len: u64,
@@ -99,6 +106,7 @@ struct Beginning {
     id: u32,
     table: Table,
     leaves_shared_out: bool,
+    is_postcopy: bool,
 }
 
 // Feeds `piece` to `reader`, and notes what it passes over. Returns whether the stream continues
@@ -116,6 +124,16 @@ fn is_read(
     reader.feed_reporting(piece, report)?;
     notes.take(report)?;
     Ok(matches!(reader.state(), StreamState::Reading) && reader.valid_up_to() == reader.fed())
+}
+
+// Returns whether a COMMAND is noted by which a stream allows postcopy, which has the page sizes.
+fn allows_postcopy(notes: &Notes) -> bool {
+    for note in &notes.notes {
+        if let Noted::Command(POSTCOPY_ADVISE, PAGE_SIZES_LEN) = &note.noted {
+            return true;
+        }
+    }
+    false
 }
 
 // Returns what `bytes` say; None unless they are the beginning of a machine's stream with pages of
@@ -136,11 +154,13 @@ fn beginning_of(alloc: Global, bytes: &[u8], page_size: u64) -> Result<Option<Be
         return Ok(None);
     }
     let leaves_shared_out = notes.leaves_shared_out();
+    let is_postcopy = allows_postcopy(&notes);
     match reader.table() {
         Some(table) => Ok(Some(Beginning {
             id,
             table: table.try_copy()?,
             leaves_shared_out,
+            is_postcopy,
         })),
         None => Ok(None),
     }
@@ -169,6 +189,14 @@ fn beginning_in<H: AllocGlobal + Files>(
             "the machine left out shared memory (`x-ignore-shared`), which isn't written again",
         )),
         Some(beginning) => Ok((bytes, beginning)),
+    }
+}
+
+/// Returns the error that the bytes before RAM in the state of `folder` are refused.
+pub(crate) fn refused_beginning(alloc: Global, folder: &str, why: &'static str) -> Trouble {
+    match state_path(alloc, folder, BEFORE_NAME, "") {
+        Ok(path) => refused(alloc, &path, why),
+        Err(_) => Trouble::NoMemory,
     }
 }
 
@@ -223,11 +251,17 @@ pub(crate) fn state_in<H: AllocGlobal + Files>(
     let (before, beginning) = beginning_in(rt, folder, page_size)?;
     let after = state_path(rt.alloc(), folder, AFTER_NAME, "")?;
     let after_len = after_len(rt, &after)?;
-    let Beginning { id, table, .. } = beginning;
+    let Beginning {
+        id,
+        table,
+        is_postcopy,
+        ..
+    } = beginning;
     let state = State {
         libvirt,
         before,
         id,
+        is_postcopy,
         after,
         after_len,
     };

@@ -1,5 +1,5 @@
 use Rattle.std.proofs.Common.{refl}
-use Rattle.zimgasol_files.proofs.Inputs.{keeps_same, keeps_then, reads_ok}
+use Rattle.zimgasol_files.proofs.Inputs.{keeps_same}
 use Rattle.zimgasol_files.proofs.input.read_some.Goals as goal
 
 pub tries-init : goal.tries-init

@@ -1,0 +1,3 @@
+mod SentPages
+mod Streams
+mod BlockSteps

@@ -1,0 +1,6 @@
+-- The pages that are sent
+pub mod Sent
+-- The stream of them
+pub mod Written
+-- The blocks
+pub mod Blocks
