@@ -219,8 +219,11 @@ fn extracted<'a, H: AllocGlobal + Files + Clock + Threads + Sync, R: Read, E: Wr
     input: &mut R,
     errors: &mut E,
 ) -> Result<Option<Folder>, Trouble> {
+    let mut stream = *words;
+    // no line on a complete stream, nor on the bytes that it would name
+    stream.talk.quiet = true;
     let extract = ExtractWords {
-        stream: *words,
+        stream,
         folder: path,
         block: None,
         since: None,

@@ -5,10 +5,13 @@
 //! block in another folder, and the stream's pages are written over it. The state of a machine
 //! beside its RAM is written into files of its own.
 
+ghost use Rattle.std.specs.Prelude.{[], OnOk};
+ghost use Rattle.zimgasol_filling.specs.Filled.{HasTakenInto, KeepsInto};
+
 use crate::leftovers::{leftovers, put_leftovers};
+use crate::opening::read_stream;
 use crate::state_files::StateFiles;
-use mig_mem::{Dirty, NoMemory, Place, Table};
-use mig_zero::is_zero;
+use mig_mem::{Place, Table};
 use serde_json::{Map, Value, put};
 use std::alloc::{AllocGlobal, Global};
 use std::fs::{Files, OpenFile};
@@ -18,26 +21,15 @@ use std::str;
 use std::thread::Threads;
 use zimgasol_files::{
     BlockFile, BlockNames, ChannelWords, DigestWords, Digester, Digests, ExtractWords, Folder,
-    LIST_NAME, PARTIAL, StreamWords, Talk, Trouble, Unfit, Watch, block_value, complete_file,
-    create, is_free, names_in, open, path_in, piece_buffer, read_folder, rename, shown, shown_name,
-    unfit, unwritten, write_at, write_text, wrong,
+    FolderBlock, LIST_NAME, PARTIAL, StreamWords, Talk, Trouble, Unfit, Watch, block_value,
+    complete_file, create, is_free, names_in, open, path_in, read_folder, rename, shown,
+    shown_name, unfit, unwritten, write_text, wrong,
 };
+use zimgasol_filling::{BlockFiles, Filling};
 use zimgasol_output::{put_judgement, put_several_judgement, tail_state};
 use zimgasol_reading::{
     Ending, GuestSink, PageSink, Several, SinkTrouble, Survey, is_complete, read_several,
-    read_stream,
 };
-
-/// The most bytes of consecutive pages that are written at once.
-const RUN_LEN: usize = 262_144;
-
-// Consecutive pages of one file that aren't written yet, and the byte at which they begin.
-#[derive(Drop)]
-struct Run {
-    file: usize,
-    start: u64,
-    bytes: Vec<u8>,
-}
 
 // The folder that blocks are extracted into, and their files.
 #[derive(Drop)]
@@ -64,11 +56,8 @@ struct Extraction<H: Files> {
     page_size: u64,
     // the folder of `--since`
     since: Option<Folder>,
-    files: Vec<BlockFile<H::File>>,
-    // the pages that may have other bytes than zeros in their files
-    written: Option<Dirty>,
-    run: Run,
-    zeros: Vec<u8>,
+    // the files, and the pages that are put into them
+    filling: Filling<BlockFiles<H::File>>,
     state: StateFiles<H::File>,
 }
 
@@ -85,10 +74,9 @@ impl<H: Files> Extraction<H> {
             Some(id) => Some(String::from_str(alloc, id)?),
             None => None,
         };
-        let zeros = vec![in alloc; 0u8; 8192]?;
         let input = String::from_str(alloc, words.stream.file)?;
         let state = StateFiles::<H::File>::new(alloc, words.folder, words.keeps_state())?;
-        let bytes = Vec::with_capacity(alloc, RUN_LEN)?;
+        let filling = Filling::new(alloc, BlockFiles::new(alloc))?;
         Ok(Extraction {
             alloc,
             folder,
@@ -103,14 +91,7 @@ impl<H: Files> Extraction<H> {
             made: false,
             page_size: words.stream.page_size.bytes(),
             since,
-            files: Vec::new(alloc),
-            written: None,
-            run: Run {
-                file: 0,
-                start: 0,
-                bytes,
-            },
-            zeros,
+            filling,
             state,
         })
     }
@@ -138,14 +119,14 @@ impl<H: Files> Extraction<H> {
         self.is_free(rt, &names.path)?;
         // nothing takes memory between the file's making and its place in `files`
         let id = id.to_vec(self.alloc)?;
-        self.files.reserve(1)?;
+        self.filling.target.reserve()?;
         let file = create(rt, self.alloc, &names.partial_path)?;
         let BlockNames {
             name,
             path,
             partial_path,
         } = names;
-        self.files.push(BlockFile {
+        self.filling.target.push(BlockFile {
             block,
             id,
             name,
@@ -170,59 +151,10 @@ impl<H: Files> Extraction<H> {
         Ok(())
     }
 
-    // Returns the index of a block's file; None if the block isn't extracted.
-    fn file_of(&self, block: usize) -> Option<usize> {
-        self.files.iter().position(|file| file.block == block)
-    }
-
-    // Writes a page to the byte `at` of a file. A page that follows the pages that wait is written
-    // with them.
-    fn write_page(&mut self, file: usize, at: u64, page: &[u8]) -> Result<(), SinkTrouble> {
-        let follows = self.run.start.saturating_add(self.run.bytes.len() as u64);
-        if file != self.run.file || at != follows || self.run.bytes.len() >= RUN_LEN {
-            self.write_run()?;
-            self.run.file = file;
-            self.run.start = at;
-        }
-        self.run.bytes.extend_from_slice(page)?;
-        Ok(())
-    }
-
-    // Writes the pages that wait.
-    fn write_run(&mut self) -> Result<(), SinkTrouble> {
-        if self.run.bytes.is_empty() {
-            return Ok(());
-        }
-        if self.run.file < self.files.len() {
-            let file = &mut self.files[self.run.file];
-            if let Err(error) = write_at(&mut file.file, self.run.start, &self.run.bytes) {
-                return Err(SinkTrouble::unwritten(self.alloc, &file.partial_path, error));
-            }
-        }
-        self.run.bytes.clear();
-        Ok(())
-    }
-
-    // Returns whether a page has to be written: it isn't zeros, or its file may have other bytes
-    // there.
-    fn note(&mut self, place: Place, is_zero: bool) -> Result<bool, NoMemory> {
-        let Some(written) = &mut self.written else {
-            return Ok(false);
-        };
-        if !written.table().holds(place) {
-            return Ok(false);
-        }
-        if is_zero {
-            return Ok(written.has(place));
-        }
-        let _was = written.mark(place)?;
-        Ok(true)
-    }
-
     // Gives all files their final names, the list last.
     fn rename_all(&self, rt: &H) -> Result<(), Trouble> {
         self.state.complete(rt)?;
-        for file in &self.files {
+        for file in &self.filling.target.files {
             rename(rt, self.alloc, &file.partial_path, &file.path)?;
         }
         rename(rt, self.alloc, &self.list_partial, &self.list_path)
@@ -241,7 +173,7 @@ impl<H: Files> Extraction<H> {
     // Returns the entries on the blocks.
     fn entries(&self) -> Result<Value, Trouble> {
         let mut list = Vec::new(self.alloc);
-        for file in &self.files {
+        for file in &self.filling.target.files {
             list.push(block_value(self.alloc, file)?)?;
         }
         Ok(Value::Array(list))
@@ -263,7 +195,7 @@ impl<H: Files> Extraction<H> {
     // Removes the files that have no final name, and the folder if this run made it. It takes no
     // memory.
     fn remove(&self, rt: &H) {
-        for file in &self.files {
+        for file in &self.filling.target.files {
             let _left = rt.remove_file(&file.partial_path);
         }
         let _left = rt.remove_file(&self.list_partial);
@@ -278,7 +210,7 @@ impl<H: Files + Clock + Threads + Sync> Extraction<H> {
     // Sets the length of each file, and syncs it to its disk.
     fn complete_files(&mut self) -> Result<(), Trouble> {
         let durable = self.durable;
-        for file in &mut self.files {
+        for file in &mut self.filling.target.files {
             match complete_file(file, durable) {
                 Ok(()) => {}
                 Err(Trouble::Unread(error)) => {
@@ -300,7 +232,7 @@ impl<H: Files + Clock + Threads + Sync> Extraction<H> {
         digester: &mut Digester,
         errors: &mut E,
     ) -> Result<(), Trouble> {
-        for file in &mut self.files {
+        for file in &mut self.filling.target.files {
             match digester.digests_of(rt, &mut file.file, errors) {
                 Ok(digests) => file.digests = digests,
                 Err(Trouble::Unread(error)) => {
@@ -318,7 +250,7 @@ impl<H: Files + Clock + Threads + Sync> Extraction<H> {
             return Ok(());
         }
         let mut total = 0u64;
-        for file in &self.files {
+        for file in &self.filling.target.files {
             total = total.saturating_add(file.len);
         }
         let watch = Watch::new(rt, self.alloc, self.talk, &self.input)?;
@@ -336,7 +268,7 @@ impl<H: Files + Clock + Threads + Sync> Extraction<H> {
         ending: &Ending,
         errors: &mut E,
     ) -> Result<(), Trouble> {
-        self.write_run()?;
+        self.filling.write_run()?;
         self.complete_files()?;
         self.digest_files(rt, errors)?;
         self.write_list(rt, ending)?;
@@ -372,80 +304,78 @@ fn is_wanted(block: &Option<String>, id: &[u8]) -> bool {
     }
 }
 
+// Returns the block of the folder `since` that `file` is a copy of.
+fn older_block<'a, F: Drop>(
+    alloc: Global,
+    since: &'a Folder,
+    file: &BlockFile<F>,
+) -> Result<&'a FolderBlock, Trouble> {
+    let id = str::from_utf8(&file.id).unwrap_or("");
+    since.block_like(alloc, id, id, file.len)
+}
+
 impl<H: Files> Extraction<H> {
-    // Copies all blocks of the folder `since`. `blocks` is the number of blocks of the stream.
-    fn begin_since(&mut self, rt: &H, since: &Folder, blocks: usize) -> Result<(), Trouble> {
+    // Makes the files of the blocks that the folder `since` has and the stream hasn't. `blocks` is
+    // the number of blocks of the stream.
+    fn open_since(&mut self, rt: &H, since: &Folder, blocks: usize) -> Result<(), Trouble> {
         for (number, other) in since.blocks.iter().enumerate() {
             let id = other.id.as_bytes();
             if !self.has_block(id) && is_wanted(&self.block, id) {
                 self.open_block(rt, id, blocks.saturating_add(number), other.len)?;
             }
         }
-        for file in 0..self.files.len() {
-            self.copy_since(rt, since, file)?;
-        }
         Ok(())
     }
 
     // Returns whether the block `id` has a file.
     fn has_block(&self, id: &[u8]) -> bool {
-        self.files.iter().any(|file| file.id.as_slice() == id)
+        self.filling
+            .target
+            .files
+            .iter()
+            .any(|file| file.id.as_slice() == id)
+    }
+
+    // Copies all blocks of the folder `since` into their files.
+    fn copy_all(&mut self, rt: &H, since: &Folder) -> Result<(), Trouble>
+        ensures { OnOk result (KeepsInto self.old.filling self.new.filling) }
+    {
+        for file in 0..self.filling.target.files.len() {
+            self.copy_since(rt, since, file)?;
+        }
+        Ok(())
     }
 
     // Copies a block of the folder `since` into its file, except for pages of zeros.
-    fn copy_since(&mut self, rt: &H, since: &Folder, file: usize) -> Result<(), Trouble> {
-        let Some(there) = self.files.get(file) else {
+    fn copy_since(&mut self, rt: &H, since: &Folder, file: usize) -> Result<(), Trouble>
+        ensures { OnOk result (KeepsInto self.old.filling self.new.filling) }
+    {
+        let Some(there) = self.filling.target.files.get(file) else {
             return Ok(());
         };
-        let id = str::from_utf8(&there.id).unwrap_or("");
         let block = there.block;
-        let before = since.block_like(self.alloc, id, id, there.len)?;
+        let before = older_block(self.alloc, since, there)?;
         let mut input = open(rt, self.alloc, &before.path)?;
-        let mut buffer = piece_buffer(self.alloc)?;
-        let mut at = 0u64;
-        for _ in 0..u64::MAX {
-            let len = input.read(&mut buffer)?;
-            if len == 0 {
-                break;
-            }
-            self.put_pages(block, at, &buffer[..len])?;
-            at = at.saturating_add(len as u64);
-        }
-        if at != before.len {
+        let copied = self.filling.copy(block, &mut input)?;
+        if copied != Some(before.len) {
             return Err(input.unfit(Unfit::Changed));
         }
         Ok(())
     }
 
-    // Puts the pages in `bytes`, which begin at the byte `at` of a block.
-    fn put_pages(&mut self, block: usize, at: u64, bytes: &[u8]) -> Result<(), Trouble> {
-        let size = self.page_size.max(1);
-        let mut page = at / size;
-        for content in bytes.chunks(size.min(8192) as usize) {
-            self.put_page(Place { block, page }, Some(content))?;
-            page = page.saturating_add(1);
-        }
-        Ok(())
-    }
-
-    // Puts the content of a page: its bytes, or None for a page of zeros.
-    fn put_page(&mut self, place: Place, content: Option<&[u8]>) -> Result<(), SinkTrouble> {
-        let Some(file) = self.file_of(place.block) else {
+    // Makes the files of all blocks, which have zeros alone, or a copy of the folder of `--since`.
+    fn begin_files(&mut self, rt: &H, table: &Table) -> Result<(), Trouble>
+        ensures { OnOk result (HasTakenInto self.new.filling table.now []) }
+    {
+        self.open_blocks(rt, table)?;
+        let Some(since) = self.since.take() else {
+            self.filling.begin(table)?;
             return Ok(());
         };
-        let at = place.page.saturating_mul(self.page_size);
-        match content {
-            Some(page) if !is_zero(page) => {
-                let _noted = self.note(place, false)?;
-                self.write_page(file, at, page)
-            }
-            _ => {
-                if self.note(place, true)? {
-                    return self.write_zeros(file, at);
-                }
-                Ok(())
-            }
-        }
+        self.open_since(rt, &since, table.len())?;
+        self.filling.begin(table)?;
+        self.copy_all(rt, &since)?;
+        Ok(())
     }
 }
 
@@ -454,13 +384,9 @@ impl<H: Files> GuestSink<H> for Extraction<H> {
         self.make_folder(rt)?;
         self.is_free(rt, &self.list_path)?;
         self.state.check_free(rt, self.replace)?;
-        self.open_blocks(rt, table)?;
-        self.written = Some(Dirty::none(self.alloc, table)?);
-        if let Some(since) = self.since.take() {
-            self.begin_since(rt, &since, table.len())?;
-        }
+        self.begin_files(rt, table)?;
         if let Some(id) = &self.block
-            && self.files.is_empty()
+            && self.filling.target.files.is_empty()
         {
             return Err(Trouble::NoBlock(shown(self.alloc, id.as_bytes())?));
         }
@@ -481,27 +407,12 @@ impl<H: Files> GuestSink<H> for Extraction<H> {
 }
 
 impl<H: Files> PageSink for Extraction<H> {
-    ghost use Rattle.std.specs.Prelude.{⊤};
+    ghost use Rattle.zimgasol_filling.specs.Filled.{HasTakenInto};
 
-    ghost holds = { λ _ _ _. ⊤ };
+    ghost holds = { λ e. HasTakenInto e.filling };
 
     fn take_page(&mut self, place: Place, content: Option<&[u8]>) -> Result<(), SinkTrouble> {
-        self.put_page(place, content)
-    }
-}
-
-impl<H: Files> Extraction<H> {
-    // Writes a page of zeros to the byte `at` of a file.
-    fn write_zeros(&mut self, file: usize, at: u64) -> Result<(), SinkTrouble> {
-        self.write_run()?;
-        let len = self.page_size.min(self.zeros.len() as u64) as usize;
-        if file < self.files.len() {
-            let block = &mut self.files[file];
-            if let Err(error) = write_at(&mut block.file, at, &self.zeros[..len]) {
-                return Err(SinkTrouble::unwritten(self.alloc, &block.partial_path, error));
-            }
-        }
-        Ok(())
+        self.filling.take_page(place, content)
     }
 }
 

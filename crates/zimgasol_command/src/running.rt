@@ -4,6 +4,7 @@ ghost use Rattle.std.specs.Prelude.{◌≤◌, IfOk};
 
 use crate::comparing::compare;
 use crate::extracting::extract;
+use crate::opening::read_stream;
 use crate::screen::{Screen, fitted};
 use crate::troubles::{FAILED, REFUSED, WELL, WORDS, put_named_trouble, trouble_status};
 use crate::verifying::verify;
@@ -21,7 +22,7 @@ use zimgasol_output::{
     put_all_wrongs, put_json, put_lines, put_several_all_wrongs, put_several_json,
     put_several_lines,
 };
-use zimgasol_reading::{NoSink, Several, Survey, read_several, read_stream};
+use zimgasol_reading::{NoSink, Several, Survey, read_several};
 use zimgasol_saving::save;
 
 /// Runs the program on the arguments after its name, and returns the exit status: 0 for success, 1

@@ -26,6 +26,7 @@ pub(crate) fn trouble_status(trouble: &Trouble) -> u8
 {
     match trouble {
         Trouble::Libvirt(_) | Trouble::Refused(_, _) | Trouble::NoBlock(_) => REFUSED,
+        Trouble::Fault(_, _, _) => REFUSED,
         Trouble::TooLarge | Trouble::LongFront(_) | Trouble::Packed(_, _) => REFUSED,
         Trouble::Unfit(_, why) => unfit_status(*why),
         Trouble::Words(_, _) => WORDS,
@@ -86,6 +87,9 @@ pub(crate) fn put_message<E: Write>(
         ),
         Trouble::Words(words, why) => write!(errors, "{words}: {why}"),
         Trouble::Refused(name, why) => write!(errors, "{name}: {why}"),
+        Trouble::Fault(byte, number, why) => {
+            write!(errors, "{name}: byte {byte}: fault {number}: {why}")
+        }
         Trouble::NoBlock(id) => write!(errors, "{name}: has no block \"{id}\""),
         Trouble::Libvirt(why) => write!(errors, "{name}: {why}"),
         Trouble::Packed(Some(name), packed) => put_packed(errors, name, *packed),

@@ -4,11 +4,12 @@ ghost use Rattle.std.specs.Prelude.{◌≡◌, ◌↔◌, ◌≤◌, ◌<◌, �
 ghost use Rattle.zimgasol_reading.specs.Coverage.{IsComplete};
 ghost use Rattle.zimgasol_reading.specs.Surveyed.{HasCompleteStream};
 
+use crate::opening::{OpenStream, open_stream, put_mapped_note};
 use crate::troubles::{FAILED, REFUSED, WELL, put_message, put_named_trouble, trouble_status};
 use rayon::prelude::*;
 use serde_json::json;
 use std::alloc::{AllocError, AllocGlobal, Global};
-use std::fs::{File, Files, Metadata, OpenFile};
+use std::fs::{Files, Metadata, OpenFile};
 use std::io::{self, Read, Write};
 use std::rt::Clock;
 use std::str;
@@ -171,18 +172,27 @@ fn verify_single<H: AllocGlobal + Files + Clock, R: Read, W: Write, E: Write>(
     if words.file == "-" {
         return verify_input(rt, words, None, json, name, input, output, errors);
     }
-    let mut file = File::open(rt, words.file).map_err(Trouble::Unread)?;
-    let metadata = file.metadata().ok();
-    verify_input(
-        rt,
-        words,
-        metadata.as_ref(),
-        json,
-        name,
-        &mut file,
-        output,
-        errors,
-    )
+    let mut opened = open_stream(rt, words)?;
+    verify_opened(rt, words, &mut opened, json, name, output, errors)
+}
+
+// Reads the stream of `opened`, and prints whether it is complete. Returns whether it is; `name` is
+// printable.
+fn verify_opened<H: AllocGlobal + Files + Clock, W: Write, E: Write>(
+    rt: &H,
+    words: &StreamWords<'_>,
+    opened: &mut OpenStream<H::File>,
+    json: bool,
+    name: &str,
+    output: &mut W,
+    errors: &mut E,
+) -> Result<bool, Trouble> {
+    let metadata = opened.metadata.as_ref();
+    let input = &mut opened.input;
+    let is_whole = verify_input(rt, words, metadata, json, name, input, output, errors)?;
+    let is_told = !words.talk.quiet || !is_whole;
+    put_mapped_note(errors, name, &opened.input, is_told);
+    Ok(is_whole)
 }
 
 // Prints whether a main stream and its channels are complete. Returns whether they are; `name` is

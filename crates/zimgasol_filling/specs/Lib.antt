@@ -1,0 +1,2 @@
+-- Files that have a memory
+pub mod Filled
