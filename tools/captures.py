@@ -4,7 +4,8 @@
     tools/captures.py FOLDER [PROGRAM]
 
 A capture is `NAME.stream`, `NAME.main` with its channels `NAME.0`, `NAME.1` and so on, or libvirt's
-`NAME.save`. `NAME.image` is the guest's memory, in the order of the size list; in its place
+`NAME.save`. A single stream or a file of libvirt's may be packed by xz, as `NAME.stream.xz`. With
+mapped-ram it is compared with the plain stream that tools/mapped_facts.py makes of it. `NAME.image` is the guest's memory, in the order of the size list; in its place
 `NAME.sums` has the SHA-256 of each block of QEMU's own memory, a line each, or `-` for a block of
 shared memory that isn't in the stream (x-ignore-shared). `NAME.blocks` is the guest's description,
 as JSON. They give the expected verdict, the memory, and the byte at which
@@ -19,11 +20,14 @@ Ends with status 1 if a capture differs.
 """
 import hashlib
 import json
+import lzma
 import os
 import re
 import sys
+import tempfile
 from pathlib import Path
 
+import mapped_facts
 from zimgasol_captures import try_captures
 
 BUILT = Path(__file__).resolve().parent.parent / "crates" / "zimgasol_cli" / "out" / "zimgasol_cli"
@@ -32,11 +36,11 @@ NO_UUID = "00000000-0000-0000-0000-000000000000"
 LIBVIRT = b"LibvirtQemudSave"
 RAM_HEAD = b"\x03ram" + bytes(4) + (4).to_bytes(4, "big")
 EOS = (16).to_bytes(8, "big")
+PACKED = ".xz"
 
 
-def stream_of(path):
-    """The bytes of QEMU's stream in a file."""
-    text = path.read_bytes()
+def stream_of(text):
+    """The bytes of QEMU's stream in those of a file."""
     if text.startswith(LIBVIRT):
         return text[92 + int.from_bytes(text[20:24], "little"):]
     return text
@@ -52,8 +56,6 @@ def ram_end(stream):
 def expected_fault(known):
     """The number of the fault that a capture has by what is known of it; None where it can be read."""
     words = " ".join(known.get("params", []))
-    if "mapped-ram" in known.get("caps", []):
-        return 47
     if "xbzrle" in known.get("caps", []):
         return 27
     if "multifd-compression" in words and "multifd-compression=none" not in words:
@@ -65,11 +67,11 @@ def expected_fault(known):
 
 
 class Capture:
-    """A capture of the folder, and what is expected of it."""
+    """A capture, and what is expected of it: that is in files beside it, or in `folder`."""
 
-    def __init__(self, path):
-        self.path = path
-        blocks = path.with_suffix(".blocks")
+    def __init__(self, path, folder):
+        self.path, self.beside = path, folder / path.name
+        blocks = self.beside.with_suffix(".blocks")
         known = json.loads(blocks.read_text()) if blocks.exists() else {}
         channels = [it for it in path.parent.glob(f"{path.stem}.*") if it.suffix[1:].isdigit()] if path.suffix == ".main" else []
         self.channels = sorted(channels, key=lambda it: int(it.suffix[1:]))
@@ -82,16 +84,20 @@ class Capture:
         # a list of [id, length]; None where there is no NAME.blocks
         self.blocks = known.get("blocks")
         self.notes = known.get("before", [])[1:] + known.get("between", [])
+        if "mapped-ram" in known.get("caps", []):
+            # (the capability is the only one, and the plain stream hasn't it)
+            self.notes = [it for it in self.notes if it != "SUBSECTION configuration/capabilities"]
 
     @property
     def end(self):
-        """The byte of the file at which RAM ends."""
-        stream = stream_of(self.path)
-        return self.path.stat().st_size - len(stream) + ram_end(stream)
+        """The byte of the file, or of the plain stream, at which RAM ends."""
+        text = mapped_facts.plain(self.path.read_bytes())
+        stream = stream_of(text)
+        return len(text) - len(stream) + ram_end(stream)
 
     def image_digests(self, lengths):
         """The SHA-256 of each block of QEMU's own memory."""
-        image, sums = self.path.with_suffix(".image"), self.path.with_suffix(".sums")
+        image, sums = self.beside.with_suffix(".image"), self.beside.with_suffix(".sums")
         if not image.exists():
             return sums.read_text().split()
         with image.open("rb") as image:
@@ -99,10 +105,25 @@ class Capture:
             return digests if not image.read(1) else []
 
 
+def unpacked(path, room):
+    """The file of a capture: one that is packed is unpacked into `room`."""
+    if path.suffix != PACKED:
+        return path
+    file = Path(room) / path.stem
+    file.write_bytes(lzma.decompress(path.read_bytes()))
+    return file
+
+
+def is_capture(path):
+    """Whether a file is a single stream, a main stream, or one of libvirt's."""
+    return Path(path.stem if path.suffix == PACKED else path.name).suffix in (".stream", ".main", ".save")
+
+
 def play(program, folder):
     """Reads the captures of a folder. Prints a table. Returns how many passed and failed."""
-    found = sorted(it for it in folder.iterdir() if it.suffix in (".stream", ".main", ".save"))
-    wrong = try_captures(program, [Capture(it) for it in found])
+    found = sorted(filter(is_capture, folder.iterdir()))
+    with tempfile.TemporaryDirectory(prefix="unpacked-") as room:
+        wrong = try_captures(program, [Capture(unpacked(it, room), folder) for it in found])
     print(f"captures: {len(found)}, {wrong or 'none'} of them other than expected", flush=True)
     return len(found) - wrong, wrong
 

@@ -227,6 +227,8 @@ DISKS = (
      f"zimgasol: memory/ram.bin.partial: {FULL}3\n", 0),
     ("", "zimgasol extract ../sparse.sav memory; echo $?; ls -A", f"zimgasol: memory/ram.bin.partial: {FULL}3\n", 0),
     ("", "zimgasol save --block ram=../memory/ram.bin out.sav; echo $?; ls -A", f"zimgasol: out.sav.partial: {FULL}3\n", 0),
+    ("", "zimgasol save --block ram=../memory/ram.bin --layout mapped-ram --machine none out.sav; echo $?; ls -A",
+     f"zimgasol: out.sav.partial: {FULL}3\n", 0),
     ("", "zimgasol save --block ram=../memory/ram.bin --channels 2 out.sav; echo $?; ls -A",
      f"zimgasol: out.sav.0.partial: {FULL}3\n", 0),
     ("", "echo > beside; zimgasol compare ../guest.sav ./guest.sav; echo $?; ls -A; rm beside",

@@ -3,7 +3,8 @@
 The expected values of a capture come from its own files: the blocks and the items between the
 sections from NAME.blocks, the memory from NAME.image or NAME.sums, the end of RAM from the last footer, and the
 counts of sections, records and packets from tools/stream_facts.py and tools/channel_facts.py, which
-share nothing with the program. These two readers have to find NAME's memory, too.
+share nothing with the program. These two readers have to find NAME's memory, too. Of a file with
+mapped-ram they read the plain stream that tools/mapped_facts.py makes of it.
 """
 import hashlib
 import json
@@ -13,10 +14,12 @@ import uuid
 from pathlib import Path
 
 import channel_facts
+import mapped_facts
 import stream_facts
 import tail_facts
 
 SECONDS = 300
+NOTE = "note: a file with mapped-ram; bytes are counted in the plain stream of its memory"
 COMMANDS = {1: "OPEN_RETURN_PATH", 2: "PING", 3: "POSTCOPY_ADVISE", 11: "SWITCHOVER_START"}
 
 
@@ -39,11 +42,13 @@ def digest_of(path):
 
 def facts_of(capture):
     """What the readers beside the program find in a capture, compared with its files."""
-    data = capture.path.read_bytes()
+    file = capture.path.read_bytes()
+    data = mapped_facts.plain(file)
     if capture.channels:
         found = channel_facts.facts(data, [it.read_bytes() for it in capture.channels])
     else:
         found = stream_facts.facts(data)
+    found["is_mapped"] = mapped_facts.is_mapped(file)
     found["bytes"], found["tail"] = len(data), data[found["end"]:]
     header, front = found.get("before", 0), data[:found["list_end"]]
     found["state"] = {"before.bin": front[header:], "after.bin": found["tail"], **({"libvirt.bin": front[:header]} if header else {})}
@@ -154,8 +159,10 @@ class Run:
         return done.stdout, done.stderr
 
     def complains(self, command, found, error):
-        """What a command says of errors: the blocks that aren't in the stream, and why."""
+        """What a command says of errors: the blocks that aren't in the stream, and why, and how bytes are counted."""
         wanted, lines = lacking(self.name, found), error.splitlines()
+        if found["is_mapped"]:
+            expect(f"{command}, note", f"zimgasol: {self.name}: {NOTE}", lines.pop() if lines else "")
         expect(f"{command}, error output", wanted, lines[:-1])
         if lines and not ("INCOMPLETE" in lines[-1] and "`x-ignore-shared`" in lines[-1]):
             raise Differs(f"{command}: expected the cause, came {lines[-1]!r}")

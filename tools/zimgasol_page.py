@@ -5,8 +5,8 @@
     tools/zimgasol_page.py --check    compares them, and fails if they differ
 
 The expected output of a command is made here from the results of tools/stream_facts.py and
-tools/channel_facts.py on the files, and from streams that are written here: none of this shares
-anything with the library. tools/runs/runs.py runs the commands and compares their output with it.
+tools/channel_facts.py on the files, and from streams that are written here and files that
+tools/mapped_file.py makes: none of this shares anything with the library. tools/runs/runs.py runs the commands and compares their output with it.
 In the page long lines are wrapped at 100 columns, and each member of a JSON object is on one line.
 """
 import hashlib
@@ -19,6 +19,8 @@ import uuid
 from pathlib import Path
 
 import channel_facts
+import mapped_facts
+import mapped_file
 import stream_facts
 import tail_facts
 
@@ -51,6 +53,11 @@ LIBVIRT_HEAD = "LibvirtQemudSave" + r"\x02\0\0\0\x05\0\0\0\x01\0\0\0\x01\0\0\0"
 RAW_HEAD = LIBVIRT_HEAD.removesuffix(r"\x01\0\0\0") + r"\0\0\0\0"
 ADVISE = r"\x08\0\x03\0\x10\0\0\0\0\0\x20\0\0\0\0\0\0\0\0\x10\0"
 CAPABILITIES = r"\x05\x1aconfiguration/capabilities\0\0\0\1\0\0\0\2\x03xyz\x0fx-ignore-shared"
+CAPABLE = r"\x05\x1aconfiguration/capabilities\0\0\0\1\0\0\0\1\x03xyz"
+CAPABLE_MAPPED = r"\x05\x1aconfiguration/capabilities\0\0\0\1\0\0\0\2\x03xyz\x0amapped-ram"
+NOT_MAPPED = "doesn't go with `--layout mapped-ram`"
+# the bytes of guest.sav that are the last ones of the id of RAM's section
+SECOND = (21, 66, 71, 86371, 86381, 86394)
 HUGE = r"\0\0\0\0\0\x20\0\0"
 ADDRESS = r"\0\0\0\1\0\0\0\0"
 # the total of the size list with a block "a" of 8,192 bytes, and its entry
@@ -74,6 +81,84 @@ THREE = "".join(f" --channel three.sav.{i}" for i in (2, 0, 1))
 SHORT = "zimgasol: short/ram.bin: has 65536 bytes, and `blocks.json` lists 131072"
 TWICE = "zimgasol: twice/blocks.json: lists an id twice"
 NO_LIST = "zimgasol: short/blocks.json: is no list of blocks that `extract` wrote"
+
+
+def be(form, *numbers):
+    return struct.pack(">" + form, *numbers)
+
+
+def in_one_line(value):
+    """A value as JSON on one line, with its members in order."""
+    return json.dumps(value, sort_keys=True, separators=(",", ":"))
+
+
+def text_page(number):
+    """A page of text."""
+    return (b"page %d, " % number * 512)[:4096]
+
+
+# A file with mapped-ram: a block whose page 2 keeps old bytes without its bit, and whose page 5 is zeros with its bit; and a
+# block of zeros. The head of `ram` begins at byte 89, and that of `rom` at 36864.
+MAPPED_BLOCKS = {b"ram": [(1, text_page(0)), (1, text_page(1)), (0, text_page(2)), (1, text_page(3)), (0, bytes(4096)),
+                          (1, bytes(4096)), (0, bytes(4096)), (1, text_page(7))],
+                 b"rom": [(0, bytes(4096))] * 2}
+MAPPED = mapped_facts.guest(MAPPED_BLOCKS)
+MAPPED_PLAIN = mapped_facts.plain(MAPPED)
+MAPPED_WHOLE = ("complete: sections 3, blocks 2, memory 40960 bytes, RAM ends at byte {}, devices: none, 1 bytes"
+                .format(len(MAPPED_PLAIN) - 1))
+MAPPED_NOTE = "note: a file with mapped-ram; bytes are counted in the plain stream of its memory"
+FILE_CUT = CUT.replace("stream", "file")
+# How many bytes of a sparse file of libvirt's stand before the stream, and the same file in it.
+SPARSE_BEFORE = 4096
+SPARSE = (b"LibvirtQemudSave" + struct.pack("<4I", 2, SPARSE_BEFORE - 92, 1, 6)).ljust(SPARSE_BEFORE, b"\0")
+SPARSE += mapped_facts.guest(MAPPED_BLOCKS, SPARSE_BEFORE)
+SPARSE_PLAIN = mapped_facts.plain(SPARSE)
+MAPPED_PIPE = "byte 53 (before section 1): fault 47: unsupported capability; save without mapped-ram"
+
+
+def escaped(content):
+    """Bytes as `printf` of a shell writes them."""
+    return "".join(f"\\x{it:02x}" for it in content)
+
+
+def patched(data, *patches):
+    """A file in which some bytes are others: of each patch where it is, and its bytes."""
+    for at, content in patches:
+        data = data[:at] + content + data[at + len(content):]
+    return data
+
+
+def patching(name, *patches):
+    """The command that makes bad.sav of the file `name` with other bytes at some places, which ascend."""
+    if not patches:
+        return f"cp {name} bad.sav"
+    parts, last = [], 0
+    for at, content in patches:
+        parts += [f"tail -c +{last + 1} {name} | head -c {at - last}", f"printf '{escaped(content)}'"]
+        last = at + len(content)
+    return f"({'; '.join(parts)}; tail -c +{last + 1} {name}) > bad.sav"
+
+
+def mapped_fault(patch, said):
+    """The commands that make a file with mapped-ram with a patch, and what `verify` says of it."""
+    return [(patching("fixed.sav", patch), ([], 0)), ("zimgasol verify bad.sav", ([f"zimgasol: bad.sav: {said}"], 1))]
+
+
+def mapped_cut(size, *patches):
+    """The commands that cut such a file among its pages, and what `verify` says of it."""
+    plain = len(mapped_facts.plain(patched(MAPPED, *patches)[:size]))
+    return [(patching("fixed.sav", *patches), ([], 0)), (f"head -c {size} bad.sav > less.sav", ([], 0)),
+            ("zimgasol verify less.sav", (
+                [f"zimgasol: less.sav: byte {plain} (section 1, START): {CUT}", f"zimgasol: less.sav: {MAPPED_NOTE}"], 1))]
+
+
+# The plain stream of a file with a page of `rom` where no file has bytes.
+LESS = len(mapped_facts.plain(patched(MAPPED, (36896, be("Q", 1 << 50)), (36904, b"\1"))))
+
+
+def memory_sum(block):
+    """The line of sha256sum on a block of that file."""
+    return f"{hashlib.sha256(mapped_facts.memory(MAPPED_BLOCKS[block])).hexdigest()}  {block.decode()}.bin"
 
 
 def wrong(what):
@@ -420,11 +505,12 @@ CASES = [
          f"zimgasol: shared.sav: INCOMPLETE: {SHARED}"], 1)),
     ("zimgasol verify shared.sav --partial --quiet", (
         ['zimgasol: shared.sav: note: 2 of 2 pages of block "a" have no record: it isn\'t in the stream'], 0)),
-    # (a capability that isn't the last one, and is refused)
+    # (a capability that isn't the last one, in a file without headers)
     (r"(head -c 17 guest.sav; printf '\x05\x1aconfiguration/capabilities\0\0\0\1\0\0\0\2\x0amapped-ram\x03xyz'; "
      "tail -c +18 guest.sav) > mapped.sav", ([], 0)),
+    ("zimgasol verify - < mapped.sav", ([f"zimgasol: -: {MAPPED_PIPE}"], 1)),
     ("zimgasol verify mapped.sav", (
-        ["zimgasol: mapped.sav: byte 53 (before section 1): fault 47: unsupported capability; save without mapped-ram"], 1)),
+        ["zimgasol: mapped.sav: byte 93: fault 72: mapped-ram: the header's version isn't 1"], 1)),
     # ---- channels
     ("zimgasol verify multi.sav", (
         ["zimgasol: multi.sav: byte 72 (section 2, PART): fault 32: FLUSH in a single stream; "
@@ -655,9 +741,9 @@ CASES = [
                    "18446744073709551615T")),
     # ---- the state of a machine: what is written around RAM has the bytes that were there, and RAM's sections its id
     (f"{NO_COMMAND.format('guest.sav')} | cmp - resumed.sav", ([], 0)),
-    ("cp guest.sav second.sav; for at in 21 66 71 86371 86381 86394; do "
+    (f"cp guest.sav second.sav; for at in {' '.join(map(str, SECOND))}; do "
      r"printf '\2' | dd of=second.sav bs=1 seek=$at conv=notrunc status=none; done", ([], 0)),
-    ("zimgasol extract second.sav second", ([f"second.sav: {WHOLE}"], 0)),
+    ("zimgasol extract second.sav second", None),
     ("zimgasol save --state second second2.sav --quiet", ([], 0)),
     (f"{NO_COMMAND.format('second.sav')} | cmp - second2.sav", ([], 0)),
     ("zimgasol save --state second - < guest.sav | cmp - second2.sav", ([], 0)),
@@ -727,12 +813,56 @@ CASES = [
     ("zimgasol save --state torn bare.sav", (
         ["bare.sav: saved: blocks 1, memory 131072 bytes, pages 32, stream 86391 bytes"], 0)),
     ("cmp bare.sav machine.sav; ls other.out* 2>&1", (["ls: cannot access 'other.out*': No such file or directory"], 0)),
+    # ---- a file with mapped-ram: of blocks that begin or end with 256 pages of zeros, and of a machine
+    ("head -c 1048576 /dev/zero > zeros.bin", None),
+    ("cat zeros.bin half.bin > begins.bin", None),
+    ("cat half.bin zeros.bin > ends.bin", None),
+    ("zimgasol save --block ram=begins.bin --block rom=ends.bin --layout mapped-ram --machine none two.mapped", None),
+    ("sha256sum two.mapped", None),
+    ("test $(stat -c %b two.mapped) -lt 1024 && echo sparse", (["sparse"], 0)),
+    ("zimgasol save --block ram=half.bin --layout mapped-ram --machine none two.mapped", (["zimgasol: two.mapped: " + EXISTS], 3)),
+    ("zimgasol save --block ram=ends.bin --block rom=begins.bin --layout mapped-ram --machine pc-i440fx-10.0 --replace two.mapped", None),
+    ("sha256sum two.mapped", None),
+    ("zimgasol save --block ram=zeros.bin --layout mapped-ram --machine none zeros.mapped --quiet", None),
+    ("sha256sum zeros.mapped", None),
+    ("zimgasol save --block ram=half.bin --layout stream --machine none out.mapped", (
+        ['zimgasol: --machine "none": goes with `--frame machine`'], 2)),
+    ("zimgasol save --state memory --layout mapped-ram guest.mapped", None),
+    ("sha256sum guest.mapped", None),
+    ("zimgasol save --state memory --block ram=later.bin --layout mapped-ram --frame machine --replace guest.mapped", None),
+    ("sha256sum guest.mapped", None),
+    ("zimgasol save --state second --layout mapped-ram second.mapped", None),
+    ("sha256sum second.mapped", None),
+    ("zimgasol extract virsh.save virsh --quiet --replace", None),
+    ("zimgasol save --state virsh --layout mapped-ram virsh.mapped", None),
+    ("sha256sum virsh.mapped", None),
+    (f"(head -c 17 guest.sav; printf '{CAPABLE}'; tail -c +18 guest.sav) > capable.sav", ([], 0)),
+    ("zimgasol extract capable.sav capable --quiet", ([], 0)),
+    ("zimgasol save --state capable --block ram=later.bin --layout mapped-ram capable.mapped --quiet", ([], 0)),
+    (f"(head -c 17 guest.sav; printf '{CAPABLE_MAPPED}'; tail -c +18 guest.sav | head -c 25) | cmp -n 93 - capable.mapped", ([], 0)),
+    ("cmp -i 1048576 capable.mapped guest.mapped", ([], 0)),
+    *((f"zimgasol save --block ram=half.bin --layout mapped-ram --machine none {words}", (
+        [f"zimgasol: {option}: {why}"], 2))
+      for words, option, why in (
+          ("--channels 2 out.mapped", '--channels "2"', NOT_MAPPED), ("--since memory out.mapped", '--since "memory"', NOT_MAPPED),
+          ("--frame ram out.mapped", '--frame "ram"', NOT_MAPPED), ("-", '--layout "mapped-ram"', "OUT has to be a file"))),
+    ("zimgasol save --block ram=half.bin --layout mapped-ram out.mapped", (
+        ['zimgasol: --layout "mapped-ram": goes with `--machine` or `--state`'], 2)),
+    ("zimgasol save --state memory --layout mapped-ram --since memory out.mapped", ([f'zimgasol: --since "memory": {NOT_MAPPED}'], 2)),
+    ("zimgasol save --block ram=half.bin --layout qcow2 --machine none out.mapped", (
+        ["error: invalid value 'qcow2' for '--layout <LAYOUT>'", "  [possible values: stream, mapped-ram]", "",
+         "For more information, try '--help'."], 2)),
+    ("zimgasol save --block ram=main.sav --layout mapped-ram --machine none out.mapped", (
+        ["zimgasol: main.sav: has 222 bytes, which is no multiple of the page size 4096 (`--page`)"], 1)),
+    ("ls out.mapped* 2>&1", (["ls: cannot access 'out.mapped*': No such file or directory"], 2)),
     # ---- size lists with 8 bytes more, and a guest without its shared memory
     (f"(head -c 17 guest.sav; printf '{ADVISE}'; tail -c +18 guest.sav | head -c 37; printf '{HUGE}'; "
      "tail -c +55 guest.sav) > huge.sav", ([], 0)),
     ("zimgasol extract huge.sav huge --quiet", ([], 0)),
     ("zimgasol save --state huge huge2.sav --quiet", ([], 0)),
     ("(head -c 86401 huge.sav; tail -c +86407 huge.sav) | cmp - huge2.sav", ([], 0)),
+    ("zimgasol save --state huge --layout mapped-ram other.out", (
+        ["zimgasol: huge/state/before.bin: the machine allows postcopy (`postcopy-ram`), with which QEMU has no mapped-ram"], 1)),
     (f"(head -c 17 guest.sav; printf '{CAPABILITIES}'; tail -c +18 guest.sav | head -c 37; printf '{ADDRESS}'; "
      "tail -c +55 guest.sav) > addressed.sav", ([], 0)),
     ("zimgasol extract addressed.sav addressed --quiet", ([], 0)),
@@ -753,6 +883,83 @@ CASES = [
     ("zimgasol save --state withstate bare.sav --replace", (
         ["bare.sav: saved: blocks 1, memory 131072 bytes, pages 32, stream 90486 bytes"], 0)),
     ("zimgasol compare bare.sav now.sav --quiet", ([], 0)),
+    # ---- files with mapped-ram
+    ("zimgasol verify fixed.sav", ([f"fixed.sav: {MAPPED_WHOLE}", f"zimgasol: fixed.sav: {MAPPED_NOTE}"], 0)),
+    ("zimgasol verify fixed.sav --quiet", ([], 0)),
+    ("zimgasol inspect fixed.sav", (
+        [f"file fixed.sav, {len(MAPPED_PLAIN)} bytes", 'machine "none"', "command 11 SWITCHOVER_START after section 2",
+         "page size 4096", 'block "ram" 32768 bytes, 5 pages, 3 zero pages', 'block "rom" 8192 bytes, 0 pages, 2 zero pages',
+         "sections 3", f"RAM ends at byte {len(MAPPED_PLAIN) - 1}, devices: none, 1 bytes", "complete",
+         f"zimgasol: fixed.sav: {MAPPED_NOTE}"], 0)),
+    ("zimgasol extract fixed.sav mapped --quiet", ([], 0)),
+    ("cd mapped && sha256sum ram.bin rom.bin", ([memory_sum(b"ram"), memory_sum(b"rom")], 0)),
+    ("(head -c 17 fixed.sav; tail -c +65 fixed.sav | head -c 37; tail -c +36865 fixed.sav | head -c 12) "
+     "| cmp - mapped/state/before.bin", ([], 0)),
+    ("tail -c 1 fixed.sav | cmp - mapped/state/after.bin; ls mapped/state", (["after.bin", "before.bin"], 0)),
+    ("zimgasol compare fixed.sav mapped", (["fixed.sav and mapped: the same: blocks 2, memory 40960 bytes"], 0)),
+    ("zimgasol save --state mapped plain.sav --quiet", ([], 0)),
+    ("zimgasol compare plain.sav fixed.sav", (["plain.sav and fixed.sav: the same: blocks 2, memory 40960 bytes"], 0)),
+    ("zimgasol extract fixed.sav only --block rom --quiet", ([], 0)),
+    ("cd only && sha256sum *.bin", ([memory_sum(b"rom")], 0)),
+    ("zimgasol verify - < fixed.sav", ([f"zimgasol: -: {MAPPED_PIPE}"], 1)),
+    ("cat fixed.sav | zimgasol verify /dev/stdin", ([f"zimgasol: /dev/stdin: {MAPPED_PIPE}"], 1)),
+    ("zimgasol verify fixed.sav --limit 4096", (
+        [f"zimgasol: fixed.sav: {TOTAL}", f"zimgasol: fixed.sav: {MAPPED_NOTE}"], 1)),
+    ("zimgasol verify fixed.sav --page 8192", (
+        ["zimgasol: fixed.sav: byte 89: fault 73: mapped-ram: the header's page size isn't the guest's"], 1)),
+    # a host whose words have the highest byte first
+    (patching("fixed.sav", (129, MAPPED[129:137][::-1])), ([], 0)),
+    ("zimgasol compare bad.sav mapped", (["bad.sav and mapped: the same: blocks 2, memory 40960 bytes"], 0)),
+    # the faults of heads
+    *mapped_fault((89, b"\0"), "byte 89: fault 21: bad block id"),
+    *mapped_fault((36866, b"a"), "byte 36864: fault 22: block id twice"),
+    *mapped_fault((100, b"\1"), "byte 89: fault 23: bad block length"),
+    *mapped_fault((87, b"\x90"), "byte 36864: fault 25: blocks longer than the RAM total"),
+    *mapped_fault((104, b"\2"), "byte 89: fault 72: mapped-ram: the header's version isn't 1"),
+    *mapped_fault((36879, b"\2"), "byte 36864: fault 72: mapped-ram: the header's version isn't 1"),
+    *mapped_fault((111, b"\x20"), "byte 89: fault 73: mapped-ram: the header's page size isn't the guest's"),
+    *mapped_fault((120, b"\x82"), "byte 89: fault 74: mapped-ram: the bitmap doesn't follow its header"),
+    *mapped_fault((127, b"\0"), "byte 89: fault 75: mapped-ram: bad offset of a block's pages"),
+    *mapped_fault((128, b"\1"), "byte 89: fault 75: mapped-ram: bad offset of a block's pages"),
+    *mapped_fault((36896, b"\x80"), "byte 36864: fault 75: mapped-ram: bad offset of a block's pages"),
+    *mapped_fault((130, b"\1"), "byte 89: fault 76: mapped-ram: a bit is set after the last page's"),
+    ("zimgasol verify bad.sav --json 2>/dev/null", (
+        [in_one_line({"file": "bad.sav", "complete": False, "status": 1,
+                      "error": "bad.sav: byte 89: fault 76: mapped-ram: a bit is set after the last page's"})], 1)),
+    ("zimgasol inspect bad.sav", (
+        ["zimgasol: bad.sav: byte 89: fault 76: mapped-ram: a bit is set after the last page's"], 1)),
+    ("zimgasol extract bad.sav nothing; ls nothing 2>&1", (
+        ["ls: cannot access 'nothing': No such file or directory",
+         "zimgasol: bad.sav: byte 89: fault 76: mapped-ram: a bit is set after the last page's"], 2)),
+    ("zimgasol compare mapped bad.sav", (
+        ["zimgasol: bad.sav: byte 89: fault 76: mapped-ram: a bit is set after the last page's"], 1)),
+    # files that were cut, or whose pages would lie where no file has bytes
+    *(case for size, said in ((88, MAPPED_PIPE), (120, f"byte 89: {FILE_CUT}"), (20000, f"byte 36864: {FILE_CUT}"),
+                              (36900, f"byte 36864: {FILE_CUT}")) for case in (
+        (f"head -c {size} fixed.sav > less.sav", ([], 0)),
+        ("zimgasol verify less.sav", ([f"zimgasol: less.sav: {said}"], 1)))),
+    *mapped_cut(49152), *mapped_cut(41000, (36904, b"\1")), *mapped_cut(46000, (36904, b"\3")),
+    *mapped_cut(49207, (36896, be("Q", 1 << 50)), (36904, b"\1")),
+    ("zimgasol extract less.sav nothing", (
+        [f"zimgasol: less.sav: {MAPPED_NOTE}", f"zimgasol: less.sav: byte {LESS} (section 1, START): {CUT}"], 1)),
+    ("ls nothing 2>&1", (["ls: cannot access 'nothing': No such file or directory"], 2)),
+    # as libvirt saves it sparse
+    (f"(printf 'LibvirtQemudSave{escaped(SPARSE[16:32])}'; head -c {SPARSE_BEFORE - 32} /dev/zero; head -c 113 fixed.sav; "
+     f"printf '{escaped(SPARSE[SPARSE_BEFORE + 113:SPARSE_BEFORE + 129])}'; tail -c +130 fixed.sav | head -c 36759; "
+     f"printf '{escaped(SPARSE[SPARSE_BEFORE + 36888:SPARSE_BEFORE + 36904])}'; tail -c +36905 fixed.sav) > sparse.save",
+     ([], 0)),
+    ("sha256sum < sparse.save", ([f"{hashlib.sha256(SPARSE).hexdigest()}  -"], 0)),
+    ("zimgasol verify sparse.save", (
+        ["sparse.save: " + MAPPED_WHOLE.replace(f"byte {len(MAPPED_PLAIN) - 1}", f"byte {len(SPARSE_PLAIN) - 1}"),
+         f"zimgasol: sparse.save: {MAPPED_NOTE}"], 0)),
+    ("zimgasol extract sparse.save sparse --quiet", ([], 0)),
+    ("cd sparse && sha256sum ram.bin rom.bin", ([memory_sum(b"ram"), memory_sum(b"rom")], 0)),
+    (f"(head -c 28 sparse.save; head -c 4 /dev/zero; tail -c +33 sparse.save | head -c {SPARSE_BEFORE - 32}) "
+     "| cmp - sparse/state/libvirt.bin", ([], 0)),
+    ("zimgasol save --state sparse raw.save --quiet", ([], 0)),
+    ("zimgasol compare raw.save fixed.sav", (["raw.save and fixed.sav: the same: blocks 2, memory 40960 bytes"], 0)),
+    ("zimgasol verify - < sparse.save", (
+        ['zimgasol: -: libvirt saved it sparse (mapped-ram); save it with save_image_format = "raw"'], 1)),
 ]
 
 def block_at_cut(data):
@@ -766,10 +973,6 @@ def block_at_cut(data):
             step = step.tb_next
         return found.get("last")
     raise ValueError("it isn't cut")
-
-
-def be(form, *numbers):
-    return struct.pack(">" + form, *numbers)
 
 
 END_OF_RECORDS = be("Q", 0x10) + b"\x7e" + be("I", 1)
@@ -900,11 +1103,6 @@ def ranges(pages):
     return ", ".join(texts + [".."] * (len(found) > 16))
 
 
-def in_one_line(value):
-    """A value as JSON on one line, with its members in order."""
-    return json.dumps(value, sort_keys=True, separators=(",", ":"))
-
-
 class Shell:
     """What the commands of the page print, of the files that lie beside them."""
 
@@ -913,6 +1111,11 @@ class Shell:
         self.files["main.sav"] = main_stream()
         self.files["command.sav"] = COMMANDED
         self.files["rounds.sav"] = rounds_stream()
+        self.files["/dev/zero"] = bytes(1 << 20)
+        # (what commands make of it below, by `dd` and by `printf`)
+        guest = self.files["guest.sav"]
+        self.files["second.sav"] = bytes(2 if at in SECOND else it for at, it in enumerate(guest))
+        self.files["virsh.save"] = b"LibvirtQemudSave" + struct.pack("<IIII", 2, 5, 1, 0) + bytes(60) + b"<x/>\0" + guest
         self.status = 0
 
     def run(self, command):
@@ -937,6 +1140,8 @@ class Shell:
         if words[0] == "cat" and ">" in words:
             self.files[words[4]] = self.files[words[1]] + self.files[words[2]]
             return []
+        if words[0] == "sha256sum":
+            return [f"{hashlib.sha256(self.files[words[1]]).hexdigest()}  {words[1]}"]
         if words[0] == "ls":
             return sorted(name[len(words[1]) + 1:] for name in self.files if name.startswith(f"{words[1]}/"))
         if words[0] == "cat":
@@ -1161,6 +1366,8 @@ class Shell:
             before = {it: self.files[f"{option['--since']}/{it}.bin"] for it in blocks}
         if "--channels" in option:
             return self.save_channels(words[at], blocks, before, option)
+        if option.get("--layout") == "mapped-ram":
+            return self.save_mapped(words[at], blocks, state, option)
         if state:
             stream, pages = state_saved(blocks, before, state)
         else:
@@ -1168,6 +1375,15 @@ class Shell:
         name, total = words[at], sum(map(len, blocks.values()))
         self.files[name], self.status = stream, 0
         return [f"{name}: saved: blocks {len(blocks)}, memory {total} bytes, pages {pages}, stream {len(stream)} bytes"]
+
+    def save_mapped(self, name, blocks, state, option):
+        if state:
+            file, pages = mapped_file.state_file(blocks, state)
+        else:
+            file, pages = mapped_file.plain_file(blocks, option["--machine"])
+        total = sum(map(len, blocks.values()))
+        self.files[name], self.status = file, 0
+        return [f"{name}: saved: blocks {len(blocks)}, memory {total} bytes, pages {pages}, file {len(file)} bytes"]
 
     def state_in(self, folder):
         """The files of a folder's state."""
@@ -1353,7 +1569,8 @@ def of_case(shell, command, wanted):
 
 def made():
     shell, answers, files = Shell(), [], {RUNS / "data" / "main.sav": main_stream(), RUNS / "data" / "command.sav": COMMANDED,
-                                                         RUNS / "data" / "rounds.sav": rounds_stream()}
+                                                         RUNS / "data" / "rounds.sav": rounds_stream(),
+                                                         RUNS / "data" / "fixed.sav": MAPPED}
     for page in filter(Path.is_file, PAGES):
         said = printed(shell, page.read_text())
         files[page] = made_page(page.read_text(), said).encode()

@@ -176,6 +176,14 @@ def load_saved(bench, words, qemu_words=()):
     return load_file(bench, *saved(bench, words), (*NONE.words, *qemu_words))
 
 
+def load_mapped(bench, channels):
+    """`zimgasol save` writes a guest's memory with mapped-ram, and QEMU loads it, with several threads by multifd."""
+    out, wanted = saved(bench, ("--layout", "mapped-ram", "--machine", "none"))
+    with bench.waiting(len(wanted), NONE.words) as guest:
+        status, came = qemu.loaded_mapped(guest, out, channels=channels)
+    return loaded_as(status, {"ram": wanted}, {"ram": came})
+
+
 def chain(bench, other):
     """`zimgasol` extracts and saves a QEMU's file. Another QEMU loads that, and writes it again."""
     zimgasol, out, last = bench.programs.zimgasol, bench.file("chain.sav"), bench.file("last.sav")

@@ -27,7 +27,7 @@ import packages
 import qemu
 import states
 from checks import (NO_CONFIGURATION, Bench, chain, leave_shared_out, load_saved, read_between,
-                    read_single, refuse_single, refuse_xbzrle)
+                    load_mapped, read_single, refuse_single, refuse_xbzrle)
 from guests import KINDS, NONE, OLD, PC, PC_UUID, PC_WRITING, Q35, SMALL, old_files
 from ours import TOP, Differs, Programs
 
@@ -152,6 +152,10 @@ def load_ours(table, bench, version):
     for how, words, qemu_words in saves:
         row = Row(version, "save, QEMU", NONE.name, how)
         table.try_(row, lambda: load_saved(bench, words, qemu_words))
+    if qemu.number(version) >= (9, 0):
+        for count in (0, 2):
+            row = Row(version, "save, QEMU", NONE.name, f"mapped-ram, {by(count)}")
+            table.try_(row, lambda: load_mapped(bench, count))
     table.try_(Row(version, "mig_tool send, QEMU", NONE.name, "single, 4 rounds"),
                lambda: channels.load(bench, channels.send(bench, 0)))
     has_flush = qemu.number(version) >= (8, 1)
@@ -179,6 +183,11 @@ def restore_machines(table, bench, version):
         table.try_(Row(version, way, kind.name, "a file"), lambda: states.restore(bench, kind))
     row = Row(version, way, PC_WRITING.name, "after libvirt's header, made by hand")
     table.try_(row, lambda: states.restore_libvirt(bench, PC_WRITING))
+    if qemu.number(version) >= (9, 0):
+        for kind in (PC, PC_WRITING, Q35):
+            table.try_(Row(version, way, kind.name, "mapped-ram"), lambda: states.restore_mapped(bench, kind))
+        row = Row(version, way, PC_WRITING.name, "mapped-ram, after libvirt's header, made by hand")
+        table.try_(row, lambda: states.restore_mapped(bench, PC_WRITING, states.HEADER))
     row = Row(version, way, PC_WRITING.name, "a full save and changes")
     table.try_(row, lambda: states.restore_changes(bench, PC_WRITING))
     if qemu.number(version) >= (8, 1):

@@ -323,6 +323,18 @@ def loaded_file(guest, path, skip=0):
     return guest.wait("completed", "failed"), guest.contents()
 
 
+def loaded_mapped(guest, path, offset=0, channels=0):
+    """Has a guest that waits for a migration load a file with mapped-ram, whose stream begins at a byte `offset`.
+
+    Several threads read it where there are channels. Returns what `loaded` returns.
+    """
+    guest.set(["mapped-ram"])
+    if channels:
+        guest.set(["multifd"], multifd_channels=channels)
+    guest.qmp.call("migrate-incoming", uri=f"file:{path}" + (f",offset={offset}" if offset else ""))
+    return guest.wait("completed", "failed"), guest.contents()
+
+
 def version(program):
     """The version that a QEMU prints of itself."""
     said = subprocess.run([program, "--version"], capture_output=True, text=True, check=True).stdout

@@ -17,10 +17,10 @@ XML = b"<domain><name>interop</name></domain>\0"
 HEADER = b"LibvirtQemudSave" + struct.pack("<5I", 2, len(XML), 1, 0, 0) + bytes(56) + XML
 
 
-def resumed(bench, kind, stream, compared, skip=0):
+def resumed(bench, kind, stream, compared, skip=0, load=qemu.loaded_file):
     """Has QEMU resume a machine from a file. `compared` takes its blocks, and returns what was compared."""
     with bench.waiting(kind.mib * MIB, words_of(kind, bench.folder)) as guest:
-        status, ram = qemu.loaded_file(guest, stream, skip)
+        status, ram = load(guest, stream, skip)
         if status != "completed":
             raise Differs(f"QEMU's load: {status}")
         said = compared(guest.blocks())
@@ -64,6 +64,18 @@ def restore_libvirt(bench, kind):
     if not out.read_bytes().startswith(HEADER):
         raise Differs("libvirt's header isn't the same")
     return resumed(bench, kind, out, lambda came: compare_written(bench, kind, stream, wanted, came), len(HEADER))
+
+
+def restore_mapped(bench, kind, header=b""):
+    """QEMU's file, after a header of libvirt's if there is one, resumes once it was extracted and saved with mapped-ram."""
+    zimgasol, folder, out = bench.programs.zimgasol, bench.file("memory"), bench.file("again.mapped")
+    stream, wanted = write_file(bench, kind)
+    file = bench.file("guest.save")
+    file.write_bytes(header + stream.read_bytes())
+    extracted(zimgasol, file, folder)
+    ran(zimgasol, "save", "--state", folder, "--layout", "mapped-ram", "--replace", out)
+    return resumed(bench, kind, out, lambda came: compare_written(bench, kind, stream, wanted, came), len(header),
+                   qemu.loaded_mapped)
 
 
 def restore_channels(bench, kind, count):
