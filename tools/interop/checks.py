@@ -98,12 +98,6 @@ def read_between(bench, kind):
     return compare(wanted, extracted(bench.programs.zimgasol, stream, bench.file("memory")))
 
 
-def refuse_single(bench, kind, fault, capabilities=(), **parameters):
-    """QEMU writes a file that has what can't be read, and `zimgasol` says so."""
-    stream, _ = write_file(bench, kind, capabilities, **parameters)
-    return refused(bench, stream, fault)
-
-
 def leave_shared_out(bench, kind):
     """QEMU writes a file without its shared RAM, which `zimgasol` says, and takes with `--partial`.
 

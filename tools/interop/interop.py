@@ -27,7 +27,7 @@ import packages
 import qemu
 import states
 from checks import (NO_CONFIGURATION, Bench, chain, leave_shared_out, load_saved, read_between,
-                    load_mapped, read_single, refuse_single, refuse_xbzrle)
+                    load_mapped, read_single, refuse_xbzrle)
 from guests import KINDS, NONE, OLD, PC, PC_UUID, PC_WRITING, Q35, SMALL, old_files
 from ours import TOP, Differs, Programs
 
@@ -103,6 +103,8 @@ def read_files(table, bench, version):
     table.try_(Row(version, "QEMU, extract", PC.name, "return-path, between two QEMUs"),
                lambda: read_between(bench, PC))
     if qemu.number(version) >= (9, 0):
+        row = Row(version, "QEMU, extract", PC.name, "mapped-ram")
+        table.try_(row, lambda: read_single(bench, PC, ("mapped-ram",)))
         for way in ("none", "legacy"):
             row = Row(version, "QEMU, extract", PC_WRITING.name, f"zero-page-detection={way}")
             table.try_(row, lambda: read_single(bench, PC_WRITING, zero_page_detection=way))
@@ -114,9 +116,6 @@ def refuse_files(table, bench, version):
     """
     row = Row(version, "QEMU, verify, extract --partial", PC.name, "x-ignore-shared")
     table.try_(row, lambda: leave_shared_out(bench, PC))
-    if qemu.number(version) >= (9, 0):
-        row = Row(version, "QEMU, verify", PC.name, "mapped-ram")
-        table.try_(row, lambda: refuse_single(bench, PC, 47, ("mapped-ram",)))
     if qemu.number(version) >= (8, 1):
         # (7.2 leaves out the pages that come in this form; see compare_written)
         row = Row(version, "QEMU, verify", PC_WRITING.name, "xbzrle")
