@@ -1,7 +1,10 @@
+mod Answering
 pub mod Completing
 mod Counting
 mod Filling
 pub mod Headers
 mod Images
+mod Loading
+mod PassedPages
 mod Surveying
 mod Wholes

@@ -1,6 +1,7 @@
 //! Reads the channels of a migration, each from a file.
 
-ghost use Rattle.std.specs.Prelude.{◌≤◌};
+ghost use Rattle.std.specs.Prelude.{◌≤◌, OnOk};
+ghost use Rattle.zimgasol_reading.specs.Loaded.{TakesOn};
 
 use crate::blocks::Blocks;
 use crate::lane::Lane;
@@ -126,21 +127,41 @@ impl<F: Read + OpenFile + Drop> Channel<F> {
         source: Source,
         blocks: &mut Option<Blocks>,
         load: &mut Load<M>,
-    ) -> Result<(), Trouble> {
-        for _ in 0..u64::MAX {
+    ) -> Result<(), Trouble>
+        ensures { OnOk result (TakesOn load.old load.new) }
+    {
+        'pieces: for _ in 0..u64::MAX {
             if !load.takes(source) {
                 return Ok(());
             }
-            if !self.inlet.file.refill(&mut self.inlet.pieces)? {
-                self.inlet.is_over = true;
-                load.end(source);
+            let is_more = self.feed_piece(source, blocks, load)?;
+            if !is_more {
                 return Ok(());
             }
-            let piece = self.inlet.pieces.waiting();
-            let taken = load.feed(source, piece)?;
-            self.lane.count(&piece[..taken], blocks)?;
-            self.inlet.pieces.take(taken);
         }
         Ok(())
+    }
+
+    // Reads the next piece, and feeds it to `load`. If there is none, ends the channel, and returns
+    // false.
+    fn feed_piece<M: Reporting>(
+        &mut self,
+        source: Source,
+        blocks: &mut Option<Blocks>,
+        load: &mut Load<M>,
+    ) -> Result<bool, Trouble>
+        ensures { OnOk result (TakesOn load.old load.new) }
+    {
+        let is_more = self.inlet.file.refill(&mut self.inlet.pieces)?;
+        if !is_more {
+            self.inlet.is_over = true;
+            load.end(source);
+            return Ok(false);
+        }
+        let piece = self.inlet.pieces.waiting();
+        let taken = load.feed(source, piece)?;
+        self.lane.count(&piece[..taken], blocks)?;
+        self.inlet.pieces.take(taken);
+        Ok(true)
     }
 }

@@ -1,7 +1,9 @@
 //! Reads a main stream that has channels, round by round. It feeds the bytes to the load, and reads
 //! them itself for what a person wants to know beside.
 
-ghost use Rattle.std.specs.Prelude.{◌≡◌, ◌+◌, ◌<◌, ◌≤◌, ◌^◌, length};
+ghost use Rattle.std.specs.Prelude.{◌≡◌, ◌+◌, ◌<◌, ◌≤◌, ◌^◌, length, OnOk};
+ghost use Rattle.zimgasol_reading.specs.Loaded.{TakesOn};
+ghost use Rattle.zimgasol_reading.specs.Recorded.{StillHolds};
 
 use crate::blocks::Blocks;
 use crate::front::Front;
@@ -105,12 +107,16 @@ impl MainStream {
     /// # Errors
     ///
     /// `Trouble::NoMemory`, and those of the load's sink.
-    pub(crate) fn begin<M: Reporting>(&mut self, load: &mut Load<M>) -> Result<(), Trouble> {
+    pub(crate) fn begin<M: Reporting>(&mut self, load: &mut Load<M>) -> Result<(), Trouble>
+        ensures { OnOk result (TakesOn load.old load.new) }
+    {
         load.feed(Source::Main, &self.held)?;
         self.held = Vec::new(*self.held.allocator());
-        if self.is_over {
-            load.end(Source::Main);
+        let is_over = self.is_over;
+        if !is_over {
+            return Ok(());
         }
+        load.end(Source::Main);
         Ok(())
     }
 
@@ -125,18 +131,46 @@ impl MainStream {
         input: &mut R,
         blocks: &mut Option<Blocks>,
         load: &mut Load<M>,
-    ) -> Result<(), Trouble> {
-        for _ in 0..u64::MAX {
+    ) -> Result<(), Trouble>
+        ensures { OnOk result (TakesOn load.old load.new) }
+    {
+        self.read_pieces(input, load)?;
+        self.count_round(blocks)?;
+        Ok(())
+    }
+
+    // Reads up to the end of the current round, and feeds it to `load`.
+    fn read_pieces<R: Read, M: Reporting>(
+        &mut self,
+        input: &mut R,
+        load: &mut Load<M>,
+    ) -> Result<(), Trouble>
+        ensures { OnOk result (TakesOn load.old load.new) }
+    {
+        'pieces: for _ in 0..u64::MAX {
             if !load.takes(Source::Main) {
-                break;
+                return Ok(());
             }
-            if self.refill(input)? {
-                load.feed(Source::Main, self.pieces.waiting())?;
-            } else {
-                load.end(Source::Main);
-            }
+            self.feed_piece(input, load)?;
         }
-        self.count_round(blocks)
+        Ok(())
+    }
+
+    // Reads the next piece, and feeds it to `load`; or ends the stream, if there is none.
+    fn feed_piece<R: Read, M: Reporting>(
+        &mut self,
+        input: &mut R,
+        load: &mut Load<M>,
+    ) -> Result<(), Trouble>
+        ensures { OnOk result (TakesOn load.old load.new) }
+    {
+        let is_more = self.refill(input)?;
+        if !is_more {
+            load.end(Source::Main);
+            return Ok(());
+        }
+        load.feed(Source::Main, self.pieces.waiting())?;
+        Ok(())
     }
 
     // Returns whether the stream continues.
@@ -193,9 +227,11 @@ impl MainStream {
         Ok(())
     }
 
-    /// Keeps none of the bytes before RAM's records.
-    pub(crate) fn drop_front(&mut self) {
-        self.front.set_taken();
+    /// Keeps the bytes before RAM's records for the sink, or drops them, if it doesn't take them.
+    pub(crate) fn keep_front(&mut self, is_kept: bool) {
+        if !is_kept {
+            self.front.set_taken();
+        }
     }
 
     /// Passes the bytes before RAM's records to `sink`, if it takes them, after the load.
@@ -207,7 +243,9 @@ impl MainStream {
         &mut self,
         rt: &H,
         sink: &mut S,
-    ) -> Result<(), Trouble> {
+    ) -> Result<(), Trouble>
+        ensures { OnOk result (StillHolds (S.holds sink.old) (S.holds sink.new)) }
+    {
         if let Some(end) = self.notes.list_end()
             && !self.front.is_taken
         {
@@ -226,18 +264,33 @@ impl MainStream {
         &mut self,
         input: &mut R,
         sink: &mut S,
-    ) -> Result<(), Trouble> {
+    ) -> Result<(), Trouble>
+        ensures { OnOk result (StillHolds (S.holds sink.old) (S.holds sink.new)) }
+    {
         sink.take_after(&self.after)?;
-        for _ in 0..u64::MAX {
+        self.pass_pieces::<H, R, S>(input, sink)?;
+        self.is_over = true;
+        self.ending = self.tail.ending()?;
+        Ok(())
+    }
+
+    // Reads the rest of `input`, and passes it to `sink`.
+    fn pass_pieces<H: Files, R: Read, S: GuestSink<H>>(
+        &mut self,
+        input: &mut R,
+        sink: &mut S,
+    ) -> Result<(), Trouble>
+        ensures { OnOk result (StillHolds (S.holds sink.old) (S.holds sink.new)) }
+    {
+        'pieces: for _ in 0..u64::MAX {
             self.pieces.take_all();
-            if !self.pieces.refill(input)? {
-                break;
+            let is_more = self.pieces.refill(input)?;
+            if !is_more {
+                return Ok(());
             }
             self.tail.look(self.pieces.waiting())?;
             sink.take_after(self.pieces.waiting())?;
         }
-        self.is_over = true;
-        self.ending = self.tail.ending()?;
         Ok(())
     }
 

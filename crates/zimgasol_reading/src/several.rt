@@ -4,20 +4,24 @@
 //! No page is kept, only bits for each page, and the number of each packet of the current round.
 //! The verdict is that of the library's load (`mig_in_place`), which is fed all bytes.
 
-ghost use Rattle.std.specs.Prelude.{◌≡◌, ◌↔◌, ◌≤◌, Some, IsNone, IfSome, IfOk, IsTrue};
+ghost use Rattle.std.specs.Prelude.{◌≡◌, ◌≢◌, ◌↔◌, ◌≤◌, ◌^◌, ⊤, [], length, Some, IsNone, IsSome, IfSome, IfOk, OnOk, IsTrue};
+ghost use Rattle.mig_mem.specs.PageSize.{IsPageSize};
 ghost use Rattle.mig_load_types.specs.declared.fault.LoadFault.{LoadFault};
 ghost use Rattle.mig_answer.specs.declared.verdict.Verdict.TheVariants as verdict;
+ghost use Rattle.zimgasol_reading.specs.Answered.{IsAnswered, StaysAsked, BeginsLoad, HasLoadedAll};
 ghost use Rattle.zimgasol_reading.specs.Coverage.{IsWhole, HasItsPages, AreComplete};
+ghost use Rattle.zimgasol_reading.specs.Loaded.{TakesOn, settings_for};
+ghost use Rattle.zimgasol_reading.specs.Recorded.{StillHolds};
 
 use crate::blocks::{Blocks, Coverage};
 use crate::channel::{Channel, channels_of, hello_uuid, open_inlets};
 use crate::load::{Load, Reporting, judge_of};
 use crate::main_stream::MainStream;
 use crate::passing::Passing;
-use crate::sink::GuestSink;
+use crate::sink::{GuestSink, NoSink, PageSink};
 use mig_answer::Verdict;
 use mig_in_place::InPlaceSession;
-use mig_load_types::{Fault, LoadFault, Origin};
+use mig_load_types::{Fault, LoadFault, LoadSettings, Origin, RoundEnd};
 use mig_mem::Table;
 use mig_sources::Source;
 use mig_stream::Frame;
@@ -26,7 +30,7 @@ use std::fs::{File, Files, Metadata, OpenFile};
 use std::io::{Read, Write};
 use std::rt::Clock;
 use uuid::Uuid;
-use zimgasol_files::{ChannelWords, PageSize, StreamWords, Trouble, Watch, wanted_uuid};
+use zimgasol_files::{ChannelWords, StreamWords, Trouble, Watch, wanted_uuid};
 
 /// The survey of a main stream and its channels.
 #[derive(Drop)]
@@ -34,6 +38,8 @@ pub struct Several<F: Drop> {
     alloc: Global,
     pub frame: Frame,
     pub page_size: u64,
+    /// The most bytes of guest memory that the size list may have.
+    pub limit: u64,
     /// The UUID that each hello has to have.
     pub uuid: Uuid,
     pub main: MainStream,
@@ -54,7 +60,10 @@ fn opened<H: AllocGlobal + Files>(
     rt: &H,
     words: &StreamWords<'_>,
     channels: &ChannelWords<'_>,
-) -> Result<Several<H::File>, Trouble> {
+) -> Result<Several<H::File>, Trouble>
+    ensures frame { IfOk result (λ s. s.frame ≡ words.now.frame) }
+    ensures bounds { IfOk result (λ s. IsPageSize s.page_size × (s.limit ≤ 2 ^ 40)) }
+{
     let alloc = rt.alloc();
     let wanted = wanted_uuid(alloc, channels)?;
     let inlets = open_inlets(rt, &channels.files)?;
@@ -66,6 +75,7 @@ fn opened<H: AllocGlobal + Files>(
         alloc,
         frame: words.frame,
         page_size: words.page_size.bytes(),
+        limit: words.limit(),
         uuid,
         main: MainStream::new(alloc, words)?,
         channels: channels_of(alloc, inlets, words.page_size, uuid)?,
@@ -156,7 +166,9 @@ impl<F: Read + OpenFile + Drop> Several<F> {
     }
 
     // Takes the lengths of the files; the main stream is read from `main`.
-    fn expect_file(&mut self, main: &F, watch: &mut Watch) {
+    fn expect_file(&mut self, main: &F, watch: &mut Watch)
+        ensures { StaysAsked self.old self.new }
+    {
         if let Ok(metadata) = main.metadata() {
             self.main.expect_file(&metadata);
             self.expect(&metadata, watch);
@@ -168,25 +180,21 @@ impl<F: Read + OpenFile + Drop> Several<F> {
     fn read<H: AllocGlobal + Files + Clock, R: Read, S: GuestSink<H> + Drop, E: Write>(
         &mut self,
         rt: &H,
-        words: &StreamWords<'_>,
         input: &mut R,
         sink: S,
         watch: &mut Watch,
         errors: &mut E,
-    ) -> (Result<(), Trouble>, S) {
-        let mut sink = sink;
-        let (judge, table) = match self.begin(rt, words, input, &mut sink) {
-            Ok(begun) => begun,
-            Err(trouble) => return (Err(trouble), sink),
-        };
-        let mut load = Load::new(judge, Passing::new(table, sink));
-        let read = self.load(rt, input, &mut load, watch, errors);
-        let mut sink = load.into_memory().into_sink();
-        let read = match read {
-            Ok(()) => self.pass_state(rt, input, &mut sink),
-            Err(trouble) => Err(trouble),
-        };
-        (read, sink)
+    ) -> (Result<(), Trouble>, S)
+        requires page_size { IsPageSize self.old.page_size }
+        requires limit { self.old.limit ≤ 2 ^ 40 }
+        ensures asked { OnOk result.0 (StaysAsked self.old self.new) }
+        ensures answered { OnOk result.0 (IsAnswered (S.holds result.1) self.new) }
+    {
+        let (read, mut sink) = self.load_all(rt, input, sink, watch, errors);
+        match read {
+            Ok(()) => (self.pass_state(rt, input, &mut sink), sink),
+            Err(trouble) => (Err(trouble), sink),
+        }
     }
 
     // Passes the bytes before and after RAM to `sink`, unless there is a fault.
@@ -195,12 +203,75 @@ impl<F: Read + OpenFile + Drop> Several<F> {
         rt: &H,
         input: &mut R,
         sink: &mut S,
-    ) -> Result<(), Trouble> {
+    ) -> Result<(), Trouble>
+        ensures others { self.new ≡ record self.old { main = self.new.main } }
+        ensures kept { OnOk result (StillHolds (S.holds sink.old) (S.holds sink.new)) }
+    {
         if self.fault().is_some() {
             return Ok(());
         }
         self.main.pass_front(rt, sink)?;
-        self.main.read_rest::<H, R, S>(input, sink)
+        self.main.read_rest::<H, R, S>(input, sink)?;
+        Ok(())
+    }
+
+    // Loads all sources, round by round, up to the verdict, and passes the pages to `sink`. Returns
+    // the sink, too.
+    fn load_all<H: AllocGlobal + Files + Clock, R: Read, S: GuestSink<H> + Drop, E: Write>(
+        &mut self,
+        rt: &H,
+        input: &mut R,
+        sink: S,
+        watch: &mut Watch,
+        errors: &mut E,
+    ) -> (Result<(), Trouble>, S)
+        requires page_size { IsPageSize self.old.page_size }
+        requires limit { self.old.limit ≤ 2 ^ 40 }
+        ensures asked { OnOk result.0 (StaysAsked self.old self.new) }
+        ensures answered { OnOk result.0 (IsAnswered (S.holds result.1) self.new) }
+    {
+        let mut sink = sink;
+        let (judge, table) = match self.begin(rt, input, &mut sink) {
+            Ok(begun) => begun,
+            Err(trouble) => return (Err(trouble), sink),
+        };
+        if self.blocks.is_some() {
+            return self.load_to(rt, input, judge, table, sink, watch, errors);
+        }
+        (self.load_none(rt, input, judge, table, watch, errors), sink)
+    }
+
+    // Loads all sources by `judge`, if the main stream has no table. No page is passed, and no such
+    // load is done.
+    fn load_none<H: AllocGlobal + Files + Clock, R: Read, E: Write>(
+        &mut self,
+        rt: &H,
+        input: &mut R,
+        judge: InPlaceSession,
+        table: Table,
+        watch: &mut Watch,
+        errors: &mut E,
+    ) -> Result<(), Trouble>
+        requires { judge.table ≡ table }
+        ensures asked { OnOk result (StaysAsked self.old self.new) }
+        ensures loaded { OnOk result (BeginsLoad self.old table judge → HasLoadedAll (λ _ _. ⊤) table self.new) }
+        ensures open { OnOk result (self.new.verdict ≢ verdict.Done) }
+    {
+        let (read, _) = self.load_to(rt, input, judge, table, NoSink, watch, errors);
+        read?;
+        match self.verdict {
+            Verdict::Done => Err(Trouble::NoMemory),
+            _ => Ok(()),
+        }
+    }
+
+    // Returns the settings of the load.
+    fn settings(&self) -> LoadSettings
+        ensures { result ≡ settings_for self.now.frame self.now.page_size self.now.limit }
+    {
+        LoadSettings::new(self.page_size, self.limit)
+            .with_frame(self.frame)
+            .with_round_end(RoundEnd::AsShown)
     }
 
     // Reads the main stream up to its table. Begins the guest, if the table is known. Returns the
@@ -208,29 +279,73 @@ impl<F: Read + OpenFile + Drop> Several<F> {
     fn begin<H: AllocGlobal + Files, R: Read, S: GuestSink<H>>(
         &mut self,
         rt: &H,
-        words: &StreamWords<'_>,
         input: &mut R,
         sink: &mut S,
     ) -> Result<(InPlaceSession, Table), Trouble>
-        ensures { IfOk result (λ begun. begun.0.table ≡ begun.1) }
+        requires page_size { IsPageSize self.old.page_size }
+        requires limit { self.old.limit ≤ 2 ^ 40 }
+        ensures table { IfOk result (λ begun. begun.0.table ≡ begun.1) }
+        ensures begun { IfOk result (λ begun. IsSome self.new.blocks → S.holds sink.new begun.1 []) }
+        ensures stands { IfOk result (λ begun. BeginsLoad self.new begun.1 begun.0) }
+        ensures asked { OnOk result (StaysAsked self.old self.new) }
     {
-        if !sink.keeps_state() {
-            self.main.drop_front();
-        }
+        self.main.keep_front(sink.keeps_state());
         self.main.read_head(input)?;
-        let table = match self.main.table() {
-            Some(table) => {
-                sink.begin(rt, table)?;
-                self.blocks = Some(Blocks::new(self.alloc, table.try_copy()?)?);
-                table.try_copy()?
-            }
-            None => one_page(self.alloc, words.page_size)?,
-        };
-        let judge = judge_of(self.alloc, words, &table, self.uuid, self.channels.len())?;
+        let table = self.begin_guest(rt, sink)?;
+        let settings = self.settings();
+        let judge = judge_of(self.alloc, settings, &table, self.uuid, self.channels.len())?;
         Ok((judge, table))
     }
 
-    // Loads all sources by `load`, as `read`.
+    // Begins the guest, if the table is known. Returns that table, or one that nothing is written
+    // by.
+    fn begin_guest<H: AllocGlobal + Files, S: GuestSink<H>>(
+        &mut self,
+        rt: &H,
+        sink: &mut S,
+    ) -> Result<Table, Trouble>
+        requires page_size { IsPageSize self.old.page_size }
+        ensures begun { IfOk result (λ table. IsSome self.new.blocks → S.holds sink.new table []) }
+        ensures others { self.new ≡ record self.old { blocks = self.new.blocks } }
+    {
+        let Some(table) = self.main.table() else {
+            self.blocks = None;
+            return one_page(self.alloc, self.page_size);
+        };
+        sink.begin(rt, table)?;
+        let copied = table.try_copy()?;
+        self.blocks = Some(Blocks::new(self.alloc, table.try_copy()?)?);
+        Ok(copied)
+    }
+
+    // Loads all sources by `judge` into memory of `table`, and passes the pages to `sink`, which
+    // has the table. Returns the sink, too.
+    fn load_to<H: AllocGlobal + Files + Clock, R: Read, S: PageSink + Drop, E: Write>(
+        &mut self,
+        rt: &H,
+        input: &mut R,
+        judge: InPlaceSession,
+        table: Table,
+        sink: S,
+        watch: &mut Watch,
+        errors: &mut E,
+    ) -> (Result<(), Trouble>, S)
+        requires table { judge.table ≡ table }
+        requires begun { S.holds sink table [] }
+        ensures asked { OnOk result.0 (StaysAsked self.old self.new) }
+        ensures loaded { OnOk result.0 (BeginsLoad self.old table judge → HasLoadedAll (S.holds result.1) table self.new) }
+    {
+        let mut load = Load::new(judge, Passing::new(table, sink));
+        let read = self.load(rt, input, &mut load, watch, errors);
+        let (trouble, sink) = load.into_memory().into_sink();
+        match (read, trouble) {
+            (Ok(()), None) => (Ok(()), sink),
+            (Ok(()), Some(trouble)) => (Err(trouble.into()), sink),
+            (Err(trouble), _) => (Err(trouble), sink),
+        }
+    }
+
+    // Loads all sources by `load`.
     fn load<H: AllocGlobal + Files + Clock, R: Read, M: Reporting, E: Write>(
         &mut self,
         rt: &H,
@@ -238,7 +353,11 @@ impl<F: Read + OpenFile + Drop> Several<F> {
         load: &mut Load<M>,
         watch: &mut Watch,
         errors: &mut E,
-    ) -> Result<(), Trouble> {
+    ) -> Result<(), Trouble>
+        ensures takes { OnOk result (TakesOn load.old load.new) }
+        ensures told { OnOk result ((self.new.rounds ≡ load.new.load.rounds) × (self.new.verdict ≡ load.new.load.verdict)) }
+        ensures asked { OnOk result (StaysAsked self.old self.new) }
+    {
         self.main.begin(load)?;
         self.read_rounds(rt, input, load, watch, errors)?;
         self.rounds = load.rounds();
@@ -254,44 +373,76 @@ impl<F: Read + OpenFile + Drop> Several<F> {
         load: &mut Load<M>,
         watch: &mut Watch,
         errors: &mut E,
-    ) -> Result<(), Trouble> {
-        for _ in 0..u64::MAX {
-            self.main.read_round(input, &mut self.blocks, load)?;
-            self.read_channels(load)?;
+    ) -> Result<(), Trouble>
+        ensures takes { OnOk result (TakesOn load.old load.new) }
+        ensures asked { OnOk result (StaysAsked self.old self.new) }
+    {
+        'rounds: for _ in 0..u64::MAX {
+            self.read_round(input, load)?;
             watch.show(rt, errors, self.read_len());
             if load.verdict() != Verdict::Running {
-                break;
+                return Ok(());
             }
             self.advance(load);
         }
         Ok(())
     }
 
-    // Reads each channel up to the end of the current round.
-    fn read_channels<M: Reporting>(&mut self, load: &mut Load<M>) -> Result<(), Trouble> {
-        for i in 0..self.channels.len() {
-            let Some(channel) = self.channels.get_mut(i) else {
-                break;
-            };
-            channel.read_round(Source::Channel(i), &mut self.blocks, load)?;
-        }
-        Ok(())
+    // Begins the next round.
+    fn advance<M: Reporting>(&mut self, load: &mut Load<M>)
+        ensures load { load.new ≡ load.old }
+        ensures asked { StaysAsked self.old self.new }
+    {
+        load.advance();
+        advance_lanes(&mut self.channels);
     }
 
-    // Begins the next round.
-    fn advance<M: Reporting>(&mut self, load: &mut Load<M>) {
-        load.advance();
-        for channel in &mut self.channels {
-            channel.lane.advance();
-        }
+    // Reads each source up to the end of the current round.
+    fn read_round<R: Read, M: Reporting>(
+        &mut self,
+        input: &mut R,
+        load: &mut Load<M>,
+    ) -> Result<(), Trouble>
+        ensures takes { OnOk result (TakesOn load.old load.new) }
+        ensures asked { OnOk result (StaysAsked self.old self.new) }
+    {
+        self.main.read_round(input, &mut self.blocks, load)?;
+        read_channels(&mut self.channels, &mut self.blocks, load)?;
+        Ok(())
+    }
+}
+
+// Reads each channel up to the end of the current round.
+fn read_channels<F: Read + OpenFile + Drop, M: Reporting>(
+    channels: &mut [Channel<F>],
+    blocks: &mut Option<Blocks>,
+    load: &mut Load<M>,
+) -> Result<(), Trouble>
+    ensures takes { OnOk result (TakesOn load.old load.new) }
+    ensures count { length channels.new ≡ length channels.old }
+{
+    for i in 0..channels.len() {
+        channels[i].read_round(Source::Channel(i), blocks, load)?;
+    }
+    Ok(())
+}
+
+// Begins the next round of each channel.
+fn advance_lanes<F: Drop>(channels: &mut [Channel<F>])
+    ensures { length channels.new ≡ length channels.old }
+{
+    for i in 0..channels.len() {
+        channels[i].lane.advance();
     }
 }
 
 // Returns a table of one page, for the load of a stream that names none.
-fn one_page(alloc: Global, page_size: PageSize) -> Result<Table, Trouble> {
+fn one_page(alloc: Global, page_size: u64) -> Result<Table, Trouble>
+    requires { IsPageSize page_size }
+{
     let mut list = Vec::new(alloc);
     list.push((b"none".to_vec(alloc)?, 1))?;
-    match Table::new(alloc, page_size.bytes(), list) {
+    match Table::new(alloc, page_size, list) {
         Ok(table) => Ok(table),
         Err(_) => Err(Trouble::NoMemory),
     }
@@ -305,13 +456,18 @@ fn read_named<H: AllocGlobal + Files + Clock, S: GuestSink<H> + Drop, E: Write>(
     sink: S,
     watch: &mut Watch,
     errors: &mut E,
-) -> (Result<(), Trouble>, S) {
+) -> (Result<(), Trouble>, S)
+    requires page_size { IsPageSize several.old.page_size }
+    requires limit { several.old.limit ≤ 2 ^ 40 }
+    ensures asked { OnOk result.0 (StaysAsked several.old several.new) }
+    ensures answered { OnOk result.0 (IsAnswered (S.holds result.1) several.new) }
+{
     let mut file = match File::open(rt, words.file) {
         Ok(file) => file,
         Err(error) => return (Err(Trouble::Unread(error)), sink),
     };
     several.expect_file(&file, watch);
-    several.read(rt, words, &mut file, sink, watch, errors)
+    several.read(rt, &mut file, sink, watch, errors)
 }
 
 // Reads all sources of `several`, the main stream from its file or from `input`. Returns the sink,
@@ -323,22 +479,31 @@ fn read_sources<H: AllocGlobal + Files + Clock, R: Read, S: GuestSink<H> + Drop,
     input: &mut R,
     sink: S,
     errors: &mut E,
-) -> (Result<(), Trouble>, S) {
+) -> (Result<(), Trouble>, S)
+    requires page_size { IsPageSize several.old.page_size }
+    requires limit { several.old.limit ≤ 2 ^ 40 }
+    ensures asked { OnOk result.0 (StaysAsked several.old several.new) }
+    ensures answered { OnOk result.0 (IsAnswered (S.holds result.1) several.new) }
+{
     let mut watch = match Watch::new(rt, rt.alloc(), words.talk, words.file) {
         Ok(watch) => watch,
         Err(error) => return (Err(error.into()), sink),
     };
-    let read = if words.file == "-" {
-        several.read(rt, words, input, sink, &mut watch, errors)
-    } else {
-        read_named(rt, words, several, sink, &mut watch, errors)
-    };
+    if words.file == "-" {
+        let read = several.read(rt, input, sink, &mut watch, errors);
+        watch.end(errors);
+        return read;
+    }
+    let read = read_named(rt, words, several, sink, &mut watch, errors);
     watch.end(errors);
     read
 }
 
 /// Reads a main stream, from its file or from `input`, and its channels from their files. Passes
 /// the pages to `sink`, and returns it. A fault isn't an error: the survey that it returns has it.
+///
+/// The rounds and the verdict are those of the answer of a load on several channels. If the load is
+/// done, the sink has taken records that make the answer's memory.
 ///
 /// # Errors
 ///
@@ -351,7 +516,10 @@ pub fn read_several<H: AllocGlobal + Files + Clock, R: Read, S: GuestSink<H> + D
     input: &mut R,
     sink: S,
     errors: &mut E,
-) -> (Result<Several<H::File>, Trouble>, S) {
+) -> (Result<Several<H::File>, Trouble>, S)
+    ensures frame { IfOk result.0 (λ s. s.frame ≡ words.now.frame) }
+    ensures answered { IfOk result.0 (λ s. IsAnswered (S.holds result.1) s) }
+{
     let mut several = match opened(rt, words, channels) {
         Ok(several) => several,
         Err(trouble) => return (Err(trouble), sink),

@@ -1,0 +1,9 @@
+use Rattle.mig_sources.specs.declared.source.Source.TheVariants as source
+use Rattle.zimgasol_reading.proofs.Loading.{takes_fed, takes_ended}
+use Rattle.zimgasol_reading.proofs.main_stream.MainStream.feed_piece.Goals as goal
+
+pub returns-then-not-is_more : goal.returns-then-not-is_more
+returns-then-not-is_more g c = takes_ended source.Main c.args.load.now c.end.new.self c.end.ensures
+
+pub returns : goal.returns
+returns g c = takes_fed source.Main _ c.args.load.now c.feed.new.self c.in_ok-feed.ensures.takes

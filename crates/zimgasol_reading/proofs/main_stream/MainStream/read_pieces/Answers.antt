@@ -1,0 +1,8 @@
+use Rattle.zimgasol_reading.proofs.Loading.{takes_none, takes_both}
+use Rattle.zimgasol_reading.proofs.main_stream.MainStream.read_pieces.Goals as goal
+
+pub pieces-init : goal.pieces-init
+pieces-init g c = takes_none c.args.load.now
+
+pub pieces-preserved : goal.pieces-preserved
+pieces-preserved g c = takes_both c.args.load.now c.pieces.load c.feed_piece.new.load c.pieces.invariant c.in_ok-feed_piece.ensures

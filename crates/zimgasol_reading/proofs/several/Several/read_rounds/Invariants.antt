@@ -1,0 +1,6 @@
+use Rattle.zimgasol_reading.specs.Loaded.{TakesOn}
+use Rattle.zimgasol_reading.specs.Answered.{StaysAsked}
+use Rattle.zimgasol_reading.proofs.several.Several.read_rounds.Given as goal
+
+abbrev pub invariant-rounds : goal.invariant-rounds
+invariant-rounds g l = TakesOn l.fn.load l.load × StaysAsked l.fn.self l.self
