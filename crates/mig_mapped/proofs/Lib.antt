@@ -13,3 +13,10 @@ pub mod Bits
 pub mod Laid
 pub mod Marking
 pub mod Parts
+pub mod FrontItems
+pub mod FrontFound
+pub mod FrontFields
+pub mod FrontParsed
+pub mod FrontSteps
+pub mod FrontPlain
+pub mod FrontAdded

@@ -6,5 +6,7 @@ pub mod Reading
 pub mod Index
 pub mod Load
 pub mod Write
+pub mod Front
+pub mod FrontParts
 pub mod Law
 pub mod FaultNumber

@@ -1,7 +1,15 @@
 //! The front of a file with mapped-ram: what comes before the first entry of the size list. It is
 //! that of a plain stream, but for the capability `mapped-ram` in the configuration.
-//!
-//! The calls return on any bytes. What they find and copy is tested, not proved.
+
+ghost use Rattle.std.specs.Prelude.{ℕ, ◌≡◌, ◌+◌, ◌-◌, ◌<◌, ◌≤◌, ◌^◌, ◌++◌, ◌≢◌, length, take, drop, slice_index, slice_range, true, false, List, [], ◌∷◌, Some, IfOk, IfSome, IfNone};
+ghost use Rattle.mig_mem.specs.RamTable.{RamTable};
+ghost use Rattle.mig_stream.specs.Fields.{be32, counted};
+ghost use Rattle.mig_stream.specs.Format.{most_name_bytes, subsection_type, mapped_ram};
+ghost use Rattle.mig_stream.specs.Items.{is_passed_command};
+ghost use Rattle.mig_stream.specs.Machine.{Command, command, IsCommand, SubsectionBody, Capabilities, subsection};
+ghost use Rattle.mig_mapped.specs.declared.front.MappedFront.{MappedFront};
+ghost use Rattle.mig_mapped.specs.Front.{Front, IsOther, IsTotal, IsFront, BeginsWith, HasFront, AddsCapability, HasNoPlace, mapped_front, plain_front as plain_bytes, alone, end_bytes as end_of};
+ghost use Rattle.mig_mapped.specs.FrontParts.{Begins, BeginsWithNone, BeginsWithAll, machine_bytes, IsMachine, Start, started, IsStart, HasTotal, LiesIn, names_at, HasNames, HasNoNames, HasCapabilities, HasNoCapabilities};
 
 use crate::fields::{be16, be32, be64};
 use mig_mem::NoMemory;
@@ -21,7 +29,7 @@ const UUID_HEAD: &[u8] = b"\x05\x12configuration/uuid\x00\x00\x00\x01";
 
 const CAPABILITIES_HEAD: &[u8] = b"\x05\x1aconfiguration/capabilities\x00\x00\x00\x01";
 
-// The number of bytes of a subsection with page bits or a UUID.
+// The number of bytes of a subsection of page bits or of a UUID.
 const OTHER_LEN: usize = 40;
 
 // The place of the number of capabilities in their subsection, and that of the first name.
@@ -29,15 +37,21 @@ const COUNT_AT: usize = 32;
 
 const NAMES_AT: usize = 36;
 
-// The capability, and the number of its bytes in a list of names, after its length.
+// The capability; the same after its length; and one capability, which is it.
 const MAPPED_RAM: &[u8] = b"mapped-ram";
 
 const COUNTED_MAPPED_RAM: &[u8] = b"\x0amapped-ram";
 
+const ONE_MAPPED_RAM: &[u8] = b"\x00\x00\x00\x01\x0amapped-ram";
+
+// The number of bytes of the capability after its length.
 const NAME_LEN: usize = 11;
 
 // QEMU_VM_COMMAND
 const COMMAND: u8 = 0x08;
+
+// QEMU_VM_SECTION_START
+const START: u8 = 0x01;
 
 // START's name "ram" after its length, instance 0 and version 4: what follows the section's id.
 const RAM_HEAD: &[u8] = b"\x03ram\x00\x00\x00\x00\x00\x00\x00\x04";
@@ -45,18 +59,20 @@ const RAM_HEAD: &[u8] = b"\x03ram\x00\x00\x00\x00\x00\x00\x00\x04";
 // START's head with the section id that a writer writes.
 const WRITTEN_START: &[u8] = b"\x01\x00\x00\x00\x01\x03ram\x00\x00\x00\x00\x00\x00\x00\x04";
 
-// The number of bytes of START's head with the total.
+// The number of bytes of START's head and the total.
 const START_LEN: usize = 25;
 
-// RAM_SAVE_FLAG_MEM_SIZE, and the bits of a record's head that are flags
+// RAM_SAVE_FLAG_MEM_SIZE, and the number below which the flags of a record's head are.
 const MEM_SIZE: u64 = 0x004;
 
-const FLAGS: u64 = 0x1000;
+const LEAST_PAGE_SIZE: u64 = 0x1000;
 
 // The most bytes that the blocks of a guest have together.
 const MAX_TOTAL: u64 = 1 << 40;
 
-// The most bytes of the name in a configuration.
+// The place of the machine's name, and the most bytes that it has.
+const MACHINE_AT: usize = 13;
+
 const MAX_NAME_LEN: usize = 1024;
 
 /// Where the parts of a file's front are, as offsets in the stream. The front is what comes before
@@ -77,153 +93,148 @@ pub struct MappedFront {
     pub name: usize,
 }
 
-// The names of some capabilities: their number of bytes, and the place of `mapped-ram` among them.
+// The subsection with the capabilities: the number of its bytes, the number of capabilities, and
+// the place of `mapped-ram` in it.
 #[derive(Clone, Copy)]
-struct Names {
+struct NameList {
     len: usize,
-    mapped: Option<usize>,
-}
-
-// The subsection with the capabilities: its offset and its end, the number of capabilities, and the
-// offset of `mapped-ram`.
-#[derive(Clone, Copy)]
-struct Capabilities {
-    at: usize,
-    end: usize,
     count: u32,
     mapped: Option<usize>,
 }
 
-// The end of a configuration, and its subsection with the capabilities.
-#[derive(Clone, Copy)]
-struct Configuration {
-    end: usize,
-    capabilities: Option<Capabilities>,
-}
-
 /// Finds the front of a file whose configuration names `mapped-ram`. Returns None if `bytes` don't
 /// begin with one, or end inside it.
-pub fn front_in(bytes: &[u8]) -> Option<MappedFront> {
-    let configuration = configuration_in(bytes)?;
-    let capabilities = configuration.capabilities?;
-    let name = capabilities.mapped?;
-    let start = commands_end(bytes, configuration.end)?;
-    let total = total_in(bytes.get(start..)?)?;
+pub fn front_in(bytes: &[u8]) -> Option<MappedFront>
+    ensures found { IfSome result (λ front. HasFront bytes.now front) }
+    ensures all { (front : MappedFront) → HasFront bytes.now front → result ≡ Some front }
+{
+    let before = machine_end(bytes)?;
+    let subsection = before + others_len(&bytes[before..]);
+    let capabilities = capabilities_in(&bytes[subsection..])?;
+    let mapped = capabilities.mapped?;
+    let after = subsection + capabilities.len;
+    let commands = after + others_len(&bytes[after..]);
+    let start = commands + commands_len(&bytes[commands..]);
+    let total = total_in(&bytes[start..])?;
     Some(MappedFront {
-        place: start.checked_add(START_LEN)?,
+        place: start + START_LEN,
         total,
-        subsection: capabilities.at,
-        count: capabilities.at.checked_add(COUNT_AT)?,
+        subsection,
+        count: subsection + COUNT_AT,
         capabilities: capabilities.count,
-        name,
+        name: subsection + mapped,
     })
 }
 
-// Returns the place after the machine's name in the configuration.
-fn name_end(bytes: &[u8]) -> Option<usize> {
-    if !bytes.starts_with(CONFIGURATION_HEAD) || bytes.len() < 13 {
+// Returns whether `bytes` begin with `front`.
+fn begins(bytes: &[u8], front: &[u8]) -> bool
+    ensures found { result ≡ true → bytes.now ≡ front.now ++ drop (length front.now) bytes.now }
+    ensures all { (rest : List ℕ) → bytes.now ≡ front.now ++ rest → result ≡ true }
+{
+    bytes.starts_with(front)
+}
+
+// Returns the place after the machine's name in the configuration, which follows the file header.
+fn machine_end(bytes: &[u8]) -> Option<usize>
+    ensures found { IfSome result (λ n. Begins (List ℕ) machine_bytes IsMachine bytes.now n) }
+    ensures none { IfNone result (BeginsWithNone (List ℕ) machine_bytes IsMachine bytes.now) }
+{
+    if bytes.len() < MACHINE_AT || !begins(bytes, CONFIGURATION_HEAD) {
         return None;
     }
     let len = be32(bytes, 9) as usize;
-    if len > MAX_NAME_LEN || bytes.len() - 13 < len {
+    if len > MAX_NAME_LEN || bytes.len() - MACHINE_AT < len {
         return None;
     }
-    Some(13 + len)
+    Some(MACHINE_AT + len)
 }
 
-// Finds the configuration after the file header.
-fn configuration_in(bytes: &[u8]) -> Option<Configuration> {
-    let mut end = name_end(bytes)?;
-    let mut capabilities = None;
-    for _ in 0..bytes.len() {
-        let rest = bytes.get(end..)?;
-        if rest.first() != Some(&SUBSECTION) {
-            break;
-        }
-        if let Some(len) = other_len(rest) {
-            end = end.checked_add(len)?;
-            continue;
-        }
-        if capabilities.is_some() {
-            return None;
-        }
-        let found = capabilities_in(rest, end)?;
-        end = found.end;
-        capabilities = Some(found);
+// Returns the number of bytes of the subsections at the front of `bytes`, up to the first one that
+// has capabilities.
+fn others_len(bytes: &[u8]) -> usize
+    ensures { BeginsWithAll SubsectionBody subsection IsOther bytes.now result }
+{
+    let mut len = 0;
+    while is_other(&bytes[len..]) {
+        len += OTHER_LEN;
     }
-    Some(Configuration { end, capabilities })
+    len
 }
 
-// Returns the number of bytes of the subsection at the front of `bytes`, if it is one of page bits
-// or of a UUID.
-fn other_len(bytes: &[u8]) -> Option<usize> {
-    let is_other = bytes.starts_with(PAGE_BITS_HEAD) || bytes.starts_with(UUID_HEAD);
-    if !is_other || bytes.len() < OTHER_LEN {
+// Returns whether a subsection of page bits or of a UUID is at the front of `bytes`.
+fn is_other(bytes: &[u8]) -> bool
+    ensures found { result ≡ true → Begins SubsectionBody subsection IsOther bytes.now 40 }
+    ensures none { result ≡ false → BeginsWithNone SubsectionBody subsection IsOther bytes.now }
+{
+    bytes.len() >= OTHER_LEN && (begins(bytes, PAGE_BITS_HEAD) || begins(bytes, UUID_HEAD))
+}
+
+// Finds the subsection with the capabilities at the front of `bytes`.
+fn capabilities_in(bytes: &[u8]) -> Option<NameList>
+    ensures found { IfSome result (λ found. HasCapabilities bytes.now found) }
+    ensures none { IfNone result (HasNoCapabilities bytes.now) }
+{
+    if bytes.len() < NAMES_AT || !begins(bytes, CAPABILITIES_HEAD) {
         return None;
     }
-    Some(OTHER_LEN)
+    names_in(&bytes[NAMES_AT..], be32(bytes, COUNT_AT))
 }
 
-// Finds the subsection with the capabilities at the front of `rest`, which is at the offset `at`.
-fn capabilities_in(rest: &[u8], at: usize) -> Option<Capabilities> {
-    if !rest.starts_with(CAPABILITIES_HEAD) || rest.len() < NAMES_AT {
-        return None;
+// Finds `count` names at the front of `bytes`, of which at most one is `mapped-ram`. Places are
+// those in the subsection.
+fn names_in(bytes: &[u8], count: u32) -> Option<NameList>
+    ensures found { IfSome result (λ found. HasNames count bytes.now found) }
+    ensures none { IfNone result (HasNoNames count bytes.now) }
+{
+    let mut len = 0;
+    let mut mapped = None;
+    for _ in 0..count {
+        let name = name_in(&bytes[len..])?;
+        if name == MAPPED_RAM {
+            if mapped.is_some() {
+                return None;
+            }
+            mapped = Some(NAMES_AT + len);
+        }
+        len += 1 + name.len();
     }
-    let count = be32(rest, COUNT_AT);
-    let names = names_in(rest.get(NAMES_AT..)?, count)?;
-    let first = at.checked_add(NAMES_AT)?;
-    let mapped = match names.mapped {
-        Some(name) => Some(first.checked_add(name)?),
-        None => None,
-    };
-    Some(Capabilities {
-        at,
-        end: first.checked_add(names.len)?,
+    Some(NameList {
+        len: NAMES_AT + len,
         count,
         mapped,
     })
 }
 
-// Finds `count` names at the front of `bytes`, of which at most one is `mapped-ram`.
-fn names_in(bytes: &[u8], count: u32) -> Option<Names> {
-    let mut len = 0usize;
-    let mut mapped = None;
-    for _ in 0..count {
-        let name = counted_in(bytes.get(len..)?)?;
-        if name == MAPPED_RAM {
-            if mapped.is_some() {
-                return None;
-            }
-            mapped = Some(len);
-        }
-        len = len.checked_add(name.len().checked_add(1)?)?;
-    }
-    Some(Names { len, mapped })
-}
-
 // Returns the name at the front of `bytes`, after its length.
-fn counted_in(bytes: &[u8]) -> Option<&[u8]> {
+fn name_in(bytes: &[u8]) -> Option<&[u8]>
+    ensures found { IfSome result (λ name. bytes.now ≡ counted name.now ++ drop (1 + length name.now) bytes.now) }
+    ensures short { IfSome result (λ name. length name.now < 2 ^ 8) }
+    ensures none { IfNone result ((name : List ℕ) (rest : List ℕ) → bytes.now ≡ counted name ++ rest → ⊥) }
+{
     let len = *bytes.first()? as usize;
-    bytes.get(1..len.checked_add(1)?)
-}
-
-// Returns the place after the COMMANDs that begin at `from`.
-fn commands_end(bytes: &[u8], from: usize) -> Option<usize> {
-    let mut end = from;
-    for _ in 0..bytes.len() {
-        let rest = bytes.get(end..)?;
-        if rest.first() != Some(&COMMAND) {
-            break;
-        }
-        end = end.checked_add(command_len(rest)?)?;
+    if bytes.len() - 1 < len {
+        return None;
     }
-    Some(end)
+    Some(&bytes[1..1 + len])
 }
 
-// Returns the number of bytes of the COMMAND at the front of `bytes`, if it is one that is passed
-// over.
-fn command_len(bytes: &[u8]) -> Option<usize> {
-    if bytes.len() < 5 || !matches!(be16(bytes, 1), 1 | 2 | 3 | 8 | 11) {
+// Returns the number of bytes of the COMMANDs at the front of `bytes`.
+fn commands_len(bytes: &[u8]) -> usize
+    ensures { BeginsWithAll Command command IsCommand bytes.now result }
+{
+    let mut len = 0;
+    while let Some(command) = command_len(&bytes[len..]) {
+        len += command;
+    }
+    len
+}
+
+// Returns the number of bytes of the COMMAND at the front of `bytes`, if it is passed over.
+fn command_len(bytes: &[u8]) -> Option<usize>
+    ensures found { IfSome result (λ n. Begins Command command IsCommand bytes.now n) }
+    ensures none { IfNone result (BeginsWithNone Command command IsCommand bytes.now) }
+{
+    if bytes.len() < 5 || bytes[0] != COMMAND || !is_passed(be16(bytes, 1)) {
         return None;
     }
     let len = be16(bytes, 3) as usize;
@@ -233,29 +244,35 @@ fn command_len(bytes: &[u8]) -> Option<usize> {
     Some(5 + len)
 }
 
-// Returns the total in RAM's START, which is at the front of `bytes`.
-fn total_in(bytes: &[u8]) -> Option<u64> {
-    if bytes.len() < START_LEN || bytes[0] != 0x01 || !bytes[5..].starts_with(RAM_HEAD) {
+// Returns whether a COMMAND with this number is passed over: MIG_CMD_OPEN_RETURN_PATH,
+// MIG_CMD_PING, MIG_CMD_POSTCOPY_ADVISE, MIG_CMD_ENABLE_COLO and MIG_CMD_SWITCHOVER_START.
+fn is_passed(number: u16) -> bool
+    ensures { result ≡ is_passed_command number }
+{
+    match number {
+        1 | 2 | 3 | 8 | 11 => true,
+        _ => false,
+    }
+}
+
+// Returns the total in RAM's START at the front of `bytes`.
+fn total_in(bytes: &[u8]) -> Option<u64>
+    ensures found { IfSome result (λ total. HasTotal bytes.now total) }
+    ensures none { IfNone result (BeginsWithNone Start started IsStart bytes.now) }
+{
+    if bytes.len() < START_LEN || bytes[0] != START || !begins(&bytes[5..], RAM_HEAD) {
         return None;
     }
     let head = be64(bytes, 17);
-    let total = head / FLAGS * FLAGS;
-    if head % FLAGS != MEM_SIZE || total == 0 || total > MAX_TOTAL {
+    let total = head / LEAST_PAGE_SIZE * LEAST_PAGE_SIZE;
+    if head % LEAST_PAGE_SIZE != MEM_SIZE || total == 0 || total > MAX_TOTAL {
         return None;
     }
     Some(total)
 }
 
-// Returns the bytes from `start` to `end`; none if `bytes` hasn't them.
-fn part(bytes: &[u8], start: usize, end: usize) -> &[u8] {
-    match bytes.get(start..end) {
-        Some(part) => part,
-        None => &[],
-    }
-}
-
-/// Copies the front that `front_in` found in `bytes` without the capability: the front of a plain
-/// stream of the same guest. If it is the only capability the whole subsection isn't copied.
+/// Copies the front without the capability: the front of a plain stream of the same guest. If it is
+/// the only capability the whole subsection isn't copied.
 ///
 /// # Errors
 ///
@@ -264,18 +281,45 @@ pub fn plain_front<A: Allocator>(
     alloc: A,
     bytes: &[u8],
     front: MappedFront,
-) -> Result<Vec<u8, A>, NoMemory> {
-    let mut plain = Vec::new(alloc);
+) -> Result<Vec<u8, A>, NoMemory>
+    requires { HasFront bytes.now front }
+    ensures { IfOk result (λ v. (f : Front) → BeginsWith f bytes.now front → v.items ≡ plain_bytes f) }
+{
     if front.capabilities == 1 {
-        plain.extend_from_slice(part(bytes, 0, front.subsection))?;
-    } else {
-        let others = front.capabilities.saturating_sub(1);
-        plain.extend_from_slice(part(bytes, 0, front.count))?;
-        plain.extend_from_slice(&others.to_be_bytes())?;
-        plain.extend_from_slice(part(bytes, front.count.saturating_add(4), front.name))?;
+        return without_list(alloc, bytes, front);
     }
-    let after = front.name.saturating_add(NAME_LEN);
-    plain.extend_from_slice(part(bytes, after, front.place))?;
+    without_name(alloc, bytes, front)
+}
+
+// Copies the front without the subsection with the capabilities.
+fn without_list<A: Allocator>(
+    alloc: A,
+    bytes: &[u8],
+    front: MappedFront,
+) -> Result<Vec<u8, A>, NoMemory>
+    requires { LiesIn bytes.now front }
+    ensures { IfOk result (λ v. v.items ≡ take front.subsection bytes.now ++ slice_range bytes.now (front.name + 11) front.place) }
+{
+    let mut plain = Vec::new(alloc);
+    plain.extend_from_slice(&bytes[..front.subsection])?;
+    plain.extend_from_slice(&bytes[front.name + NAME_LEN..front.place])?;
+    Ok(plain)
+}
+
+// Copies the front without the name.
+fn without_name<A: Allocator>(
+    alloc: A,
+    bytes: &[u8],
+    front: MappedFront,
+) -> Result<Vec<u8, A>, NoMemory>
+    requires { LiesIn bytes.now front }
+    ensures { IfOk result (λ v. v.items ≡ take front.count bytes.now ++ be32 (front.capabilities - 1) ++ slice_range bytes.now (front.count + 4) front.name ++ slice_range bytes.now (front.name + 11) front.place) }
+{
+    let mut plain = Vec::new(alloc);
+    plain.extend_from_slice(&bytes[..front.count])?;
+    plain.extend_from_slice(&(front.capabilities - 1).to_be_bytes())?;
+    plain.extend_from_slice(&bytes[front.count + 4..front.name])?;
+    plain.extend_from_slice(&bytes[front.name + NAME_LEN..front.place])?;
     Ok(plain)
 }
 
@@ -286,58 +330,75 @@ pub fn plain_front<A: Allocator>(
 /// # Errors
 ///
 /// `NoMemory`: an allocation was refused.
-pub fn with_mapped_ram<A: Allocator>(
-    alloc: A,
-    bytes: &[u8],
-) -> Result<Option<Vec<u8, A>>, NoMemory> {
-    let Some(configuration) = configuration_in(bytes) else {
+pub fn with_mapped_ram<A: Allocator>(alloc: A, bytes: &[u8]) -> Result<Option<Vec<u8, A>>, NoMemory>
+    ensures added { IfOk result (λ r. IfSome r (λ v. AddsCapability bytes.now v.items)) }
+    ensures none { IfOk result (λ r. IfNone r (HasNoPlace bytes.now)) }
+{
+    let Some(before) = machine_end(bytes) else {
         return Ok(None);
     };
-    let Some(capabilities) = configuration.capabilities else {
-        return Ok(Some(with_subsection(alloc, bytes, configuration.end)?));
+    let subsection = before + others_len(&bytes[before..]);
+    let Some(list) = capabilities_in(&bytes[subsection..]) else {
+        if is_subsection(&bytes[subsection..]) {
+            return Ok(None);
+        }
+        return Ok(Some(with_subsection(alloc, bytes, subsection)?));
     };
-    if capabilities.mapped.is_some() || capabilities.count == u32::MAX {
+    let end = subsection + list.len;
+    let after = end + others_len(&bytes[end..]);
+    if is_subsection(&bytes[after..]) || list.mapped.is_some() || list.count == u32::MAX {
         return Ok(None);
     }
-    Ok(Some(with_name(alloc, bytes, capabilities)?))
+    Ok(Some(with_name(alloc, bytes, subsection, end, list.count + 1)?))
+}
+
+// Returns whether a subsection of any content begins at the front of `bytes`, complete or not.
+fn is_subsection(bytes: &[u8]) -> bool
+    ensures found { result ≡ true → slice_index bytes.now 0 ≡ subsection_type }
+    ensures none { result ≡ false → slice_index bytes.now 0 ≢ subsection_type }
+{
+    !bytes.is_empty() && bytes[0] == SUBSECTION
 }
 
 // Copies `bytes` with a subsection of the one capability at `end`.
-fn with_subsection<A: Allocator>(
-    alloc: A,
-    bytes: &[u8],
-    end: usize,
-) -> Result<Vec<u8, A>, NoMemory> {
+#[tactic(auto, unfolding(mig_stream::specs::Format::subsection_name, mig_stream::specs::Format::mapped_ram))]
+fn with_subsection<A: Allocator>(alloc: A, bytes: &[u8], end: usize) -> Result<Vec<u8, A>, NoMemory>
+    requires { end ≤ length bytes.now }
+    ensures { IfOk result (λ v. v.items ≡ take end bytes.now ++ subsection (Capabilities (mapped_ram ∷ [])) ++ drop end bytes.now) }
+{
     let mut mapped = Vec::new(alloc);
-    mapped.extend_from_slice(part(bytes, 0, end))?;
+    mapped.extend_from_slice(&bytes[..end])?;
     mapped.extend_from_slice(CAPABILITIES_HEAD)?;
-    mapped.extend_from_slice(&1u32.to_be_bytes())?;
-    mapped.extend_from_slice(COUNTED_MAPPED_RAM)?;
-    mapped.extend_from_slice(part(bytes, end, bytes.len()))?;
+    mapped.extend_from_slice(ONE_MAPPED_RAM)?;
+    mapped.extend_from_slice(&bytes[end..])?;
     Ok(mapped)
 }
 
-// Copies `bytes` with the name after those of the capabilities.
+// Copies `bytes` with the name at `end`. The subsection with the capabilities is at `at`, and gets
+// `count` for their number.
+#[tactic(auto, unfolding(mig_stream::specs::Format::mapped_ram))]
 fn with_name<A: Allocator>(
     alloc: A,
     bytes: &[u8],
-    capabilities: Capabilities,
-) -> Result<Vec<u8, A>, NoMemory> {
+    at: usize,
+    end: usize,
+    count: u32,
+) -> Result<Vec<u8, A>, NoMemory>
+    requires names { at + names_at ≤ end }
+    requires end { end ≤ length bytes.now }
+    ensures { IfOk result (λ v. v.items ≡ take (at + 32) bytes.now ++ be32 count ++ slice_range bytes.now (at + names_at) end ++ counted mapped_ram ++ drop end bytes.now) }
+{
     let mut mapped = Vec::new(alloc);
-    let count = capabilities.count.saturating_add(1);
-    let names = capabilities.at.saturating_add(NAMES_AT);
-    let end = capabilities.end;
-    mapped.extend_from_slice(part(bytes, 0, capabilities.at.saturating_add(COUNT_AT)))?;
+    mapped.extend_from_slice(&bytes[..at + COUNT_AT])?;
     mapped.extend_from_slice(&count.to_be_bytes())?;
-    mapped.extend_from_slice(part(bytes, names, end))?;
+    mapped.extend_from_slice(&bytes[at + NAMES_AT..end])?;
     mapped.extend_from_slice(COUNTED_MAPPED_RAM)?;
-    mapped.extend_from_slice(part(bytes, end, bytes.len()))?;
+    mapped.extend_from_slice(&bytes[end..])?;
     Ok(mapped)
 }
 
 /// Returns the front of a machine's file that has no other state: the file header, a configuration
-/// with the name and the one capability, and RAM's START up to the total. QEMU reads a name of at
-/// most 1,024 bytes, and a total that is a multiple of the page size.
+/// with the name and the one capability, and RAM's START up to the total.
 ///
 /// # Errors
 ///
@@ -346,23 +407,28 @@ pub fn front_bytes<A: Allocator>(
     alloc: A,
     machine: &[u8],
     total: u64,
-) -> Result<Vec<u8, A>, NoMemory> {
-    let len = machine.len().min(u32::MAX as usize) as u32;
+) -> Result<Vec<u8, A>, NoMemory>
+    requires machine { length machine.now ≤ most_name_bytes }
+    requires total { IsTotal total }
+    ensures bytes { IfOk result (λ v. v.items ≡ mapped_front (alone machine.now total)) }
+    ensures front { IsFront (alone machine.now total) }
+{
     let mut front = Vec::new(alloc);
     front.extend_from_slice(CONFIGURATION_HEAD)?;
-    front.extend_from_slice(&len.to_be_bytes())?;
+    front.extend_from_slice(&(machine.len() as u32).to_be_bytes())?;
     front.extend_from_slice(machine)?;
     front.extend_from_slice(CAPABILITIES_HEAD)?;
-    front.extend_from_slice(&1u32.to_be_bytes())?;
-    front.extend_from_slice(COUNTED_MAPPED_RAM)?;
+    front.extend_from_slice(ONE_MAPPED_RAM)?;
     front.extend_from_slice(WRITTEN_START)?;
-    front.extend_from_slice(&total.saturating_add(MEM_SIZE).to_be_bytes())?;
+    front.extend_from_slice(&(total + MEM_SIZE).to_be_bytes())?;
     Ok(front)
 }
 
 /// Returns what follows the last block's pages in a file without devices: EOS and footer of START,
 /// END with EOS and footer, and the end byte, QEMU_VM_EOF.
-pub fn end_bytes() -> [u8; 32] {
+pub fn end_bytes() -> [u8; 32]
+    ensures { (table : RamTable) → result ≡ end_of table }
+{
     [
         0, 0, 0, 0, 0, 0, 0, 0x10, 0x7E, 0, 0, 0, 1, 0x03, 0, 0, 0, 1, 0, 0, 0, 0, 0, 0, 0, 0x10,
         0x7E, 0, 0, 0, 1, 0,

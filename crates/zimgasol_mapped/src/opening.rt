@@ -1,6 +1,7 @@
 //! Tells a file with mapped-ram from others, and opens it as a plain stream.
 
 ghost use Rattle.std.specs.Prelude.{◌≡◌, ◌<◌, ◌≤◌, ◌^◌, IfSome};
+ghost use Rattle.mig_mapped.specs.Front.{HasFront};
 ghost use Rattle.mig_mem.specs.PageSize.{IsPageSize};
 
 use crate::heads::{ListPlace, read_heads};
@@ -78,6 +79,7 @@ fn list_in(bytes: &[u8], before: u64, page_size: u64) -> Option<(MappedFront, Li
     ensures place { IfSome result (λ found. found.1.place < 2 ^ 63) }
     ensures some { IfSome result (λ found. 0 < found.1.total) }
     ensures limit { IfSome result (λ found. found.1.total ≤ 2 ^ 40) }
+    ensures front { IfSome result (λ found. HasFront bytes.now found.0) }
 {
     let front = front_in(bytes)?;
     let total = front.total;
@@ -107,6 +109,7 @@ fn open_mapped<F: Read + Seek + Drop>(
     requires place { list.place < 2 ^ 63 }
     requires some { 0 < list.total }
     requires limit { list.total ≤ 2 ^ 40 }
+    requires front { HasFront bytes.now front }
 {
     let index = read_heads(alloc, &mut file, list)?;
     let plain = plain_front(alloc, bytes, front)?;

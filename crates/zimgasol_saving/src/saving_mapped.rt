@@ -1,6 +1,9 @@
 //! `save --layout mapped-ram`: makes a file as QEMU does with the capability `mapped-ram`, in which
 //! each page has a place of its own.
 
+ghost use Rattle.std.specs.Prelude.{IsTrue};
+ghost use Rattle.mig_mapped.specs.Front.{IsTotal};
+
 use crate::blocks::send_blocks;
 use crate::mapped::{MappedSending, put_at};
 use crate::plan::Plan;
@@ -125,7 +128,9 @@ fn state_front(
 }
 
 // Returns whether the blocks of a guest may have `total` bytes together.
-fn is_total(total: u64) -> bool {
+fn is_total(total: u64) -> bool
+    ensures { IsTrue result → IsTotal total }
+{
     total != 0 && total % PAGE_SIZE_4K == 0 && total <= MAX_TOTAL
 }
 
