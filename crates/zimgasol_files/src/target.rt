@@ -1,5 +1,8 @@
 //! Writes files under another name until they are complete.
 
+ghost use Rattle.std.specs.Prelude.{OnOk};
+ghost use Rattle.std.specs.Io.KnownBytes.{Appends};
+
 use crate::opened::unfit;
 use crate::shown_name;
 use crate::trouble::{Trouble, Unfit};
@@ -105,7 +108,9 @@ impl<F: Write + OpenFile + Drop> Outlet<F> {
     /// # Errors
     ///
     /// `Trouble::OfFile` if they can't be written.
-    pub fn write(&mut self, bytes: &[u8]) -> Result<(), Trouble> {
+    pub fn write(&mut self, bytes: &[u8]) -> Result<(), Trouble>
+        ensures { OnOk result (Appends (F.contents self.old.file) (F.contents self.new.file) bytes.now) }
+    {
         self.written = self.written.saturating_add(bytes.len() as u64);
         match self.file.write_all(bytes) {
             Ok(()) => Ok(()),

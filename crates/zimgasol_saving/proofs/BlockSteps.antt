@@ -1,22 +1,22 @@
 -- A block's pieces that are read and sent one after another, and the blocks.
-use Rattle.std.proofs.Common.{ℕ, zero, suc, ◌≡◌, ◌+◌, ◌-◌, ◌*◌, ◌/◌, ◌<◌, ◌≤◌, ◌^◌, List, [], ◌∷◌, ◌++◌, length, take, drop, min, Bool}
+use Rattle.std.proofs.Common.{ℕ, zero, suc, ◌≡◌, ◌+◌, ◌-◌, ◌*◌, ◌/◌, ◌<◌, ◌≤◌, ◌^◌, List, [], ◌++◌, length, take, drop, min, Bool}
 use Rattle.std.proofs.Common.{refl, sym, ap, subst, ◌∙◌, inl, inr, Option, Some, None, append_assoc, arith}
 use Rattle.std.specs.Prelude.{IfSome, IsTrue, ◌↔◌}
 use Rattle.std.specs.Option.{option_map}
 use Rattle.std.specs.Io.KnownBytes.{Appends}
 use Rattle.std.proofs.lemmas.Bool.{cases_lt}
 use Rattle.std.proofs.lemmas.Nat.{div-mul-add}
-use Rattle.std.proofs.lemmas.List.{append-nil, length-append, length-drop, drop-drop}
+use Rattle.std.proofs.lemmas.List.{append-nil, length-drop, drop-drop}
 use Rattle.mig_mem.specs.RamTable.{RamTable, block}
-use Rattle.mig_mem.specs.Image.{Page, Image}
+use Rattle.mig_mem.specs.Image.{Page}
 use Rattle.mig_mem.specs.Round.{with_round}
 use Rattle.mig_mem.proofs.PageSizes.{page_before}
-use Rattle.zimgasol_files.specs.Differing.{Piece, AreSent}
+use Rattle.zimgasol_files.specs.Differing.{Piece}
 use Rattle.zimgasol_files.specs.ReadOn.{HasPiece, IsReadTo, ReadsOn}
 use Rattle.zimgasol_files.specs.declared.pages.Reading.{Reading}
-use Rattle.zimgasol_saving.specs.Sent.{Source, source_of, sent_from, sent_of, sent_before, sent_pages, piece_from, HasPages, memory_of, IsOlder}
-use Rattle.zimgasol_saving.specs.Written.{Front, IsStreamOf, HasSentPiece, SendsPiece}
-use Rattle.zimgasol_saving.specs.Blocks.{FilesFit, IsSaved, HasSentPages, HasSentBlock, SendsBlock, HasSentBlocks, SendsBlocks}
+use Rattle.zimgasol_saving.specs.Sent.{Source, source_of, sent_from, sent_of, sent_before, sent_pages, piece_from, HasPages}
+use Rattle.zimgasol_saving.specs.Written.{Front, IsStreamOf, SendsPiece}
+use Rattle.zimgasol_saving.specs.Blocks.{FilesFit, IsSaved, HasSentPages, HasSentBlock, SendsBlock, SendsBlocks}
 use Rattle.zimgasol_saving.proofs.SentPages.{none_sent, sent_more, piece_len, piece_is_sent, all_sent, block_more, no_block, sent_leaves}
 use Rattle.zimgasol_saving.proofs.Streams.{appends_none, appends_then}
 

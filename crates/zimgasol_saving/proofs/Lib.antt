@@ -1,3 +1,4 @@
 mod SentPages
 mod Streams
 mod BlockSteps
+mod ChannelSteps

@@ -1,11 +1,11 @@
 -- The pages that are sent, and the memory after them.
-use Rattle.std.proofs.Common.{ℕ, zero, suc, ◌≡◌, ◌+◌, ◌*◌, ◌-◌, ◌<◌, ◌≤◌, List, [], ◌∷◌, ◌++◌, length, map, take, drop, min, get_or}
-use Rattle.std.proofs.Common.{refl, sym, ap, subst, ◌∙◌, inl, inr, Option, Some, None, Bool, true, false, not, cond, ◌||◌, arith, append_assoc}
+use Rattle.std.proofs.Common.{ℕ, zero, suc, ◌≡◌, ◌+◌, ◌*◌, ◌-◌, ◌<◌, ◌≤◌, List, [], ◌∷◌, ◌++◌, length, map, take, drop, min}
+use Rattle.std.proofs.Common.{refl, sym, ap, subst, ◌∙◌, inl, inr, Option, Some, None, Bool, true, false, not, cond, arith, append_assoc}
 use Rattle.std.specs.Prelude.{bytes_eq, ◌⊎◌}
 use Rattle.std.specs.List.{filter, flat_map, range_with_len, All}
 use Rattle.std.specs.Option.{option_map_or}
 use Rattle.std.proofs.lemmas.Bool.{cases_Bool, cases_lt, or_cases, or_left, or_right, or_from, both_ways, true≢false, false≢true, false_from_ne_true}
-use Rattle.std.proofs.lemmas.List.{append-nil, map-append, length-take, length-drop, length-take-le, take-take, drop-take, drop-drop}
+use Rattle.std.proofs.lemmas.List.{append-nil, map-append, length-drop, length-take-le, take-take, drop-take, drop-drop}
 use Rattle.std.proofs.lemmas.List.Concat.{flat_map-append}
 use Rattle.std.proofs.lemmas.List.Elements.{filter-append, All-filter, All-head, All-tail}
 use Rattle.std.proofs.lemmas.Slice.Eq.{bytes_eq-Decides}
@@ -190,7 +190,7 @@ none_differs block first piece (suc n) same = ([], none_differs block first piec
 -- ---- all blocks
 
 -- the bytes of a block are those of its source
-bytes_at : (sources : List Source) (b : ℕ) → bytes_of_block (map (λ s. s.bytes) sources) b ≡ (source_of sources b).bytes
+pub bytes_at : (sources : List Source) (b : ℕ) → bytes_of_block (map (λ s. s.bytes) sources) b ≡ (source_of sources b).bytes
 bytes_at [] b = refl
 bytes_at (s ∷ sources) zero = refl
 bytes_at (s ∷ sources) (suc b) = bytes_at sources b

@@ -1,7 +1,7 @@
 -- The stream that is written, piece after piece.
 use Rattle.std.proofs.Common.{ℕ, ◌≡◌, ◌+◌, ◌-◌, ◌*◌, ◌<◌, ◌≤◌, Bool, Bor, List, [], ◌∷◌, ◌++◌, length, map, take, drop}
-use Rattle.std.proofs.Common.{refl, sym, ap, subst, ◌∙◌, inl, inr, Option, Some, None, append_assoc, arith}
-use Rattle.std.specs.Prelude.{All, IfSome, IsTrue, ◌↔◌, MatchOption}
+use Rattle.std.proofs.Common.{refl, sym, ap, subst, ◌∙◌, Option, Some, None, append_assoc, arith}
+use Rattle.std.specs.Prelude.{IsTrue, ◌↔◌, MatchOption}
 use Rattle.std.specs.Io.KnownBytes.{Appends}
 use Rattle.std.specs.Option.{option_copied}
 use Rattle.std.proofs.lemmas.Option.{none-some, same_Some}
@@ -9,7 +9,7 @@ use Rattle.std.proofs.lemmas.List.{append-nil, append_cancel_left}
 use Rattle.std.proofs.lemmas.List.Elements.{All-nil, All-cons, All-append}
 use Rattle.mig_mem.specs.RamTable.{RamTable}
 use Rattle.mig_mem.specs.Image.{Page}
-use Rattle.mig_mem.specs.Round.{IsRound, all_pages}
+use Rattle.mig_mem.specs.Round.{IsRound}
 use Rattle.mig_mem.proofs.Rounds.{all_pages-push}
 use Rattle.mig_stream.specs.Format.{end_byte}
 use Rattle.mig_stream.specs.Text.{Record, file_header, configuration, named_after, start_head, size_list, body, section}
@@ -17,16 +17,16 @@ use Rattle.mig_stream.specs.declared.item.Section.TheVariants as sections
 use Rattle.mig_stream.specs.declared.item.Section.{Section}
 use Rattle.mig_stream.specs.Written.{Part, RoundPart, written_id, single, written}
 use Rattle.mig_stream.specs.Written.{written_records, named_after_parts, opening, written_parts, written_so_far}
-use Rattle.mig_stream.specs.MachineWritten.{machine_written, machine_closed}
+use Rattle.mig_stream.specs.MachineWritten.{machine_written}
 use Rattle.mig_stream.specs.Writer.{Writer, HasDrained, with_part}
 use Rattle.mig_stream.proofs.Writing.{HasDrained-next}
 use Rattle.mig_stream.proofs.Configured.{configured_is_closed, written_is_closed}
 use Rattle.mig_send.specs.Sending.{HasSent, HasSentDrained}
 use Rattle.zimgasol_files.specs.declared.pages.Pages.{Pages}
-use Rattle.zimgasol_files.specs.Differing.{Piece, piece_of, Differs, AreSent}
+use Rattle.zimgasol_files.specs.Differing.{Piece, piece_of, Differs}
 use Rattle.zimgasol_saving.specs.declared.send.Sending.{Sending}
-use Rattle.zimgasol_saving.specs.Written.{Front, Named, Kept, kept_parts, saved_text, IsStreamOf}
-use Rattle.zimgasol_saving.specs.Written.{IsSoFar, HasId, IsSending, Ends, HasSentSection, HasSentPiece, SendsPiece}
+use Rattle.zimgasol_saving.specs.Written.{Front, Named, Kept, Beside, kept_parts, saved_text, IsStreamOf}
+use Rattle.zimgasol_saving.specs.Written.{IsSoFar, HasId, IsSending, Ends, HasSentSection, SendsPiece}
 use Rattle.zimgasol_saving.proofs.SentPages.{none_differs}
 
 -- ---- the output
@@ -117,6 +117,7 @@ more_so_far (Named name) of table rounds sent drained text bytes put has is all 
     (so_far_more name table rounds (rounds ++ sent ∷ []) drained text bytes is)
 more_so_far (Kept front id) of table rounds sent drained text bytes put has is all same sets =
     kept_more front id of table rounds sent drained text bytes put has is all sets
+more_so_far (Beside name uuid channels) of table rounds sent drained text bytes put has is all same sets = absurd is
 
 -- ---- its beginning
 
@@ -188,6 +189,7 @@ ram_ends_at w bytes h (Named (Some name)) text drained rounds none sent (rest, f
     ap (λ (l : List ℕ). l ++ bytes) is ∙ append_assoc (file_header ++ configuration (Some name)) rest bytes
     ∙ configured_is_closed (Some name) w.table (map RoundPart rounds) (rest ++ bytes) all
 ram_ends_at w bytes h (Kept front id) text drained rounds none sent is = absurd (none-some id none)
+ram_ends_at w bytes h (Beside name uuid channels) text drained rounds none sent is = absurd is
 
 pub ram_ends : (w : Writer) (bytes : List ℕ)
     → ((drained : List ℕ) (rounds : List (List Page)) → HasSentDrained drained w rounds → drained ++ bytes ≡ single w.table rounds) → Ends None w bytes
@@ -210,6 +212,7 @@ machine_ends_at w bytes last more h named (Named (Some name)) text drained round
     ap (λ (l : List ℕ). l ++ last) is ∙ ap (λ (l : List ℕ). front ++ l) more ∙ sym (append_assoc front bytes (end_byte ∷ []))
     ∙ ap (λ (l : List ℕ). l ++ end_byte ∷ []) (named (Some name) rest rounds has)
 machine_ends_at w bytes last more h named (Kept front id) text drained rounds none sent is = absurd (none-some id none)
+machine_ends_at w bytes last more h named (Beside name uuid channels) text drained rounds none sent is = absurd is
 
 pub machine_ends : (w : Writer) (bytes last : List ℕ) → last ≡ bytes ++ end_byte ∷ []
     → ((drained : List ℕ) (rounds : List (List Page)) → HasSentDrained drained w rounds
@@ -236,6 +239,7 @@ kept_ends_at : (w : Writer) (bytes last : List ℕ) (own : ℕ)
     → (front : Front) (text drained : List ℕ) (rounds : List (List Page)) → HasId front (Some own) → HasSentDrained drained w rounds
     → IsSoFar front w.table rounds drained text → text ++ last ≡ saved_text front w.table rounds
 kept_ends_at w bytes last own h sets (Named name) text drained rounds has sent is = absurd (none-some own (sym has))
+kept_ends_at w bytes last own h sets (Beside name uuid channels) text drained rounds has sent is = absurd is
 kept_ends_at w bytes last own h sets (Kept front id) text drained rounds has sent (from, is) =
     let so_far : List ℕ = written_so_far w.table (map RoundPart rounds) in
     let is_end : bytes ≡ section w.table sections.End written_id [] =

@@ -4,3 +4,5 @@ pub mod Sent
 pub mod Written
 -- The blocks
 pub mod Blocks
+-- A main stream and channels
+pub mod Channels

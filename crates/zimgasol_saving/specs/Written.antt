@@ -6,7 +6,7 @@ use Rattle.mig_mem.specs.Image.{Page}
 use Rattle.mig_mem.specs.Round.{IsRound, all_pages}
 use Rattle.mig_stream.specs.declared.item.Section.TheVariants as sections
 use Rattle.mig_stream.specs.Text.{file_header, configuration, named_after, body, section}
-use Rattle.mig_stream.specs.Written.{RoundPart, written_records, written_so_far}
+use Rattle.mig_stream.specs.Written.{RoundPart, FlushPart, written_records, written_so_far}
 use Rattle.mig_stream.specs.MachineWritten.{machine_closed}
 use Rattle.mig_stream.specs.Writer.{Writer}
 use Rattle.mig_send.specs.Sending.{HasSentDrained}
@@ -15,10 +15,11 @@ use Rattle.zimgasol_saving.specs.declared.send.Sending.{Sending}
 
 -- What a stream begins with: a file header, and a configuration if there is a machine's name; or
 -- the bytes of a machine that is restored, up to the end of its size list, with the id of RAM's
--- section there.
+-- section there; or that of a main stream with such a name, beside as many channels under a UUID.
 pub data Front : Type 0 where
   Named : Option (List ℕ) → Front
   Kept : List ℕ → ℕ → Front
+  Beside : Option (List ℕ) → List ℕ → ℕ → Front
 
 -- a PART for each round, under an id, after `before`, the block named last
 abbrev pub kept_parts : RamTable → ℕ → Option ℕ → List (List Page) → List ℕ
@@ -28,10 +29,11 @@ kept_parts table id before (round ∷ rounds) =
     ++ kept_parts table id (named_after before (written_records before round)) rounds
 
 -- The stream of some rounds. That of a machine that is restored ends with RAM's END: its devices
--- follow.
+-- follow. The main stream beside channels has a FLUSH for each round.
 abbrev pub saved_text : Front → RamTable → List (List Page) → List ℕ
 saved_text (Named name) table rounds = machine_closed name table (map RoundPart rounds)
 saved_text (Kept front id) table rounds = front ++ body table id [] ++ kept_parts table id None rounds ++ section table sections.End id []
+saved_text (Beside name uuid channels) table rounds = machine_closed name table (map (λ _. FlushPart) rounds)
 
 -- The bytes are the stream of rounds that have the pages, in their order, and no other.
 pub record IsStreamOf (front : Front) (table : RamTable) (pages : List Page) (text : List ℕ) : Type 0 where
@@ -48,6 +50,7 @@ abbrev pub IsSoFar : Front → RamTable → List (List Page) → List ℕ → Li
 IsSoFar (Named None) table rounds drained text = text ≡ drained
 IsSoFar (Named (Some name)) table rounds drained text =
     (rest : List ℕ) × (drained ≡ file_header ++ rest) × (text ≡ file_header ++ configuration (Some name) ++ rest)
+IsSoFar (Beside name uuid channels) table rounds drained text = ⊥
 IsSoFar (Kept front id) table rounds drained text =
     (drained ≡ written_so_far table (map RoundPart rounds)) × (text ≡ front ++ body table id [] ++ kept_parts table id None rounds)
 
@@ -55,6 +58,7 @@ IsSoFar (Kept front id) table rounds drained text =
 abbrev pub HasId : Front → Option ℕ → Type 0
 HasId (Named name) id = id ≡ None
 HasId (Kept front own) id = id ≡ Some own
+HasId (Beside name uuid channels) id = ⊥
 
 -- `save` is writing such a stream: the pages were sent in rounds, and these bytes were written.
 pub record IsSending (s : Sending) (front : Front) (table : RamTable) (text : List ℕ) (pages : List Page) : Type 0 where

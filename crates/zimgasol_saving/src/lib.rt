@@ -11,7 +11,7 @@
 //! | `mapped`, `saving_mapped` | write a file with mapped-ram |
 //!
 //! Definitions: `Sent`, of the pages that are sent; `Written`, of their stream; `Blocks`, of blocks
-//! that are read and sent one after another (`specs/`).
+//! that are read and sent one after another; `Channels`, of a main stream and channels (`specs/`).
 #![tactic(auto)]
 
 mod blocks;
@@ -26,4 +26,5 @@ mod send;
 mod state;
 
 pub use blocks::{BlockFiles, save_blocks, save_kept};
+pub use packets::save_packets;
 pub use saving::save;

@@ -1,10 +1,8 @@
 //! `save --channels`: makes a main stream and channels, each in a file.
 
-use crate::blocks::send_blocks;
-use crate::packets::PacketSending;
+use crate::packets::save_packets;
 use crate::plan::Plan;
 use crate::saving::{PlanFiles, Saved, watch_of};
-use mig_stream::Frame;
 use std::alloc::{AllocError, AllocGlobal, Global};
 use std::fs::{Files, OpenFile};
 use std::io::Write;
@@ -107,21 +105,30 @@ fn open_channels<H: AllocGlobal + Files>(
     Ok(outlets)
 }
 
-// Sends all blocks of `plan`, and shows the progress.
+// Sends all blocks of `plan` to the main stream and the channels, and shows the progress. Returns
+// the channels, the number of pages, and the bytes of the main stream.
 fn send_all<H: AllocGlobal + Files + Clock, E: Write>(
     rt: &H,
     words: &SaveWords<'_>,
     plan: &Plan,
-    sending: &mut PacketSending<H::File>,
+    uuid: Uuid,
     out: &mut H::File,
+    outlets: Vec<Outlet<H::File>>,
     errors: &mut E,
-) -> Result<(), Trouble> {
+) -> Result<(Vec<Outlet<H::File>>, u64, u64), Trouble> {
     let mut watch = watch_of(rt, words, plan)?;
     let files = PlanFiles {
         rt,
         sources: &plan.sources,
     };
-    let sent = send_blocks(rt, &plan.table, &files, sending, out, &mut watch, errors);
+    let name = match words.machine {
+        Some(name) => Some(name.as_bytes()),
+        None => None,
+    };
+    let (table, frame) = (&plan.table, words.frame);
+    let sent = save_packets(
+        rt, table, name, frame, uuid, &files, outlets, out, &mut watch, errors,
+    );
     watch.end(errors);
     sent
 }
@@ -140,23 +147,6 @@ fn sync_all<F: Write + OpenFile + Drop>(
     Ok(all)
 }
 
-// Ends the main stream and the channels, and syncs them to their disk. Returns the totals, and the
-// channels.
-fn end_all<F: Write + OpenFile + Drop>(
-    sending: PacketSending<F>,
-    main: &mut Outlet<F>,
-    frame: Frame,
-) -> Result<(Saved, Vec<Outlet<F>>), Trouble> {
-    let (mut outlets, pages, bytes) = sending.finish(&mut main.file, frame)?;
-    let all = sync_all(main, &mut outlets)?;
-    let saved = Saved {
-        pages,
-        bytes,
-        channels: Some((outlets.len(), all)),
-    };
-    Ok((saved, outlets))
-}
-
 // Writes the main stream and the channels, and syncs them to their disk. Returns the totals, and
 // the channels.
 fn write_all<H: AllocGlobal + Files + Clock, E: Write>(
@@ -168,12 +158,23 @@ fn write_all<H: AllocGlobal + Files + Clock, E: Write>(
     outlets: Vec<Outlet<H::File>>,
     errors: &mut E,
 ) -> Result<(Saved, Vec<Outlet<H::File>>), Trouble> {
-    let alloc = rt.alloc();
-    let name = words.machine;
-    let out = &mut main.file;
-    let mut sending = PacketSending::begin(alloc, out, outlets, &plan.table, name, channels.uuid)?;
-    send_all(rt, words, plan, &mut sending, &mut main.file, errors)?;
-    end_all(sending, main, words.frame)
+    let uuid = channels.uuid;
+    let (mut outlets, pages, bytes) = send_all(
+        rt,
+        words,
+        plan,
+        uuid,
+        &mut main.file,
+        outlets,
+        errors,
+    )?;
+    let all = sync_all(main, &mut outlets)?;
+    let saved = Saved {
+        pages,
+        bytes,
+        channels: Some((outlets.len(), all)),
+    };
+    Ok((saved, outlets))
 }
 
 // Removes files, as far as there are any. It takes no memory.

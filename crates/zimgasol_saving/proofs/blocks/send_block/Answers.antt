@@ -1,4 +1,4 @@
-use Rattle.std.proofs.Common.{ℕ, ◌≡◌, ◌*◌, ◌<◌, ◌^◌, subst, sym, arith}
+use Rattle.std.proofs.Common.{ℕ, ◌≡◌, ◌*◌, ◌^◌, subst, arith}
 use Rattle.zimgasol_files.specs.ReadOn.{IsReadTo}
 use Rattle.zimgasol_saving.proofs.BlockSteps.{few_of}
 use Rattle.zimgasol_saving.proofs.blocks.send_block.Goals as goal

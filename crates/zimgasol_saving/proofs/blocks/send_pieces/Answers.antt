@@ -1,4 +1,4 @@
-use Rattle.std.proofs.Common.{◌≡◌, ◌*◌, ◌-◌, ◌∙◌, drop, sym}
+use Rattle.std.proofs.Common.{◌*◌, ◌-◌, ◌∙◌, drop, sym}
 use Rattle.std.specs.Option.{option_map}
 use Rattle.std.proofs.lemmas.Bool.{false≢true}
 use Rattle.zimgasol_saving.proofs.BlockSteps.{pages_none, pages_more, pages_end}

@@ -1,6 +1,4 @@
 use Rattle.std.proofs.Common.{Option, Some, IfSome, ◌≡◌, ◌∙◌, sym, subst}
-use Rattle.mig_mem.specs.Image.{Page}
-use Rattle.mig_mem.specs.RamTable.{RamTable}
 use Rattle.zimgasol_files.specs.Differing.{piece_of}
 use Rattle.zimgasol_saving.specs.declared.send.Sending.{Sending}
 use Rattle.zimgasol_saving.specs.Written.{IsSending, SendsPiece}

@@ -1,5 +1,4 @@
-use Rattle.std.proofs.Common.{ℕ, List, [], ◌++◌, ◌∙◌, ap, refl, sym, subst}
-use Rattle.std.specs.Io.KnownBytes.{Appends}
+use Rattle.std.proofs.Common.{ℕ, List, [], ◌++◌, ◌∙◌, ap, refl}
 use Rattle.mig_stream.specs.Text.{file_header}
 use Rattle.mig_stream.specs.Written.{written_so_far}
 use Rattle.zimgasol_saving.proofs.Streams.{appends_then, begun_kept}

@@ -1,4 +1,4 @@
-use Rattle.std.proofs.Common.{ℕ, ◌≡◌, List, Option, IfSome, refl, ap, subst}
+use Rattle.std.proofs.Common.{ℕ, List, Option, IfSome, refl, ap, subst}
 use Rattle.std.specs.Io.KnownBytes.{Appends}
 use Rattle.mig_stream.specs.Writer.{Writer}
 use Rattle.zimgasol_files.specs.Differing.{piece_of}
