@@ -113,7 +113,7 @@ SPARSE_BEFORE = 4096
 SPARSE = (b"LibvirtQemudSave" + struct.pack("<4I", 2, SPARSE_BEFORE - 92, 1, 6)).ljust(SPARSE_BEFORE, b"\0")
 SPARSE += mapped_facts.guest(MAPPED_BLOCKS, SPARSE_BEFORE)
 SPARSE_PLAIN = mapped_facts.plain(SPARSE)
-MAPPED_PIPE = "byte 53 (before section 1): fault 47: unsupported capability; save without mapped-ram"
+MAPPED_PIPE = "byte 53 (before section 1): fault 47: unsupported capability; give the file by its name, not through a pipe; or save without mapped-ram"
 
 
 def escaped(content):

@@ -198,7 +198,9 @@ fn plain_advice(met: &Met<'_>) -> Option<&'static str> {
             "QEMU ends each round by a FLUSH or an EOS; this stream has both, and no FLUSH at its end",
         ),
         StreamFault::Truncated => Some("the file was cut, or the save didn't come to its end"),
-        StreamFault::Capability => Some("save without mapped-ram"),
+        StreamFault::Capability => Some(
+            "give the file by its name, not through a pipe; or save without mapped-ram",
+        ),
         StreamFault::Command => Some(
             "a migration that went over to postcopy isn't complete in a file",
         ),
