@@ -13,6 +13,7 @@ pub mod Bits
 pub mod Laid
 pub mod Marking
 pub mod Parts
+pub mod Exists
 pub mod FrontItems
 pub mod FrontFound
 pub mod FrontFields

@@ -129,6 +129,10 @@ PartsAreRead w = (m : Image) (file : List ℕ) → StandsFor w m → HasParts w 
     → IsMappedReading w.given w.place (total_bytes (written_table w)) file (record { blocks = w.blocks; fault = None })
     × (memory_in w.given file w.blocks ≡ m)
 
+-- There is a file with these parts, whatever the memory: they don't overlap.
+abbrev pub HasAFile : MappedWriting → Type 0
+HasAFile w = (m : Image) → StandsFor w m → (file : List ℕ) × HasParts w m file
+
 -- ---- how the code keeps it, which only private contracts cite
 
 -- the bit of one page of a block is set or cleared

@@ -11,7 +11,7 @@ ghost use Rattle.mig_mapped.specs.declared.fault.MappedFault.TheVariants as faul
 ghost use Rattle.mig_mapped.specs.Bitmap.{byte_of};
 ghost use Rattle.mig_mapped.specs.Block.{mapped_block, end_of};
 ghost use Rattle.mig_mapped.specs.Head.{most_file_bytes};
-ghost use Rattle.mig_mapped.specs.Write.{written_table, head_offset, end_offset, bitmap_offset, offset_at, head_bytes, head_len, aligned, laid_block, AreLaid, IsBegun, IsRefused, PutsBit, PutsBlockBit, StandsFor, PartsAreRead};
+ghost use Rattle.mig_mapped.specs.Write.{written_table, head_offset, end_offset, bitmap_offset, offset_at, head_bytes, head_len, aligned, laid_block, AreLaid, IsBegun, IsRefused, PutsBit, PutsBlockBit, StandsFor, PartsAreRead, HasAFile};
 
 use crate::bitmap::{bitmap_len, put_bit};
 use crate::head::{HEADER_LEN, HEADER_VERSION};
@@ -225,10 +225,12 @@ impl<A: Allocator> MappedWriter<A> {
     ///
     /// The contract also says what the file is: if it has the heads, the bitmaps and the pages
     /// whose bits are set at their offsets, and goes on to this one, then it is read without a
-    /// fault and stands for the memory that the writer was passed.
+    /// fault and stands for the memory that the writer was passed. There is such a file for each
+    /// memory: its parts don't overlap.
     pub fn end(&self) -> u64
         ensures value { result ≡ end_offset self.now }
         ensures read { PartsAreRead self.now }
+        ensures exists { HasAFile self.now }
     {
         self.offset_of(self.blocks.len())
     }
