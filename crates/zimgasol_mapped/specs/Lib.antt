@@ -1,0 +1,2 @@
+-- The records of pages
+pub mod Records
