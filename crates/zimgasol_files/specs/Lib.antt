@@ -5,3 +5,5 @@ pub mod Naming
 pub mod Differing
 -- A file and an older one, read in pieces
 pub mod ReadOn
+-- An input, and the bytes of it that wait
+pub mod Waiting

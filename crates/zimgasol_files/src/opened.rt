@@ -1,7 +1,8 @@
 //! Opens a file for reading, and keeps its name for messages.
 
-ghost use Rattle.std.specs.Prelude.{◌≡◌, ◌<◌, ◌≤◌, length, take, IfOk};
-ghost use Rattle.std.specs.Io.KnownBytes.{Consumes, IsAtEnd};
+ghost use Rattle.std.specs.Prelude.{◌≡◌, ◌<◌, ◌≤◌, [], length, take, IfOk, OnOk, false};
+ghost use Rattle.std.specs.Io.KnownBytes.{Consumes, IsAtEnd, Keeps};
+ghost use Rattle.zimgasol_files.specs.Waiting.{waits, to_come, left_of};
 
 use crate::input::read_piece;
 use crate::pieces::Pieces;
@@ -87,7 +88,11 @@ impl<F: Read + Drop> Opened<F> {
     /// # Errors
     ///
     /// `Trouble::OfFile` if a read fails.
-    pub fn refill(&mut self, pieces: &mut Pieces) -> Result<bool, Trouble> {
+    pub fn refill(&mut self, pieces: &mut Pieces) -> Result<bool, Trouble>
+        ensures kept { OnOk result (Keeps (to_come (left_of F.remaining self.old) pieces.old) (to_come (left_of F.remaining self.new) pieces.new)) }
+        ensures end { IfOk result (λ is_more. is_more ≡ false → IsAtEnd (to_come (left_of F.remaining self.new) pieces.new)) }
+        ensures none { IfOk result (λ is_more. is_more ≡ false → waits pieces.new ≡ []) }
+    {
         match pieces.refill(&mut self.file) {
             Ok(is_there) => Ok(is_there),
             Err(Trouble::Unread(error)) => Err(unwritten(self.alloc, &self.path, error)),

@@ -1,6 +1,8 @@
 //! Reads one of several inputs in pieces, and keeps the last piece's bytes that weren't taken yet.
 
-ghost use Rattle.std.specs.Prelude.{◌≤◌};
+ghost use Rattle.std.specs.Prelude.{◌≡◌, ◌≤◌, [], length, drop, IfOk, OnOk, false};
+ghost use Rattle.std.specs.Io.KnownBytes.{Keeps, IsAtEnd};
+ghost use Rattle.zimgasol_files.specs.Waiting.{waits, to_come};
 
 use crate::input::read_piece;
 use crate::trouble::Trouble;
@@ -23,7 +25,9 @@ pub struct Pieces {
 
 impl Pieces {
     /// Creates an empty piece: nothing of the input was read.
-    pub fn new(alloc: Global) -> Result<Pieces, Trouble> {
+    pub fn new(alloc: Global) -> Result<Pieces, Trouble>
+        ensures { IfOk result (λ p. waits p ≡ []) }
+    {
         let buffer = vec![in alloc; 0u8; PIECE_LEN]?;
         Ok(Pieces {
             buffer,
@@ -39,28 +43,46 @@ impl Pieces {
     /// # Errors
     ///
     /// `Trouble::Unread` if a read fails.
-    pub fn refill<R: Read>(&mut self, input: &mut R) -> Result<bool, Trouble> {
+    pub fn refill<R: Read>(&mut self, input: &mut R) -> Result<bool, Trouble>
+        ensures kept { OnOk result (Keeps (to_come (R.remaining input.old) self.old) (to_come (R.remaining input.new) self.new)) }
+        ensures end { IfOk result (λ is_more. is_more ≡ false → IsAtEnd (to_come (R.remaining input.new) self.new)) }
+        ensures none { IfOk result (λ is_more. is_more ≡ false → waits self.new ≡ []) }
+    {
         if self.start < self.end {
             return Ok(true);
         }
+        // never: the buffer of `new` has room
+        if self.buffer.is_empty() {
+            return Err(Trouble::NoMemory);
+        }
+        let len = read_piece(input, &mut self.buffer)?;
         self.start = 0;
-        self.end = read_piece(input, &mut self.buffer)?;
-        self.read = self.read.saturating_add(self.end as u64);
-        Ok(self.end != 0)
+        self.end = len;
+        self.read = self.read.saturating_add(len as u64);
+        Ok(len != 0)
     }
 
     /// Returns the bytes that wait.
-    pub fn waiting(&self) -> &[u8] {
-        self.buffer.get(self.start..self.end).unwrap_or(&[])
+    pub fn waiting(&self) -> &[u8]
+        ensures { result.now ≡ waits self.now }
+    {
+        let end = self.end.min(self.buffer.len());
+        let start = self.start.min(end);
+        &self.buffer[start..end]
     }
 
     /// Takes `len` of the bytes that wait.
-    pub fn take(&mut self, len: usize) {
-        self.start = self.start.saturating_add(len);
+    pub fn take(&mut self, len: usize)
+        ensures { waits self.new ≡ drop len (waits self.old) }
+    {
+        let from = self.start.saturating_add(len).min(self.end);
+        self.start = from;
     }
 
     /// Takes all bytes that wait.
-    pub fn take_all(&mut self) {
+    pub fn take_all(&mut self)
+        ensures { waits self.new ≡ [] }
+    {
         self.start = self.end;
     }
 }

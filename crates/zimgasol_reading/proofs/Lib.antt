@@ -1,5 +1,6 @@
 mod Answering
 pub mod Completing
+mod Consuming
 mod Counting
 mod Filling
 pub mod Headers

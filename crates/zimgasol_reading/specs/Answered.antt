@@ -10,16 +10,21 @@ use Rattle.mig_answer.specs.Texts.{Texts, no_texts}
 use Rattle.mig_answer.specs.MultiLoad.{Answer, IsAnswer, failed}
 use Rattle.mig_in_place.specs.Session.{InPlaceLoad, StandsFor}
 use Rattle.zimgasol_reading.specs.declared.several.Several.{Several}
+use Rattle.zimgasol_reading.specs.Consumed.{Bytes, AreConsumed}
 use Rattle.zimgasol_reading.specs.Passed.{HasPassed}
 use Rattle.zimgasol_reading.specs.Loaded.{HasLoadedTo, settings_for}
 
--- Of the streams that were read, rounds and verdict are those of the answer of a load on several
--- channels, unless the load found another table than the survey. If the load is done, the sink has
--- taken records that make the answer's memory.
-pub record IsAnswered {F : Type 0} (holds : RamTable → List PageRecord → Type 0) (several : Several F) : Type 0 where
+-- The sources had the bytes `all`, as far as these are known. The streams are what was consumed of
+-- them: of each source a front of its bytes, and all of them where it has ended. Rounds and verdict
+-- are those of the answer of a load on several channels on these streams, unless the load found
+-- another table than the survey. If the load is done, the sink has taken records that make the
+-- answer's memory.
+pub record IsAnswered {F : Type 0} (all : Bytes) (holds : RamTable → List PageRecord → Type 0) (several : Several F) : Type 0 where
   pub page_size : ℕ
   pub texts : Texts
   pub has_channels : length texts.channels ≡ length several.channels.items
+  pub left : Bytes
+  pub are_consumed : AreConsumed all left texts
   pub answer : Answer
   pub is_answer : IsAnswer (settings_for several.frame page_size several.limit) several.uuid texts answer
   pub has_verdict : several.verdict ≢ failed 0 origin.Main fault.OtherTable → (several.rounds ≡ answer.rounds) × (several.verdict ≡ answer.verdict)
@@ -38,6 +43,6 @@ BeginsLoad several table load = StandsFor (settings_for several.frame several.pa
     (no_texts (length several.channels.items)) (zero_image table) load
 
 -- Rounds and verdict are those of such a load, and the sink has taken records that make its memory.
-abbrev pub HasLoadedAll : {F : Type 0} → (RamTable → List PageRecord → Type 0) → RamTable → Several F → Type 0
-HasLoadedAll holds table several = HasLoadedTo holds (settings_for several.frame several.page_size several.limit) several.uuid table
+abbrev pub HasLoadedAll : {F : Type 0} → Bytes → (RamTable → List PageRecord → Type 0) → RamTable → Several F → Type 0
+HasLoadedAll all holds table several = HasLoadedTo holds (settings_for several.frame several.page_size several.limit) several.uuid table all
     (length several.channels.items) several.rounds several.verdict

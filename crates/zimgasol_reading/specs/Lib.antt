@@ -1,5 +1,7 @@
 pub mod Answered
+pub mod Consumed
 pub mod Coverage
+pub mod Left
 pub mod Libvirt
 pub mod Loaded
 pub mod Passed

@@ -1,7 +1,10 @@
 //! Reads the channels of a migration, each from a file.
 
-ghost use Rattle.std.specs.Prelude.{◌≤◌, OnOk};
-ghost use Rattle.zimgasol_reading.specs.Loaded.{TakesOn};
+ghost use Rattle.std.specs.Prelude.{◌≡◌, ◌≤◌, IfOk, OnOk};
+ghost use Rattle.std.specs.Io.KnownBytes.{Keeps};
+ghost use Rattle.zimgasol_files.specs.Waiting.{left_of};
+ghost use Rattle.zimgasol_reading.specs.Left.{inlet_left, inlets_of};
+ghost use Rattle.zimgasol_reading.specs.Loaded.{TakesOf};
 
 use crate::blocks::Blocks;
 use crate::lane::Lane;
@@ -27,6 +30,27 @@ pub struct Inlet<F: Drop> {
 }
 
 impl<F: Read + OpenFile + Drop> Inlet<F> {
+    /// Takes `file`, whose name is `path`, for a channel, and reads its first piece.
+    ///
+    /// # Errors
+    ///
+    /// `Trouble::OfFile` if it can't be read, `Trouble::NoMemory`.
+    pub fn new(alloc: Global, path: &str, file: Opened<F>) -> Result<Inlet<F>, Trouble>
+        ensures { IfOk result (λ inlet. Keeps (left_of F.remaining file) (inlet_left F.remaining inlet)) }
+    {
+        let mut file = file;
+        let len = file.len()?;
+        let mut pieces = Pieces::new(alloc)?;
+        let is_over = !file.refill(&mut pieces)?;
+        Ok(Inlet {
+            name: shown_name(alloc, path)?,
+            file,
+            len,
+            pieces,
+            is_over,
+        })
+    }
+
     /// Returns how many bytes were read.
     pub fn read(&self) -> u64 {
         self.pieces.read
@@ -49,17 +73,8 @@ impl<F: Read + OpenFile + Drop> Inlet<F> {
 // Opens the file of a channel, and reads its first piece.
 fn open_inlet<H: AllocGlobal + Files>(rt: &H, path: &str) -> Result<Inlet<H::File>, Trouble> {
     let alloc = rt.alloc();
-    let mut file = open(rt, alloc, path)?;
-    let len = file.len()?;
-    let mut pieces = Pieces::new(alloc)?;
-    let is_over = !file.refill(&mut pieces)?;
-    Ok(Inlet {
-        name: shown_name(alloc, path)?,
-        file,
-        len,
-        pieces,
-        is_over,
-    })
+    let file = open(rt, alloc, path)?;
+    Inlet::new(alloc, path, file)
 }
 
 /// Opens the files of channels, and reads the first piece of each.
@@ -105,7 +120,9 @@ pub(crate) fn channels_of<F: Read + OpenFile + Drop>(
     inlets: Vec<Inlet<F>>,
     page_size: PageSize,
     uuid: Uuid,
-) -> Result<Vec<Channel<F>>, Trouble> {
+) -> Result<Vec<Channel<F>>, Trouble>
+    ensures { IfOk result (λ v. inlets_of v.items ≡ inlets.items) }
+{
     let count = inlets.len();
     let mut channels = Vec::new(alloc);
     for inlet in inlets {
@@ -128,7 +145,7 @@ impl<F: Read + OpenFile + Drop> Channel<F> {
         blocks: &mut Option<Blocks>,
         load: &mut Load<M>,
     ) -> Result<(), Trouble>
-        ensures { OnOk result (TakesOn load.old load.new) }
+        ensures { OnOk result (TakesOf source (inlet_left F.remaining self.old.inlet) (inlet_left F.remaining self.new.inlet) load.old load.new) }
     {
         'pieces: for _ in 0..u64::MAX {
             if !load.takes(source) {
@@ -150,7 +167,7 @@ impl<F: Read + OpenFile + Drop> Channel<F> {
         blocks: &mut Option<Blocks>,
         load: &mut Load<M>,
     ) -> Result<bool, Trouble>
-        ensures { OnOk result (TakesOn load.old load.new) }
+        ensures { OnOk result (TakesOf source (inlet_left F.remaining self.old.inlet) (inlet_left F.remaining self.new.inlet) load.old load.new) }
     {
         let is_more = self.inlet.file.refill(&mut self.inlet.pieces)?;
         if !is_more {

@@ -53,7 +53,7 @@ pub use load::{Load, Reporting};
 pub use main_stream::MainStream;
 pub use notes::{Note, Noted, Notes, SectionKind};
 pub use place::{FaultPlace, block_at, fault_of, is_complete, kind_name};
-pub use several::{Several, read_several};
+pub use several::{Several, read_inputs, read_several};
 pub use several_place::{Spot, Within};
 pub use sink::{GuestSink, NoSink, PageSink, SinkTrouble};
 pub use survey::{Survey, read_input};

@@ -1,8 +1,12 @@
 //! Reads a main stream that has channels, round by round. It feeds the bytes to the load, and reads
 //! them itself for what a person wants to know beside.
 
-ghost use Rattle.std.specs.Prelude.{◌≡◌, ◌+◌, ◌<◌, ◌≤◌, ◌^◌, length, OnOk};
-ghost use Rattle.zimgasol_reading.specs.Loaded.{TakesOn};
+ghost use Rattle.std.specs.Prelude.{◌≡◌, ◌+◌, ◌<◌, ◌≤◌, ◌^◌, ℕ, List, [], length, Option, IfOk, OnOk, true, false};
+ghost use Rattle.std.specs.Io.KnownBytes.{Keeps, IsAtEnd, prepend_known};
+ghost use Rattle.mig_sources.specs.declared.source.Source.TheVariants.{Main as main_source};
+ghost use Rattle.zimgasol_files.specs.Waiting.{waits};
+ghost use Rattle.zimgasol_reading.specs.Left.{main_left, main_held, IsOver};
+ghost use Rattle.zimgasol_reading.specs.Loaded.{TakesOf};
 ghost use Rattle.zimgasol_reading.specs.Recorded.{StillHolds};
 
 use crate::blocks::Blocks;
@@ -47,7 +51,9 @@ pub struct MainStream {
 
 impl MainStream {
     /// Creates the reading of a main stream, before its first byte was read.
-    pub fn new(alloc: Global, words: &StreamWords<'_>) -> Result<MainStream, Trouble> {
+    pub fn new(alloc: Global, words: &StreamWords<'_>) -> Result<MainStream, Trouble>
+        ensures { IfOk result (λ m. (m.held.items ≡ []) × (waits m.pieces ≡ []) × (m.is_over ≡ false)) }
+    {
         let page_size = words.page_size.bytes();
         Ok(MainStream {
             reader: StreamReader::new_with(
@@ -73,7 +79,9 @@ impl MainStream {
     }
 
     /// Takes the length of the file that the stream is read from.
-    pub fn expect_file(&mut self, metadata: &Metadata) {
+    pub fn expect_file(&mut self, metadata: &Metadata)
+        ensures { self.new ≡ record self.old { file_len = self.new.file_len } }
+    {
         if metadata.is_file() {
             self.file_len = Some(metadata.len());
         }
@@ -85,15 +93,30 @@ impl MainStream {
     /// # Errors
     ///
     /// `Trouble::Unread` if a read fails, `Trouble::NoMemory`.
-    pub(crate) fn read_head<R: Read>(&mut self, input: &mut R) -> Result<(), Trouble> {
-        for _ in 0..u64::MAX {
+    pub(crate) fn read_head<R: Read>(&mut self, input: &mut R) -> Result<(), Trouble>
+        ensures { OnOk result (Keeps (main_held (R.remaining input.old) self.old) (main_held (R.remaining input.new) self.new)
+            × (IsOver (R.remaining input.old) self.old → IsOver (R.remaining input.new) self.new)) }
+    {
+        'pieces: for _ in 0..u64::MAX {
             if self.table().is_some() || !self.is_reading() {
                 return Ok(());
             }
-            if self.refill(input)? {
-                self.held.extend_from_slice(self.pieces.waiting())?;
-            }
+            self.hold_piece(input)?;
         }
+        Ok(())
+    }
+
+    // Reads the next piece, and holds it for the load; or ends the stream, if there is none.
+    fn hold_piece<R: Read>(&mut self, input: &mut R) -> Result<(), Trouble>
+        ensures { OnOk result (Keeps (main_held (R.remaining input.old) self.old) (main_held (R.remaining input.new) self.new)
+            × (IsOver (R.remaining input.old) self.old → IsOver (R.remaining input.new) self.new)) }
+    {
+        let is_more = self.refill(input)?;
+        if !is_more {
+            return Ok(());
+        }
+        self.held.extend_from_slice(self.pieces.waiting())?;
+        self.pieces.take_all();
         Ok(())
     }
 
@@ -108,9 +131,14 @@ impl MainStream {
     ///
     /// `Trouble::NoMemory`, and those of the load's sink.
     pub(crate) fn begin<M: Reporting>(&mut self, load: &mut Load<M>) -> Result<(), Trouble>
-        ensures { OnOk result (TakesOn load.old load.new) }
+        ensures takes { OnOk result ((left : Option (List ℕ)) → (self.old.is_over ≡ true → IsAtEnd left)
+            → TakesOf main_source (prepend_known self.old.held.items left) left load.old load.new) }
+        ensures others { self.new ≡ record self.old { held = self.new.held } }
     {
-        load.feed(Source::Main, &self.held)?;
+        let taken = load.feed(Source::Main, &self.held)?;
+        if taken != self.held.len() {
+            return Err(Trouble::NoMemory);
+        }
         self.held = Vec::new(*self.held.allocator());
         let is_over = self.is_over;
         if !is_over {
@@ -132,7 +160,7 @@ impl MainStream {
         blocks: &mut Option<Blocks>,
         load: &mut Load<M>,
     ) -> Result<(), Trouble>
-        ensures { OnOk result (TakesOn load.old load.new) }
+        ensures { OnOk result (TakesOf main_source (main_left (R.remaining input.old) self.old) (main_left (R.remaining input.new) self.new) load.old load.new) }
     {
         self.read_pieces(input, load)?;
         self.count_round(blocks)?;
@@ -145,7 +173,7 @@ impl MainStream {
         input: &mut R,
         load: &mut Load<M>,
     ) -> Result<(), Trouble>
-        ensures { OnOk result (TakesOn load.old load.new) }
+        ensures { OnOk result (TakesOf main_source (main_left (R.remaining input.old) self.old) (main_left (R.remaining input.new) self.new) load.old load.new) }
     {
         'pieces: for _ in 0..u64::MAX {
             if !load.takes(Source::Main) {
@@ -162,14 +190,15 @@ impl MainStream {
         input: &mut R,
         load: &mut Load<M>,
     ) -> Result<(), Trouble>
-        ensures { OnOk result (TakesOn load.old load.new) }
+        ensures { OnOk result (TakesOf main_source (main_left (R.remaining input.old) self.old) (main_left (R.remaining input.new) self.new) load.old load.new) }
     {
         let is_more = self.refill(input)?;
         if !is_more {
             load.end(Source::Main);
             return Ok(());
         }
-        load.feed(Source::Main, self.pieces.waiting())?;
+        let taken = load.feed(Source::Main, self.pieces.waiting())?;
+        self.pieces.take(taken);
         Ok(())
     }
 
@@ -178,20 +207,30 @@ impl MainStream {
         matches!(self.reader.state(), StreamState::Reading)
     }
 
-    // Reads the next piece. Returns false, and ends the stream, if there is none.
-    fn refill<R: Read>(&mut self, input: &mut R) -> Result<bool, Trouble> {
-        self.pieces.take_all();
-        if self.pieces.refill(input)? {
+    // Reads the next piece, if no byte waits. Returns false, and ends the stream, if there is none.
+    fn refill<R: Read>(&mut self, input: &mut R) -> Result<bool, Trouble>
+        ensures kept { OnOk result (Keeps (main_left (R.remaining input.old) self.old) (main_left (R.remaining input.new) self.new)) }
+        ensures end { IfOk result (λ is_more. is_more ≡ false → IsAtEnd (main_left (R.remaining input.new) self.new)) }
+        ensures over { OnOk result (IsOver (R.remaining input.old) self.old → IsOver (R.remaining input.new) self.new) }
+        ensures held { self.new.held ≡ self.old.held }
+    {
+        if !self.pieces.waiting().is_empty() {
+            return Ok(true);
+        }
+        let is_more = self.pieces.refill(input)?;
+        self.is_over = !is_more;
+        if is_more {
             self.look()?;
             return Ok(true);
         }
-        self.is_over = true;
         self.reader.end();
         Ok(false)
     }
 
     // Looks at the piece that was read.
-    fn look(&mut self) -> Result<(), Trouble> {
+    fn look(&mut self) -> Result<(), Trouble>
+        ensures { (self.new.pieces ≡ self.old.pieces) × (self.new.held ≡ self.old.held) × (self.new.is_over ≡ self.old.is_over) }
+    {
         let piece = self.pieces.waiting();
         let fed = self.reader.fed();
         if self.reader.ended() || piece.len() as u64 > u64::MAX - fed {
@@ -213,7 +252,9 @@ impl MainStream {
     }
 
     // Counts the records of the current round, if it is complete.
-    fn count_round(&mut self, blocks: &mut Option<Blocks>) -> Result<(), Trouble> {
+    fn count_round(&mut self, blocks: &mut Option<Blocks>) -> Result<(), Trouble>
+        ensures { self.new ≡ record self.old { reader = self.new.reader } }
+    {
         let Some(blocks) = blocks else {
             return Ok(());
         };
@@ -228,7 +269,9 @@ impl MainStream {
     }
 
     /// Keeps the bytes before RAM's records for the sink, or drops them, if it doesn't take them.
-    pub(crate) fn keep_front(&mut self, is_kept: bool) {
+    pub(crate) fn keep_front(&mut self, is_kept: bool)
+        ensures { self.new ≡ record self.old { front = self.new.front } }
+    {
         if !is_kept {
             self.front.set_taken();
         }

@@ -4,17 +4,19 @@
 //! No page is kept, only bits for each page, and the number of each packet of the current round.
 //! The verdict is that of the library's load (`mig_in_place`), which is fed all bytes.
 
-ghost use Rattle.std.specs.Prelude.{◌≡◌, ◌≢◌, ◌↔◌, ◌≤◌, ◌^◌, ⊤, [], length, Some, IsNone, IsSome, IfSome, IfOk, OnOk, IsTrue};
+ghost use Rattle.std.specs.Prelude.{◌≡◌, ◌≢◌, ◌↔◌, ◌≤◌, ◌^◌, ⊤, ℕ, List, [], length, map, Option, Some, IsNone, IsSome, IfSome, IfOk, OnOk, IsTrue};
 ghost use Rattle.mig_mem.specs.PageSize.{IsPageSize};
 ghost use Rattle.mig_load_types.specs.declared.fault.LoadFault.{LoadFault};
 ghost use Rattle.mig_answer.specs.declared.verdict.Verdict.TheVariants as verdict;
 ghost use Rattle.zimgasol_reading.specs.Answered.{IsAnswered, StaysAsked, BeginsLoad, HasLoadedAll};
 ghost use Rattle.zimgasol_reading.specs.Coverage.{IsWhole, HasItsPages, AreComplete};
+ghost use Rattle.zimgasol_reading.specs.Consumed.{Bytes};
+ghost use Rattle.zimgasol_reading.specs.Left.{inlet_left, inlets_of, channels_left, sources_left, sources_held, IsOver, IsBegun};
 ghost use Rattle.zimgasol_reading.specs.Loaded.{TakesOn, settings_for};
 ghost use Rattle.zimgasol_reading.specs.Recorded.{StillHolds};
 
 use crate::blocks::{Blocks, Coverage};
-use crate::channel::{Channel, channels_of, hello_uuid, open_inlets};
+use crate::channel::{Channel, Inlet, channels_of, hello_uuid, open_inlets};
 use crate::load::{Load, Reporting, judge_of};
 use crate::main_stream::MainStream;
 use crate::passing::Passing;
@@ -55,39 +57,44 @@ pub struct Several<F: Drop> {
     pub is_partial: bool,
 }
 
-// Opens the channels.
-fn opened<H: AllocGlobal + Files>(
-    rt: &H,
-    words: &StreamWords<'_>,
-    channels: &ChannelWords<'_>,
-) -> Result<Several<H::File>, Trouble>
-    ensures frame { IfOk result (λ s. s.frame ≡ words.now.frame) }
-    ensures bounds { IfOk result (λ s. IsPageSize s.page_size × (s.limit ≤ 2 ^ 40)) }
-{
-    let alloc = rt.alloc();
-    let wanted = wanted_uuid(alloc, channels)?;
-    let inlets = open_inlets(rt, &channels.files)?;
-    let uuid = match wanted {
-        Some(uuid) => uuid,
-        None => hello_uuid(&inlets),
-    };
-    Ok(Several {
-        alloc,
-        frame: words.frame,
-        page_size: words.page_size.bytes(),
-        limit: words.limit(),
-        uuid,
-        main: MainStream::new(alloc, words)?,
-        channels: channels_of(alloc, inlets, words.page_size, uuid)?,
-        blocks: None,
-        rounds: 0,
-        verdict: Verdict::Running,
-        is_laid_over: false,
-        is_partial: words.partial,
-    })
-}
-
 impl<F: Read + OpenFile + Drop> Several<F> {
+    /// Creates the survey of a main stream, of which no byte was read, and of the channels of
+    /// `inlets`. Their hellos have to have the UUID `wanted`, or that of the first hello.
+    ///
+    /// # Errors
+    ///
+    /// `Trouble::NoMemory`.
+    pub fn new(
+        alloc: Global,
+        words: &StreamWords<'_>,
+        wanted: Option<Uuid>,
+        inlets: Vec<Inlet<F>>,
+    ) -> Result<Several<F>, Trouble>
+        ensures frame { IfOk result (λ s. s.frame ≡ words.now.frame) }
+        ensures bounds { IfOk result (λ s. IsPageSize s.page_size × (s.limit ≤ 2 ^ 40)) }
+        ensures begun { IfOk result (λ s. (left : Option (List ℕ))
+            → IsBegun F.remaining (record { main = left; channels = map (inlet_left F.remaining) inlets.items }) left s) }
+    {
+        let uuid = match wanted {
+            Some(uuid) => uuid,
+            None => hello_uuid(&inlets),
+        };
+        Ok(Several {
+            alloc,
+            frame: words.frame,
+            page_size: words.page_size.bytes(),
+            limit: words.limit(),
+            uuid,
+            main: MainStream::new(alloc, words)?,
+            channels: channels_of(alloc, inlets, words.page_size, uuid)?,
+            blocks: None,
+            rounds: 0,
+            verdict: Verdict::Running,
+            is_laid_over: false,
+            is_partial: words.partial,
+        })
+    }
+
     /// Returns the fault; None if all sources are complete.
     pub fn fault(&self) -> Option<LoadFault>
         ensures whole { IsNone result ↔ (self.now.verdict ≡ verdict.Done) }
@@ -165,18 +172,21 @@ impl<F: Read + OpenFile + Drop> Several<F> {
         watch.expect_total(total);
     }
 
-    // Takes the lengths of the files; the main stream is read from `main`.
-    fn expect_file(&mut self, main: &F, watch: &mut Watch)
-        ensures { StaysAsked self.old self.new }
+    // Takes the lengths of the files; `metadata` is that of the main stream's, if it is a file.
+    fn expect_file(&mut self, metadata: Option<&Metadata>, watch: &mut Watch)
+        ensures asked { StaysAsked self.old self.new }
+        ensures begun { (all : Bytes) (left : Option (List ℕ)) → IsBegun F.remaining all left self.old → IsBegun F.remaining all left self.new }
     {
-        if let Ok(metadata) = main.metadata() {
-            self.main.expect_file(&metadata);
-            self.expect(&metadata, watch);
-        }
+        let Some(metadata) = metadata else {
+            return;
+        };
+        self.main.expect_file(metadata);
+        self.expect(metadata, watch);
     }
 
     // Reads all sources, round by round, up to the verdict. Reads the rest of the main stream,
-    // unless there is a fault. Returns the sink, too.
+    // unless there is a fault. Returns the sink, too. The streams of the answer are what was
+    // consumed of the sources.
     fn read<H: AllocGlobal + Files + Clock, R: Read, S: GuestSink<H> + Drop, E: Write>(
         &mut self,
         rt: &H,
@@ -188,7 +198,7 @@ impl<F: Read + OpenFile + Drop> Several<F> {
         requires page_size { IsPageSize self.old.page_size }
         requires limit { self.old.limit ≤ 2 ^ 40 }
         ensures asked { OnOk result.0 (StaysAsked self.old self.new) }
-        ensures answered { OnOk result.0 (IsAnswered (S.holds result.1) self.new) }
+        ensures answered { OnOk result.0 ((all : Bytes) → IsBegun F.remaining all (R.remaining input.old) self.old → IsAnswered all (S.holds result.1) self.new) }
     {
         let (read, mut sink) = self.load_all(rt, input, sink, watch, errors);
         match read {
@@ -228,7 +238,7 @@ impl<F: Read + OpenFile + Drop> Several<F> {
         requires page_size { IsPageSize self.old.page_size }
         requires limit { self.old.limit ≤ 2 ^ 40 }
         ensures asked { OnOk result.0 (StaysAsked self.old self.new) }
-        ensures answered { OnOk result.0 (IsAnswered (S.holds result.1) self.new) }
+        ensures answered { OnOk result.0 ((all : Bytes) → IsBegun F.remaining all (R.remaining input.old) self.old → IsAnswered all (S.holds result.1) self.new) }
     {
         let mut sink = sink;
         let (judge, table) = match self.begin(rt, input, &mut sink) {
@@ -254,7 +264,8 @@ impl<F: Read + OpenFile + Drop> Several<F> {
     ) -> Result<(), Trouble>
         requires { judge.table ≡ table }
         ensures asked { OnOk result (StaysAsked self.old self.new) }
-        ensures loaded { OnOk result (BeginsLoad self.old table judge → HasLoadedAll (λ _ _. ⊤) table self.new) }
+        ensures loaded { OnOk result ((all : Bytes) → IsBegun F.remaining all (R.remaining input.old) self.old → BeginsLoad self.old table judge
+            → HasLoadedAll all (λ _ _. ⊤) table self.new) }
         ensures open { OnOk result (self.new.verdict ≢ verdict.Done) }
     {
         let (read, _) = self.load_to(rt, input, judge, table, NoSink, watch, errors);
@@ -288,6 +299,8 @@ impl<F: Read + OpenFile + Drop> Several<F> {
         ensures begun { IfOk result (λ begun. IsSome self.new.blocks → S.holds sink.new begun.1 []) }
         ensures stands { IfOk result (λ begun. BeginsLoad self.new begun.1 begun.0) }
         ensures asked { OnOk result (StaysAsked self.old self.new) }
+        ensures still { OnOk result ((all : Bytes) → IsBegun F.remaining all (R.remaining input.old) self.old
+            → IsBegun F.remaining all (R.remaining input.new) self.new) }
     {
         self.main.keep_front(sink.keeps_state());
         self.main.read_head(input)?;
@@ -333,7 +346,8 @@ impl<F: Read + OpenFile + Drop> Several<F> {
         requires table { judge.table ≡ table }
         requires begun { S.holds sink table [] }
         ensures asked { OnOk result.0 (StaysAsked self.old self.new) }
-        ensures loaded { OnOk result.0 (BeginsLoad self.old table judge → HasLoadedAll (S.holds result.1) table self.new) }
+        ensures loaded { OnOk result.0 ((all : Bytes) → IsBegun F.remaining all (R.remaining input.old) self.old → BeginsLoad self.old table judge
+            → HasLoadedAll all (S.holds result.1) table self.new) }
     {
         let mut load = Load::new(judge, Passing::new(table, sink));
         let read = self.load(rt, input, &mut load, watch, errors);
@@ -354,7 +368,8 @@ impl<F: Read + OpenFile + Drop> Several<F> {
         watch: &mut Watch,
         errors: &mut E,
     ) -> Result<(), Trouble>
-        ensures takes { OnOk result (TakesOn load.old load.new) }
+        ensures takes { OnOk result (IsOver (R.remaining input.old) self.old.main
+            → TakesOn (sources_held F.remaining (R.remaining input.old) self.old) (sources_left F.remaining (R.remaining input.new) self.new) load.old load.new) }
         ensures told { OnOk result ((self.new.rounds ≡ load.new.load.rounds) × (self.new.verdict ≡ load.new.load.verdict)) }
         ensures asked { OnOk result (StaysAsked self.old self.new) }
     {
@@ -374,7 +389,8 @@ impl<F: Read + OpenFile + Drop> Several<F> {
         watch: &mut Watch,
         errors: &mut E,
     ) -> Result<(), Trouble>
-        ensures takes { OnOk result (TakesOn load.old load.new) }
+        ensures takes { OnOk result (TakesOn (sources_left F.remaining (R.remaining input.old) self.old)
+            (sources_left F.remaining (R.remaining input.new) self.new) load.old load.new) }
         ensures asked { OnOk result (StaysAsked self.old self.new) }
     {
         'rounds: for _ in 0..u64::MAX {
@@ -392,6 +408,7 @@ impl<F: Read + OpenFile + Drop> Several<F> {
     fn advance<M: Reporting>(&mut self, load: &mut Load<M>)
         ensures load { load.new ≡ load.old }
         ensures asked { StaysAsked self.old self.new }
+        ensures left { (left : Option (List ℕ)) → sources_left F.remaining left self.new ≡ sources_left F.remaining left self.old }
     {
         load.advance();
         advance_lanes(&mut self.channels);
@@ -403,7 +420,8 @@ impl<F: Read + OpenFile + Drop> Several<F> {
         input: &mut R,
         load: &mut Load<M>,
     ) -> Result<(), Trouble>
-        ensures takes { OnOk result (TakesOn load.old load.new) }
+        ensures takes { OnOk result (TakesOn (sources_left F.remaining (R.remaining input.old) self.old)
+            (sources_left F.remaining (R.remaining input.new) self.new) load.old load.new) }
         ensures asked { OnOk result (StaysAsked self.old self.new) }
     {
         self.main.read_round(input, &mut self.blocks, load)?;
@@ -418,7 +436,8 @@ fn read_channels<F: Read + OpenFile + Drop, M: Reporting>(
     blocks: &mut Option<Blocks>,
     load: &mut Load<M>,
 ) -> Result<(), Trouble>
-    ensures takes { OnOk result (TakesOn load.old load.new) }
+    ensures takes { OnOk result ((main : Option (List ℕ)) → TakesOn (record { main = main; channels = channels_left F.remaining channels.old })
+        (record { main = main; channels = channels_left F.remaining channels.new }) load.old load.new) }
     ensures count { length channels.new ≡ length channels.old }
 {
     for i in 0..channels.len() {
@@ -429,7 +448,8 @@ fn read_channels<F: Read + OpenFile + Drop, M: Reporting>(
 
 // Begins the next round of each channel.
 fn advance_lanes<F: Drop>(channels: &mut [Channel<F>])
-    ensures { length channels.new ≡ length channels.old }
+    ensures count { length channels.new ≡ length channels.old }
+    ensures inlets { inlets_of channels.new ≡ inlets_of channels.old }
 {
     for i in 0..channels.len() {
         channels[i].lane.advance();
@@ -448,62 +468,97 @@ fn one_page(alloc: Global, page_size: u64) -> Result<Table, Trouble>
     }
 }
 
-// Reads all sources of `several`, the main stream from its file. Returns the sink, too.
+// Opens the channels, and reads the first piece of each. Returns the UUID that their hellos have to
+// have, too, if it is known.
+fn opened<H: AllocGlobal + Files>(
+    rt: &H,
+    channels: &ChannelWords<'_>,
+) -> Result<(Option<Uuid>, Vec<Inlet<H::File>>), Trouble> {
+    let wanted = wanted_uuid(rt.alloc(), channels)?;
+    let inlets = open_inlets(rt, &channels.files)?;
+    Ok((wanted, inlets))
+}
+
+/// Reads the main stream in `input` and the channels of `inlets`. Passes the pages to `sink`, and
+/// returns it. The hellos have to have the UUID `wanted`, or that of the first hello. `metadata` is
+/// that of the file that `input` is, if it is one. A fault isn't an error: the survey that it
+/// returns has it.
+///
+/// The rounds and the verdict are those of the answer of a load on several channels, on streams
+/// that are what was consumed of `input` and of each channel: a front of its bytes, in their order,
+/// and all of them where the stream has ended. If the load is done, the sink has taken records that
+/// make the answer's memory.
+///
+/// # Errors
+///
+/// `Trouble::Unread` and `Trouble::OfFile` if a read fails, `Trouble::NoMemory`, and those of
+/// `sink`.
+pub fn read_inputs<
+    H: AllocGlobal + Files + Clock,
+    F: Read + OpenFile + Drop,
+    R: Read,
+    S: GuestSink<H> + Drop,
+    E: Write,
+>(
+    rt: &H,
+    words: &StreamWords<'_>,
+    wanted: Option<Uuid>,
+    inlets: Vec<Inlet<F>>,
+    metadata: Option<&Metadata>,
+    input: &mut R,
+    sink: S,
+    errors: &mut E,
+) -> (Result<Several<F>, Trouble>, S)
+    ensures frame { IfOk result.0 (λ s. s.frame ≡ words.now.frame) }
+    ensures answered { IfOk result.0 (λ s. IsAnswered (record { main = R.remaining input.old; channels = map (inlet_left F.remaining) inlets.items })
+        (S.holds result.1) s) }
+{
+    let mut several = match Several::new(rt.alloc(), words, wanted, inlets) {
+        Ok(several) => several,
+        Err(trouble) => return (Err(trouble), sink),
+    };
+    let mut watch = match Watch::new(rt, rt.alloc(), words.talk, words.file) {
+        Ok(watch) => watch,
+        Err(error) => return (Err(error.into()), sink),
+    };
+    several.expect_file(metadata, &mut watch);
+    let (read, sink) = several.read(rt, input, sink, &mut watch, errors);
+    watch.end(errors);
+    match read {
+        Ok(()) => (Ok(several), sink),
+        Err(trouble) => (Err(trouble), sink),
+    }
+}
+
+// Reads the main stream from its file, and the channels of `inlets`. Returns the sink, too.
 fn read_named<H: AllocGlobal + Files + Clock, S: GuestSink<H> + Drop, E: Write>(
     rt: &H,
     words: &StreamWords<'_>,
-    several: &mut Several<H::File>,
+    wanted: Option<Uuid>,
+    inlets: Vec<Inlet<H::File>>,
     sink: S,
-    watch: &mut Watch,
     errors: &mut E,
-) -> (Result<(), Trouble>, S)
-    requires page_size { IsPageSize several.old.page_size }
-    requires limit { several.old.limit ≤ 2 ^ 40 }
-    ensures asked { OnOk result.0 (StaysAsked several.old several.new) }
-    ensures answered { OnOk result.0 (IsAnswered (S.holds result.1) several.new) }
+) -> (Result<Several<H::File>, Trouble>, S)
+    ensures frame { IfOk result.0 (λ s. s.frame ≡ words.now.frame) }
+    ensures answered { IfOk result.0 (λ s. (all : Bytes) × IsAnswered all (S.holds result.1) s) }
 {
     let mut file = match File::open(rt, words.file) {
         Ok(file) => file,
         Err(error) => return (Err(Trouble::Unread(error)), sink),
     };
-    several.expect_file(&file, watch);
-    several.read(rt, &mut file, sink, watch, errors)
-}
-
-// Reads all sources of `several`, the main stream from its file or from `input`. Returns the sink,
-// too.
-fn read_sources<H: AllocGlobal + Files + Clock, R: Read, S: GuestSink<H> + Drop, E: Write>(
-    rt: &H,
-    words: &StreamWords<'_>,
-    several: &mut Several<H::File>,
-    input: &mut R,
-    sink: S,
-    errors: &mut E,
-) -> (Result<(), Trouble>, S)
-    requires page_size { IsPageSize several.old.page_size }
-    requires limit { several.old.limit ≤ 2 ^ 40 }
-    ensures asked { OnOk result.0 (StaysAsked several.old several.new) }
-    ensures answered { OnOk result.0 (IsAnswered (S.holds result.1) several.new) }
-{
-    let mut watch = match Watch::new(rt, rt.alloc(), words.talk, words.file) {
-        Ok(watch) => watch,
-        Err(error) => return (Err(error.into()), sink),
-    };
-    if words.file == "-" {
-        let read = several.read(rt, input, sink, &mut watch, errors);
-        watch.end(errors);
-        return read;
+    match file.metadata() {
+        Ok(metadata) => {
+            let known = Some(&metadata);
+            read_inputs(rt, words, wanted, inlets, known, &mut file, sink, errors)
+        }
+        Err(_) => read_inputs(rt, words, wanted, inlets, None, &mut file, sink, errors),
     }
-    let read = read_named(rt, words, several, sink, &mut watch, errors);
-    watch.end(errors);
-    read
 }
 
 /// Reads a main stream, from its file or from `input`, and its channels from their files. Passes
 /// the pages to `sink`, and returns it. A fault isn't an error: the survey that it returns has it.
 ///
-/// The rounds and the verdict are those of the answer of a load on several channels. If the load is
-/// done, the sink has taken records that make the answer's memory.
+/// The survey is that of `read_inputs`. Of the bytes of the system's files nothing is known here.
 ///
 /// # Errors
 ///
@@ -518,15 +573,14 @@ pub fn read_several<H: AllocGlobal + Files + Clock, R: Read, S: GuestSink<H> + D
     errors: &mut E,
 ) -> (Result<Several<H::File>, Trouble>, S)
     ensures frame { IfOk result.0 (λ s. s.frame ≡ words.now.frame) }
-    ensures answered { IfOk result.0 (λ s. IsAnswered (S.holds result.1) s) }
+    ensures answered { IfOk result.0 (λ s. (all : Bytes) × IsAnswered all (S.holds result.1) s) }
 {
-    let mut several = match opened(rt, words, channels) {
-        Ok(several) => several,
+    let (wanted, inlets) = match opened(rt, channels) {
+        Ok(opened) => opened,
         Err(trouble) => return (Err(trouble), sink),
     };
-    let (read, sink) = read_sources(rt, words, &mut several, input, sink, errors);
-    match read {
-        Ok(()) => (Ok(several), sink),
-        Err(trouble) => (Err(trouble), sink),
+    if words.file == "-" {
+        return read_inputs(rt, words, wanted, inlets, None, input, sink, errors);
     }
+    read_named(rt, words, wanted, inlets, sink, errors)
 }
