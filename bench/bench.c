@@ -6,6 +6,7 @@
  *   bench transfer [PAGES [RUNS]]   several channels: a guest moved over sockets into a block, and
  *                                   received alone
  *   bench load_multi [PAGES]        several channels: the round loaded, and loaded into a block
+ *   bench mapped [PAGES]            a file with mapped-ram: loaded into a block, beside plain reads
  *   bench hostile                   what hostile streams cost: nanoseconds and memory for each byte
  *
  * The guest has PAGES (262144) pages of 4096 bytes. A transfer has the medians of RUNS (5), the
@@ -27,10 +28,11 @@ int main(int count, char **words) {
     else if (strcmp(word, "sockets") == 0) run_sockets(pages);
     else if (strcmp(word, "transfer") == 0) run_transfer(pages, runs > 0 ? runs : 1);
     else if (strcmp(word, "load_multi") == 0) run_load_multi(pages);
+    else if (strcmp(word, "mapped") == 0) run_mapped(pages);
     else if (strcmp(word, "hostile") == 0) run_hostile();
     else
-        printf("usage: bench load|multi|sockets|load_multi [PAGES], bench transfer [PAGES [RUNS]], "
-               "or bench hostile\n");
+        printf("usage: bench load|multi|sockets|load_multi|mapped [PAGES], "
+               "bench transfer [PAGES [RUNS]], or bench hostile\n");
     if (fflush(stdout) == 0 && !ferror(stdout)) return 0;
     perror("standard output");
     return 3;

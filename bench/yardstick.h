@@ -150,6 +150,7 @@ void run_multi(uint64_t pages);
 void run_sockets(uint64_t pages);
 void run_transfer(uint64_t pages, uint64_t runs);
 void run_load_multi(uint64_t pages);
+void run_mapped(uint64_t pages);
 void run_hostile(void);
 
 #endif

@@ -1,9 +1,11 @@
 /*
- * zimgasol.h: sends and loads guest memory in two layouts of QEMU's live migration.
+ * zimgasol.h: sends and loads guest memory in layouts of QEMU's migration.
  *
  * A single stream is RAM's section of the migration stream (stream version 3, RAM section version
  * 4), with all pages in it. A main stream of the same form has channels beside it, with packets of
  * pages (multifd, uncompressed). Both are written round by round and read in pieces of any length.
+ * Besides, a file with the capability mapped-ram has a place of its own for each page, which the
+ * caller's threads read or write by themselves.
  * Of the documents, C.md has programs and the order of calls, FORMATS.md all bytes, and FAULTS.md
  * all numbers.
  *
@@ -15,7 +17,8 @@
  *    handle: zero-initialized, or left by `_free` or a failed `_new`. `_free` takes any handle of
  *    its kind, and does nothing to an empty one. Every other call takes a handle whose `_new`
  *    returned ZIMGASOL_DONE and that wasn't freed since. The rules of `_new` also hold for
- *    zimgasol_table_of_stream, which makes a table, and zimgasol_send_worker, which makes a worker.
+ *    zimgasol_table_of_stream and zimgasol_mapped_load_table, which make a table, and
+ *    zimgasol_send_worker, which makes a worker.
  *    A zimgasol_send_give_back that returns ZIMGASOL_DONE leaves the worker's handle empty.
  *  - Threads. One call at a time works on a handle. A handle may pass to another thread if the
  *    earlier calls happen before the later ones: by a lock, the start or join of a thread, or an
@@ -40,7 +43,7 @@
  * SSE4.2 (x86-64-v2). Its files are marked so, and the system's loader refuses the program on
  * another processor.
  *
- * A call that may be refused returns a status: ZIMGASOL_DONE; the number of a fault, 1 to 65; or a
+ * A call that may be refused returns a status: ZIMGASOL_DONE; the number of a fault, 1 to 76; or a
  * number from 100 on, which says how a load stands or what is wrong with the call. Later versions
  * may return others: treat an unknown number as a fault. After anything but ZIMGASOL_DONE nothing
  * has changed, unless the call says otherwise.
@@ -242,9 +245,23 @@ typedef enum zimgasol_status {
     /* more packets and pages in a channel's round than `waiting` of zimgasol_settings */
     ZIMGASOL_CHANNEL_WAITING = 65,
 
+    /* ---- a file with mapped-ram (MappedRamHeader in QEMU's migration/ram.c); its size list also
+     * has 21 to 25, and a file that was cut 34 */
+    /* the version of a block's header isn't 1 */
+    ZIMGASOL_MAPPED_HEADER_VERSION = 72,
+    /* the page size in a block's header isn't the one that was passed */
+    ZIMGASOL_MAPPED_HEADER_PAGE_SIZE = 73,
+    /* a block's bitmap doesn't follow its header: offsets count from another byte of the file */
+    ZIMGASOL_MAPPED_BITMAP_OFFSET = 74,
+    /* the offset of a block's pages is before the end of its bitmap, is no multiple of the page
+     * size, or leaves no room for the pages below 2^63 */
+    ZIMGASOL_MAPPED_PAGES_OFFSET = 75,
+    /* a bit is set after that of the block's last page: try the other byte order */
+    ZIMGASOL_MAPPED_BITMAP_TAIL = 76,
+
     /* ---- a call, and the state of a load */
-    /* no fault: a load needs more of a source; or a success of zimgasol_worker_next, _head and
-     * _pack, and of zimgasol_load_claim and _take */
+    /* no fault: a load needs more of a source or a file; or a success of zimgasol_worker_next,
+     * _head and _pack, and of zimgasol_load_claim and _take */
     ZIMGASOL_RUNNING = 100,
     /* a page size other than 4096 and 8192 */
     ZIMGASOL_BAD_PAGE_SIZE = 101,
@@ -256,14 +273,14 @@ typedef enum zimgasol_status {
     ZIMGASOL_IS_OVER = 105,
     /* the stream would have 2^63 bytes or more (with channels, a source 2^64) */
     ZIMGASOL_TOO_LONG = 106,
-    /* no such block or page */
+    /* no such block, page or part */
     ZIMGASOL_NO_PAGE = 107,
     /* a buffer of another length than is needed */
     ZIMGASOL_BAD_LENGTH = 108,
     /* a call out of order: a round is open, or none is; the stream is ended; the call is for the
      * other kind of send; a worker isn't the next one, hasn't ended, has no batch, or has bytes to
      * be drained; no page comes next (zimgasol_load_page_read); pages are claimed, or this packet's
-     * aren't (zimgasol_load_take) */
+     * aren't (zimgasol_load_take); heads are still to be taken (zimgasol_mapped_load_table) */
     ZIMGASOL_OUT_OF_TURN = 109,
     /* more pages than a packet has: 128 of 4096 bytes, 64 of 8192 */
     ZIMGASOL_TOO_MANY_PAGES = 110,
@@ -506,11 +523,29 @@ typedef struct zimgasol_next {
     uint64_t offset;
 } zimgasol_next;
 
+/* Pages of a block whose contents follow each other in a file with mapped-ram: the first one, how
+ * many there are, and the offset in the file of the first one's content. With 0 `pages` there is
+ * none: `page` is the block's number of pages, and `offset` 0. */
+typedef struct zimgasol_run {
+    uint64_t page;
+    uint64_t pages;
+    uint64_t offset;
+} zimgasol_run;
+
+/* Where a part of a file with mapped-ram lies: the offset in the file of its first byte, and how
+ * many bytes it has. */
+typedef struct zimgasol_part {
+    uint64_t offset;
+    size_t len;
+} zimgasol_part;
+
 /* The handles. `full` is 0 if a handle is empty. Its other values, and `at`, are internal. */
 typedef struct zimgasol_table { void *at; uint64_t full; } zimgasol_table;
 typedef struct zimgasol_load { void *at; uint64_t full; } zimgasol_load;
 typedef struct zimgasol_send { void *at; uint64_t full; } zimgasol_send;
 typedef struct zimgasol_worker { void *at; uint64_t full; } zimgasol_worker;
+typedef struct zimgasol_mapped_load { void *at; uint64_t full; } zimgasol_mapped_load;
+typedef struct zimgasol_mapped_send { void *at; uint64_t full; } zimgasol_mapped_send;
 
 /* ---- versions and texts */
 
@@ -1000,6 +1035,126 @@ ZIMGASOL_API size_t zimgasol_worker_drain(zimgasol_worker *worker, uint8_t *out,
 /* Frees a worker instead of giving it back. Its round can't be ended then, only the streams given
  * up (zimgasol_send_cancel_round). */
 ZIMGASOL_API void zimgasol_worker_free(zimgasol_worker *worker);
+
+/* ---- a file with mapped-ram that is loaded
+ *
+ * With the capability mapped-ram QEMU (9.0 and newer; libvirt's format `sparse`) saves a machine
+ * into a file in which each page has an offset of its own. Before the pages of each block there is
+ * its head, with a bitmap: a page whose bit isn't set is zeros, whatever bytes lie at its offset.
+ * The library reads the heads, and what follows the last block's pages. The caller reads the pages
+ * straight into the guest's memory, in any order and by any threads. Nothing is copied.
+ *
+ *     zimgasol_mapped_load_new(&load, page_size, false, 0, bytes, n, &place), with the first bytes
+ *     do {
+ *         n = what `pread` returns for some bytes of the file at `place`
+ *         status = zimgasol_mapped_load_take(&load, bytes, n, &place);
+ *     } while (status == ZIMGASOL_RUNNING);
+ *     zimgasol_mapped_load_table(&load, &table), and memory for its blocks
+ *     on each thread, from the first page of its part of a block on, until its end:
+ *         lock, zimgasol_mapped_load_run(&load, block, page, &run), unlock
+ *         clear the pages from `page` to run.page, unless the memory is zeros
+ *         `pread` run.pages pages, or those of its part, from run.offset to page run.page
+ *         page = run.page + run.pages
+ *
+ * The calls keep 32 KiB for each GiB of the guest, and no page. After DONE the file has all pages
+ * of which a bit is set, and RAM came to its end. Only then are the pages those of a guest: a save
+ * that was broken off has heads, too, without a bit. */
+
+/* Begins the load of a file whose stream begins with these bytes, at the byte `base` of the file: 0
+ * in a file of QEMU's, and in one of libvirt's the bytes before the stream. `big_endian` says
+ * whether a big-endian host wrote the file, which the file doesn't say: its bitmaps have words in
+ * the host's order. *place is the offset of the first block's head. Returns DONE; BAD_PAGE_SIZE;
+ * RUNNING if the bytes don't begin with the front of such a file or end inside it; TOO_LONG if its
+ * size list would begin at 2^63 or later; or NO_MEMORY. After anything but DONE *place is
+ * unchanged.
+ *
+ * The front is what comes before the size list, some hundred bytes. It has no fault of its own: if
+ * 64 KiB of a file are RUNNING it is another file. Of the same bytes zimgasol_table_of_stream
+ * returns MACHINE_CAPABILITY (47) if it is a file with mapped-ram, and else what a stream is. */
+ZIMGASOL_CHECKED zimgasol_status zimgasol_mapped_load_new(zimgasol_mapped_load *load,
+    uint64_t page_size, bool big_endian, uint64_t base, const uint8_t *bytes, size_t len,
+    uint64_t *place);
+
+/* Takes bytes of the file that begin at the offset *place that the call before reported. They are
+ * the head of the next block, up to the end of its bitmap: 9 bytes and the id, 28 bytes, and 8
+ * bytes for each 64 pages. More bytes may follow in the buffer; they aren't taken. After the last
+ * head they are those that follow the last block's pages, up to RAM's END, in pieces of any length:
+ * they have no pages. Writes the offset of what comes next to *place.
+ *
+ * Returns RUNNING if bytes were taken and others come next; DONE once RAM came to its end, and
+ * *place is the offset after RAM's END, where the devices' state begins; or a fault, and *place is
+ * the offset of the head or of the item at fault. STREAM_TRUNCATED (34) says that the bytes end
+ * inside a head, or that there are none: pass more of the file from *place on, and if it has no
+ * more, it was cut there. Other faults are final, as DONE is: the call returns them again.
+ *
+ * The faults of heads are 21 to 25 and 72 to 76. After the pages they are those of a machine's
+ * stream, 11 to 49, and 64 for a page record, which such a file doesn't have. A fault of the front,
+ * as 27 or 48 for another page size, is reported by the first call, at the first head's offset.
+ * TOO_LONG comes at 2^63 bytes. After NO_MEMORY either nothing has changed, or each call returns it
+ * again. */
+ZIMGASOL_CHECKED zimgasol_status zimgasol_mapped_load_take(zimgasol_mapped_load *load,
+    const uint8_t *bytes, size_t len, uint64_t *place);
+
+/* Makes the table of the file's blocks, once the heads of all of them were taken: also before the
+ * bytes after the pages were. Returns DONE, OUT_OF_TURN before that, or NO_MEMORY. All blocks
+ * together may have up to 2^40 bytes: test how much the guest may get. */
+ZIMGASOL_CHECKED zimgasol_status zimgasol_mapped_load_table(zimgasol_mapped_load *load,
+    zimgasol_table *table);
+
+/* Writes to *run the first pages of a block from page `from` on whose contents the file has, as
+ * many as follow each other. The pages from `from` up to run->page are zeros. Returns DONE, also
+ * with no page; or NO_PAGE, with *run unchanged, if the block's head wasn't taken, or `from` is
+ * above its number of pages. It only looks up: threads may ask in any order, each call under one
+ * lock, or each thread of a load of its own that took the same heads. A lookup goes page by page to
+ * the end of the run: keep the rest of a run that is read in parts. */
+ZIMGASOL_CHECKED zimgasol_status zimgasol_mapped_load_run(zimgasol_mapped_load *load, size_t block,
+    uint64_t from, zimgasol_run *run);
+
+/* Frees the load of a file. Tables that it made are freed on their own. */
+ZIMGASOL_API void zimgasol_mapped_load_free(zimgasol_mapped_load *load);
+
+/* ---- a file with mapped-ram that is sent
+ *
+ * The caller writes the file, in any order and by any threads: each page that isn't zeros at its
+ * offset, and at the end the parts, which aren't pages. Blocks, heads and offsets are as QEMU lays
+ * them out (mapped_ram_setup_ramblock). A page has the same offset each time, so a round of dirty
+ * pages writes over what was there, and a file never grows by it. A page that became zeros isn't
+ * written: its bit is cleared.
+ *
+ *     zimgasol_mapped_send_new(&send, &table, false, name, name_len);
+ *     for each page that is dirty, in rounds as long as the guest runs:
+ *         lock, zimgasol_mapped_send_mark(&send, block, page, is_not_zeros, &offset), unlock
+ *         `pwrite` the page at the offset, if it isn't zeros
+ *     with the guest stopped, for part = 0, 1, .. until NO_PAGE:
+ *         zimgasol_mapped_send_part(&send, part, bytes, len, &at), and `pwrite` it at at.offset
+ */
+
+/* Begins a send of a table, which it copies, as the file of a machine with this name, of at most
+ * 1,024 bytes. No page is in the file yet: all are zeros. `big_endian` is true if a big-endian host
+ * is to load it. Returns DONE; BAD_LENGTH (of the name); NO_MEMORY; or MAPPED_PAGES_OFFSET, which
+ * no table leads to. */
+ZIMGASOL_CHECKED zimgasol_status zimgasol_mapped_send_new(zimgasol_mapped_send *send,
+    zimgasol_table *table, bool big_endian, const uint8_t *name, size_t name_len);
+
+/* Says whether the file has the content of a page: sets its bit if `has_content` is true, and else
+ * clears it, which makes it a page of zeros. Writes the page's offset in the file to *offset: if
+ * the bit is set the caller writes the content there, before the part with the bit. Returns DONE,
+ * or NO_PAGE with nothing changed. */
+ZIMGASOL_CHECKED zimgasol_status zimgasol_mapped_send_mark(zimgasol_mapped_send *send, size_t block,
+    uint64_t page, bool has_content, uint64_t *offset);
+
+/* Copies a part of the file that isn't a page to the front of `out`, and writes where it lies to
+ * *at. Part 0 is the front, part 1 + i the head of block i, with the bits so far, and the part
+ * after those what follows the last block's pages: the end of START, END, and the end byte. To go
+ * on with the sections of devices leave out that last byte. Returns DONE; BAD_LENGTH if `out` is
+ * too short, with *at written; NO_PAGE if there is no such part; or NO_MEMORY. A file with all
+ * parts and with the pages whose bits are set stands for the memory of the pages that were marked,
+ * whatever else lies in it. */
+ZIMGASOL_CHECKED zimgasol_status zimgasol_mapped_send_part(zimgasol_mapped_send *send, size_t part,
+    uint8_t *out, size_t len, zimgasol_part *at);
+
+/* Frees a send. The file is the caller's. */
+ZIMGASOL_API void zimgasol_mapped_send_free(zimgasol_mapped_send *send);
 
 /* ---- hellos and packets of channels, written into the caller's buffers */
 

@@ -10,7 +10,10 @@ end or the fault. Of several channels the blocks have whole rounds after each pi
 by page has the same answer. Then the example programs send and load files of memory, a guest is
 migrated while it runs, on one stream and on several channels, and a program has each allocation
 refused in turn. Connections are lost in the middle of a round, at either end. The three programs of
-docs/use/C.md have a peer that is written here, and read files that are made here. All but the cases
+docs/use/C.md have a peer that is written here, and read files that are made here. Files with
+mapped-ram are loaded by 1, 2 and 4 threads: those of QEMU's in runs/captures, and others that
+tools/mapped_file.py and tools/mapped_facts.py make. What is saved is the file that
+tools/mapped_file.py makes, and saving over it changes no byte. All but the cases
 also run under valgrind, if it is installed, and the live migrations with AddressSanitizer, that on
 several channels with ThreadSanitizer, too. The binding from Rust is built if rustc is installed.
 The names that the archive defines and needs are compared with those in docs/use/C.md.
@@ -20,6 +23,7 @@ import contextlib
 import ctypes
 import hashlib
 import itertools
+import lzma
 import os
 import pathlib
 import random
@@ -32,6 +36,9 @@ import sys
 import tempfile
 import threading
 
+import mapped_facts
+import mapped_file
+
 TOP = pathlib.Path(__file__).resolve().parent.parent
 OUT = TOP / "out/c"
 LIBRARY = TOP / "out/libzimgasol.a"
@@ -41,6 +48,7 @@ STRICT = ["-O2", "-Wpedantic"]
 CUTS = (0, 1, 7, 100, 4096)
 DATA = TOP / "crates/mig_rows/data"
 LIMIT = 1 << 40
+PAGE_4K = 4096
 MOST_SECONDS = 1200
 
 CC = os.environ.get("CC", "cc")
@@ -1218,6 +1226,65 @@ def reading(before):
             sys.exit(f"read_file: status {done.returncode}, {done.stderr.decode()}, not {wanted}")
 
 
+def mapped_guests():
+    """Files with mapped-ram, each with the memory of its blocks: of QEMU's, and others."""
+    for sums in sorted((TOP / "runs/captures").glob("*mapped.sums")):
+        packed = sums.with_suffix(".stream.xz")
+        yield packed.name, lzma.decompress(packed.read_bytes()), sums.read_text().strip()
+    chance = random.Random(5)
+    for blocks in ({b"ram": 1}, {b"pc.ram": 64, b"vga.vram": 65}, {b"a": 2000, b"b" * 255: 3, b"c": 300}):
+        for share in (0, 0.05, 0.5, 1):
+            pages = {name: [(chance.random() < share, chance.randbytes(PAGE_4K)) for _ in range(count)] for name, count in blocks.items()}
+            memory = b"".join(map(mapped_facts.memory, pages.values()))
+            yield f"pages of {blocks}, {share} of them", mapped_facts.guest(pages), hashlib.sha256(memory).hexdigest()
+
+
+def mapped_loads(before):
+    """Files with mapped-ram are loaded as they are, by threads, and one that was cut, or is another one, isn't. Returns how many."""
+    file, output, count = OUT / "saved", OUT / "blocks", 0
+    for what, data, wanted in mapped_guests():
+        file.write_bytes(data)
+        for threads in (1, 2, 4):
+            said = run(*before, OUT / "mapped", "load", file, output, threads).decode()
+            end = int(re.search(r"^RAM ends at byte (\d+)$", said, re.M)[1])
+            found = hashlib.sha256(output.read_bytes()).hexdigest()
+            if found != wanted or data[end - 13:end - 4] != bytes(7) + b"\x10\x7e":
+                sys.exit(f"mapped load of {what}, {threads} threads: RAM ends at {end}, another memory: {found != wanted}")
+            count += 1
+    at = len(data) - 1
+    bad = bytearray(data)
+    bad[data.index(b"\x01a") + 13] = 9
+    cases = [(data[:at - 1], f"34, stream: not closed, at byte {at - 1}"), (data[:300], "34, .*"), (data[:40], "no file with mapped-ram"),
+             (stream_of([(3, b"ram")], [])[0], "no file with mapped-ram"), (bytes(bad), f"72, mapped-ram: header version isn't 1, at byte {data.index(bytes([1]) + b'a')}")]
+    for text, wanted in cases:
+        file.write_bytes(text)
+        done = subprocess.run([*leaving(before), OUT / "mapped", "load", file, output], capture_output=True, timeout=MOST_SECONDS)
+        if done.returncode != 1 or not re.fullmatch(wanted, done.stderr.decode().strip()):
+            sys.exit(f"mapped load: status {done.returncode}, {done.stderr.decode()}, not {wanted}")
+    return count
+
+
+def mapped_saves(before, program="mapped"):
+    """What is saved is the file that tools/mapped_file.py makes; loading it gives the memory again."""
+    chance = random.Random(6)
+    blocks = {name: b"".join(chance.randbytes(PAGE_4K) if chance.random() < share else bytes(PAGE_4K) for _ in range(count))
+              for name, count, share in (("pc.ram", 1500, 0.3), ("vga.vram", 70, 0), ("bios", 1, 1))}
+    wanted, _ = mapped_file.plain_file(blocks, "none")
+    words = []
+    for name, memory in blocks.items():
+        (OUT / f"{name}.memory").write_bytes(memory)
+        words.append(f"{name}={OUT / f'{name}.memory'}")
+    file, output = OUT / "saved", OUT / "blocks"
+    for threads in (1, 2, 4):
+        run(*before, OUT / program, "save", file, "none", threads, *words, wanted="")
+        if file.read_bytes() != wanted:
+            sys.exit(f"mapped save, {threads} threads: another file than tools/mapped_file.py makes")
+        run(*before, OUT / program, "load", file, output, threads)
+        if output.read_bytes() != b"".join(blocks.values()):
+            sys.exit(f"mapped save and load, {threads} threads: another memory")
+    return 3
+
+
 def as_qemu(before, texts, last, returns):
     """Sends streams to from_qemu, the main one's last byte late, or never where that isn't `last`. Returns how it ended, and
     what it answered before that byte and after it."""
@@ -1286,6 +1353,10 @@ def main():
     build("receive_live_asan", "examples/c/receive_live.c", "-fsanitize=address,undefined")
     build("send_live_asan", "examples/c/send_live.c", "-pthread", "-fsanitize=address,undefined")
     build("send_live_tsan", "examples/c/send_live.c", "-pthread", "-fsanitize=thread")
+    build("mapped", "examples/c/mapped.c", "-pthread", *STRICT)
+    build("mapped_asan", "examples/c/mapped.c", "-pthread", "-fsanitize=address,undefined")
+    build("mapped_tsan", "examples/c/mapped.c", "-pthread", "-fsanitize=thread")
+    build("mapped_calls", "examples/c/tests/mapped.c", REFUSING)
     build("live", "examples/c/live.c", "-pthread")
     build("live_asan", "examples/c/live.c", "-pthread", "-fsanitize=address,undefined")
     build("channels", "examples/c/channels.c", "-pthread")
@@ -1328,6 +1399,8 @@ def main():
         print(run(*before, OUT / "loads").decode().strip() + under)
         print(run(*before, OUT / "tables").decode().strip() + under)
         print(run(*before, OUT / "apart").decode().strip() + under)
+        print(run(*before, OUT / "mapped_calls").decode().strip() + under)
+        print(f"files with mapped-ram: {mapped_loads(before)} loads, {mapped_saves(before)} saves as they should be{under}")
     failing_read()
     tutorial()
     print("the programs of docs/use/C.md: with a peer in Python, and one with another, each as it should be")
@@ -1336,6 +1409,8 @@ def main():
     channels()
     run(OUT / "apart_asan")
     run(OUT / "apart_tsan")
+    mapped_saves([], "mapped_asan")
+    mapped_saves([], "mapped_tsan")
     print("a guest migrated while it ran, on several channels: no page differs")
     print(f"connections lost in the middle of a round, {lost_connections()} times: both ends gave up")
     print(f"64 MiB of pages read straight into their block: {next_buffer()}")

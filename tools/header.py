@@ -20,6 +20,10 @@ STRUCTS = {
     "LoadHandle": "zimgasol_load",
     "SendHandle": "zimgasol_send",
     "WorkerHandle": "zimgasol_worker",
+    "FileHandle": "zimgasol_mapped_load",
+    "SentHandle": "zimgasol_mapped_send",
+    "FileRun": "zimgasol_run",
+    "FilePart": "zimgasol_part",
     "ClaimedPages": "zimgasol_pages",
     "NamedPlace": "zimgasol_place",
     "NamedBatch": "zimgasol_batch",
@@ -116,7 +120,7 @@ def c_fields(label, kind):
 
 def struct_fields():
     """The fields of the structs that C sees, as both sides have them."""
-    sources = "".join(path.read_text() for crate in ("mig_c", "mig_c_calls", "mig_c_loads") for path in (TOP / "crates" / crate / "src").glob("*.rt"))
+    sources = "".join(path.read_text() for crate in ("mig_c", "mig_c_calls", "mig_c_loads", "mig_c_mapped") for path in (TOP / "crates" / crate / "src").glob("*.rt"))
     header = (TOP / "include/zimgasol.h").read_text()
     for rust, name in STRUCTS.items():
         if rust.endswith("Handle"):
@@ -150,6 +154,7 @@ FAULTS = [
     ("mig_packet/specs/FaultNumber.antt", "CHANNEL_"),
     ("mig_assemble/specs/RoundFaultNumber.antt", "ROUND_"),
     ("mig_load_types/specs/LoadFaultNumber.antt", ""),
+    ("mig_mapped/specs/FaultNumber.antt", "MAPPED_"),
 ]
 
 
@@ -159,7 +164,7 @@ def faults():
     for path, begin in FAULTS:
         lines = re.findall(r"^fault_number \(?(?:\w+\.)?(\w+)[^=\n]*= (\d+)$", (TOP / "crates" / path).read_text(), re.M)
         for name, number in lines:
-            number_begin = "MACHINE_" if 46 <= int(number) <= 49 else begin
+            number_begin = "MACHINE_" if 46 <= int(number) <= 49 else "STREAM_" if begin == "MAPPED_" and int(number) < 72 else begin
             name = number_begin + re.sub(r"(?<=[a-z])(?=[A-Z])", "_", name).upper()
             yield name, number, theirs.get(name)
 

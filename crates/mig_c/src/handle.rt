@@ -138,6 +138,28 @@ pub struct WorkerHandle {
     ghost says: { full ≡ 0 ↔ handle.value ≡ None },
 }
 
+/// A file with mapped-ram that is loaded, or none.
+#[repr(C)]
+#[derive(Drop)]
+pub struct FileHandle {
+    /// The handle of the object.
+    pub handle: Handle,
+    /// 0 if there is no object, else 1.
+    pub full: u64,
+    ghost says: { full ≡ 0 ↔ handle.value ≡ None },
+}
+
+/// A guest's memory that is sent as a file with mapped-ram, or none.
+#[repr(C)]
+#[derive(Drop)]
+pub struct SentHandle {
+    /// The handle of the object.
+    pub handle: Handle,
+    /// 0 if there is no object, else 1.
+    pub full: u64,
+    ghost says: { full ≡ 0 ↔ handle.value ≡ None },
+}
+
 impl SendHandle {
     /// Takes the send out of the handle, with the box that it was in.
     pub(crate) fn take_out(&mut self, alloc: Global) -> (Box<Object>, GuestSend)
@@ -196,9 +218,13 @@ pub(crate) fn all_cross(
     load: &LoadHandle,
     send: &SendHandle,
     worker: &WorkerHandle,
+    file: &FileHandle,
+    sent: &SentHandle,
 ) {
     crosses(table);
     crosses(load);
     crosses(send);
     crosses(worker);
+    crosses(file);
+    crosses(sent);
 }

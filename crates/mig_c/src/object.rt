@@ -2,10 +2,11 @@
 //! the functions here. One that works on a send or a worker takes it out, and puts it back.
 
 ghost use Rattle.std.specs.Prelude.{◌≡◌, IsSome, Some};
-ghost use Rattle.mig_c.specs.Kinds.{table_in, load_in, send_in, worker_in};
+ghost use Rattle.mig_c.specs.Kinds.{table_in, load_in, send_in, worker_in, file_in, sent_in};
 
 use mig_c_calls::{GuestSend, HeldWorker};
 use mig_c_loads::Load;
+use mig_c_mapped::{MappedFile, SentFile};
 use mig_mem::Table;
 use std::alloc::Global;
 use std::mem;
@@ -21,6 +22,10 @@ pub enum Object {
     Send(GuestSend),
     /// A worker of a round on several channels.
     Worker(HeldWorker),
+    /// A file with mapped-ram that is loaded.
+    File(MappedFile),
+    /// A guest's memory that is sent as a file with mapped-ram.
+    Sent(SentFile),
     /// None yet, or none any more: room for one.
     Empty,
 }
@@ -43,6 +48,28 @@ pub(crate) fn load_of(object: &Object) -> &Load
 {
     match object {
         Object::Load(load) => load,
+        _ => unreachable!(),
+    }
+}
+
+/// Returns the value of an object that is a file that is loaded.
+pub(crate) fn file_of(object: &Object) -> &MappedFile
+    requires { IsSome (file_in (Some object.now)) }
+    ensures { file_in (Some object.now) ≡ Some result.now }
+{
+    match object {
+        Object::File(file) => file,
+        _ => unreachable!(),
+    }
+}
+
+/// Returns the value of an object that is a file that is sent.
+pub(crate) fn sent_of(object: &Object) -> &SentFile
+    requires { IsSome (sent_in (Some object.now)) }
+    ensures { sent_in (Some object.now) ≡ Some result.now }
+{
+    match object {
+        Object::Sent(sent) => sent,
         _ => unreachable!(),
     }
 }

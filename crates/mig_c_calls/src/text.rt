@@ -113,6 +113,21 @@ fn of_load(status: u32) -> &'static [u8]
     }
 }
 
+// Returns the message of a fault of a file with mapped-ram.
+fn of_mapped(status: u32) -> &'static [u8]
+    ensures text { IsText result.now }
+    ensures short { length result.now ≤ 64 }
+{
+    match status {
+        72 => b"mapped-ram: header version isn't 1\0",
+        73 => b"mapped-ram: page size differs\0",
+        74 => b"mapped-ram: bitmap out of place\0",
+        75 => b"mapped-ram: bad offset of pages\0",
+        76 => b"mapped-ram: bit after the last page\0",
+        _ => b"unknown status\0",
+    }
+}
+
 // Returns the message of a load's state, or of a refused call.
 fn of_call(status: u32) -> &'static [u8]
     ensures text { IsText result.now }
@@ -149,6 +164,7 @@ pub fn text_of(status: u32) -> &'static [u8]
         11..=34 => of_stream(status),
         35..=45 => of_channel(status),
         46..=59 | 61..=65 => of_load(status),
+        72..=76 => of_mapped(status),
         _ => of_call(status),
     }
 }

@@ -2,11 +2,13 @@
 //! this file from the header, with its comments. Nothing checks here that a caller keeps to its
 //! rules, which follow; the crate `zimgasol` keeps them by types.
 //!
-//! zimgasol.h: sends and loads guest memory in two layouts of QEMU's live migration.
+//! zimgasol.h: sends and loads guest memory in layouts of QEMU's migration.
 //!
 //! A single stream is RAM's section of the migration stream (stream version 3, RAM section version
 //! 4), with all pages in it. A main stream of the same form has channels beside it, with packets of
 //! pages (multifd, uncompressed). Both are written round by round and read in pieces of any length.
+//! Besides, a file with the capability mapped-ram has a place of its own for each page, which the
+//! caller's threads read or write by themselves.
 //! Of the documents, C.md has programs and the order of calls, FORMATS.md all bytes, and FAULTS.md
 //! all numbers.
 //!
@@ -18,7 +20,8 @@
 //!    handle: zero-initialized, or left by `_free` or a failed `_new`. `_free` takes any handle of
 //!    its kind, and does nothing to an empty one. Every other call takes a handle whose `_new`
 //!    returned ZIMGASOL_DONE and that wasn't freed since. The rules of `_new` also hold for
-//!    zimgasol_table_of_stream, which makes a table, and zimgasol_send_worker, which makes a worker.
+//!    zimgasol_table_of_stream and zimgasol_mapped_load_table, which make a table, and
+//!    zimgasol_send_worker, which makes a worker.
 //!    A zimgasol_send_give_back that returns ZIMGASOL_DONE leaves the worker's handle empty.
 //!  - Threads. One call at a time works on a handle. A handle may pass to another thread if the
 //!    earlier calls happen before the later ones: by a lock, the start or join of a thread, or an
@@ -43,7 +46,7 @@
 //! SSE4.2 (x86-64-v2). Its files are marked so, and the system's loader refuses the program on
 //! another processor.
 //!
-//! A call that may be refused returns a status: ZIMGASOL_DONE; the number of a fault, 1 to 65; or a
+//! A call that may be refused returns a status: ZIMGASOL_DONE; the number of a fault, 1 to 76; or a
 //! number from 100 on, which says how a load stands or what is wrong with the call. Later versions
 //! may return others: treat an unknown number as a fault. After anything but ZIMGASOL_DONE nothing
 //! has changed, unless the call says otherwise.
@@ -197,8 +200,19 @@ pub const ZIMGASOL_OTHER_TABLE: zimgasol_status = 63;
 pub const ZIMGASOL_STREAM_WAITING: zimgasol_status = 64;
 /// more packets and pages in a channel's round than `waiting` of zimgasol_settings
 pub const ZIMGASOL_CHANNEL_WAITING: zimgasol_status = 65;
-/// no fault: a load needs more of a source; or a success of zimgasol_worker_next, _head and
-/// _pack, and of zimgasol_load_claim and _take
+/// the version of a block's header isn't 1
+pub const ZIMGASOL_MAPPED_HEADER_VERSION: zimgasol_status = 72;
+/// the page size in a block's header isn't the one that was passed
+pub const ZIMGASOL_MAPPED_HEADER_PAGE_SIZE: zimgasol_status = 73;
+/// a block's bitmap doesn't follow its header: offsets count from another byte of the file
+pub const ZIMGASOL_MAPPED_BITMAP_OFFSET: zimgasol_status = 74;
+/// the offset of a block's pages is before the end of its bitmap, is no multiple of the page
+/// size, or leaves no room for the pages below 2^63
+pub const ZIMGASOL_MAPPED_PAGES_OFFSET: zimgasol_status = 75;
+/// a bit is set after that of the block's last page: try the other byte order
+pub const ZIMGASOL_MAPPED_BITMAP_TAIL: zimgasol_status = 76;
+/// no fault: a load needs more of a source or a file; or a success of zimgasol_worker_next,
+/// _head and _pack, and of zimgasol_load_claim and _take
 pub const ZIMGASOL_RUNNING: zimgasol_status = 100;
 /// a page size other than 4096 and 8192
 pub const ZIMGASOL_BAD_PAGE_SIZE: zimgasol_status = 101;
@@ -210,14 +224,14 @@ pub const ZIMGASOL_BAD_SOURCE: zimgasol_status = 104;
 pub const ZIMGASOL_IS_OVER: zimgasol_status = 105;
 /// the stream would have 2^63 bytes or more (with channels, a source 2^64)
 pub const ZIMGASOL_TOO_LONG: zimgasol_status = 106;
-/// no such block or page
+/// no such block, page or part
 pub const ZIMGASOL_NO_PAGE: zimgasol_status = 107;
 /// a buffer of another length than is needed
 pub const ZIMGASOL_BAD_LENGTH: zimgasol_status = 108;
 /// a call out of order: a round is open, or none is; the stream is ended; the call is for the
 /// other kind of send; a worker isn't the next one, hasn't ended, has no batch, or has bytes to
 /// be drained; no page comes next (zimgasol_load_page_read); pages are claimed, or this packet's
-/// aren't (zimgasol_load_take)
+/// aren't (zimgasol_load_take); heads are still to be taken (zimgasol_mapped_load_table)
 pub const ZIMGASOL_OUT_OF_TURN: zimgasol_status = 109;
 /// more pages than a packet has: 128 of 4096 bytes, 64 of 8192
 pub const ZIMGASOL_TOO_MANY_PAGES: zimgasol_status = 110;
@@ -482,6 +496,26 @@ pub struct zimgasol_next {
     pub offset: u64,
 }
 
+/// Pages of a block whose contents follow each other in a file with mapped-ram: the first one, how
+/// many there are, and the offset in the file of the first one's content. With 0 `pages` there is
+/// none: `page` is the block's number of pages, and `offset` 0.
+#[repr(C)]
+#[derive(Clone, Copy, Debug)]
+pub struct zimgasol_run {
+    pub page: u64,
+    pub pages: u64,
+    pub offset: u64,
+}
+
+/// Where a part of a file with mapped-ram lies: the offset in the file of its first byte, and how
+/// many bytes it has.
+#[repr(C)]
+#[derive(Clone, Copy, Debug)]
+pub struct zimgasol_part {
+    pub offset: u64,
+    pub len: usize,
+}
+
 /// The handles. `full` is 0 if a handle is empty. Its other values, and `at`, are internal.
 #[repr(C)]
 #[derive(Debug)]
@@ -507,6 +541,20 @@ pub struct zimgasol_send {
 #[repr(C)]
 #[derive(Debug)]
 pub struct zimgasol_worker {
+    pub at: *mut c_void,
+    pub full: u64,
+}
+
+#[repr(C)]
+#[derive(Clone, Copy, Debug)]
+pub struct zimgasol_mapped_load {
+    pub at: *mut c_void,
+    pub full: u64,
+}
+
+#[repr(C)]
+#[derive(Clone, Copy, Debug)]
+pub struct zimgasol_mapped_send {
     pub at: *mut c_void,
     pub full: u64,
 }
@@ -892,6 +940,117 @@ unsafe extern "C" {
     /// Frees a worker instead of giving it back. Its round can't be ended then, only the streams given
     /// up (zimgasol_send_cancel_round).
     pub fn zimgasol_worker_free(worker: *mut zimgasol_worker);
+
+    /// Begins the load of a file whose stream begins with these bytes, at the byte `base` of the file: 0
+    /// in a file of QEMU's, and in one of libvirt's the bytes before the stream. `big_endian` says
+    /// whether a big-endian host wrote the file, which the file doesn't say: its bitmaps have words in
+    /// the host's order. *place is the offset of the first block's head. Returns DONE; BAD_PAGE_SIZE;
+    /// RUNNING if the bytes don't begin with the front of such a file or end inside it; TOO_LONG if its
+    /// size list would begin at 2^63 or later; or NO_MEMORY. After anything but DONE *place is
+    /// unchanged.
+    ///
+    /// The front is what comes before the size list, some hundred bytes. It has no fault of its own: if
+    /// 64 KiB of a file are RUNNING it is another file. Of the same bytes zimgasol_table_of_stream
+    /// returns MACHINE_CAPABILITY (47) if it is a file with mapped-ram, and else what a stream is.
+    pub fn zimgasol_mapped_load_new(
+        load: *mut zimgasol_mapped_load,
+        page_size: u64,
+        big_endian: bool,
+        base: u64,
+        bytes: *const u8,
+        len: usize,
+        place: *mut u64,
+    ) -> zimgasol_status;
+
+    /// Takes bytes of the file that begin at the offset *place that the call before reported. They are
+    /// the head of the next block, up to the end of its bitmap: 9 bytes and the id, 28 bytes, and 8
+    /// bytes for each 64 pages. More bytes may follow in the buffer; they aren't taken. After the last
+    /// head they are those that follow the last block's pages, up to RAM's END, in pieces of any length:
+    /// they have no pages. Writes the offset of what comes next to *place.
+    ///
+    /// Returns RUNNING if bytes were taken and others come next; DONE once RAM came to its end, and
+    /// *place is the offset after RAM's END, where the devices' state begins; or a fault, and *place is
+    /// the offset of the head or of the item at fault. STREAM_TRUNCATED (34) says that the bytes end
+    /// inside a head, or that there are none: pass more of the file from *place on, and if it has no
+    /// more, it was cut there. Other faults are final, as DONE is: the call returns them again.
+    ///
+    /// The faults of heads are 21 to 25 and 72 to 76. After the pages they are those of a machine's
+    /// stream, 11 to 49, and 64 for a page record, which such a file doesn't have. A fault of the front,
+    /// as 27 or 48 for another page size, is reported by the first call, at the first head's offset.
+    /// TOO_LONG comes at 2^63 bytes. After NO_MEMORY either nothing has changed, or each call returns it
+    /// again.
+    pub fn zimgasol_mapped_load_take(
+        load: *mut zimgasol_mapped_load,
+        bytes: *const u8,
+        len: usize,
+        place: *mut u64,
+    ) -> zimgasol_status;
+
+    /// Makes the table of the file's blocks, once the heads of all of them were taken: also before the
+    /// bytes after the pages were. Returns DONE, OUT_OF_TURN before that, or NO_MEMORY. All blocks
+    /// together may have up to 2^40 bytes: test how much the guest may get.
+    pub fn zimgasol_mapped_load_table(
+        load: *mut zimgasol_mapped_load,
+        table: *mut zimgasol_table,
+    ) -> zimgasol_status;
+
+    /// Writes to *run the first pages of a block from page `from` on whose contents the file has, as
+    /// many as follow each other. The pages from `from` up to run->page are zeros. Returns DONE, also
+    /// with no page; or NO_PAGE, with *run unchanged, if the block's head wasn't taken, or `from` is
+    /// above its number of pages. It only looks up: threads may ask in any order, each call under one
+    /// lock, or each thread of a load of its own that took the same heads. A lookup goes page by page to
+    /// the end of the run: keep the rest of a run that is read in parts.
+    pub fn zimgasol_mapped_load_run(
+        load: *mut zimgasol_mapped_load,
+        block: usize,
+        from: u64,
+        run: *mut zimgasol_run,
+    ) -> zimgasol_status;
+
+    /// Frees the load of a file. Tables that it made are freed on their own.
+    pub fn zimgasol_mapped_load_free(load: *mut zimgasol_mapped_load);
+
+    /// Begins a send of a table, which it copies, as the file of a machine with this name, of at most
+    /// 1,024 bytes. No page is in the file yet: all are zeros. `big_endian` is true if a big-endian host
+    /// is to load it. Returns DONE; BAD_LENGTH (of the name); NO_MEMORY; or MAPPED_PAGES_OFFSET, which
+    /// no table leads to.
+    pub fn zimgasol_mapped_send_new(
+        send: *mut zimgasol_mapped_send,
+        table: *mut zimgasol_table,
+        big_endian: bool,
+        name: *const u8,
+        name_len: usize,
+    ) -> zimgasol_status;
+
+    /// Says whether the file has the content of a page: sets its bit if `has_content` is true, and else
+    /// clears it, which makes it a page of zeros. Writes the page's offset in the file to *offset: if
+    /// the bit is set the caller writes the content there, before the part with the bit. Returns DONE,
+    /// or NO_PAGE with nothing changed.
+    pub fn zimgasol_mapped_send_mark(
+        send: *mut zimgasol_mapped_send,
+        block: usize,
+        page: u64,
+        has_content: bool,
+        offset: *mut u64,
+    ) -> zimgasol_status;
+
+    /// Copies a part of the file that isn't a page to the front of `out`, and writes where it lies to
+    /// *at. Part 0 is the front, part 1 + i the head of block i, with the bits so far, and the part
+    /// after those what follows the last block's pages: the end of START, END, and the end byte. To go
+    /// on with the sections of devices leave out that last byte. Returns DONE; BAD_LENGTH if `out` is
+    /// too short, with *at written; NO_PAGE if there is no such part; or NO_MEMORY. A file with all
+    /// parts and with the pages whose bits are set stands for the memory of the pages that were marked,
+    /// whatever else lies in it.
+    pub fn zimgasol_mapped_send_part(
+        send: *mut zimgasol_mapped_send,
+        part: usize,
+        out: *mut u8,
+        len: usize,
+        at: *mut zimgasol_part,
+    ) -> zimgasol_status;
+
+    /// Frees a send. The file is the caller's.
+    pub fn zimgasol_mapped_send_free(send: *mut zimgasol_mapped_send);
 
     /// Writes the hello of channel `id`, with a UUID of 16 bytes, to a buffer of 64 bytes. Returns DONE
     /// or BAD_LENGTH.

@@ -1,0 +1,4 @@
+pub mod FileHeads
+pub mod Fronts
+pub mod Parts
+pub mod Totals
