@@ -87,6 +87,7 @@ documents: header ## at once | compares the documents with the code
 	@tools/zimgasol_page.py --check
 	@tools/quotes.py
 	@tools/widths.py
+	@tools/delta_facts.py --check
 	@tools/bindings.py --check
 	@tools/pictures.py --check
 
