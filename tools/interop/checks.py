@@ -178,6 +178,26 @@ def load_mapped(bench, channels):
     return loaded_as(status, {"ram": wanted}, {"ram": came})
 
 
+def read_mapped_in_c(bench, program, threads):
+    """QEMU writes a file with mapped-ram, and threads of a program in C read its pages into place."""
+    stream, wanted = write_file(bench, NONE, ("mapped-ram",))
+    came = bench.file("memory.bin")
+    came.unlink(missing_ok=True)
+    ran(program, "load", stream, came, str(threads))
+    return compare(wanted, {"ram": came.read_bytes()})
+
+
+def load_mapped_of_c(bench, program, threads):
+    """Threads of a program in C write a guest's memory with mapped-ram, and QEMU loads it."""
+    wanted, out = memory(4 * MIB // PAGE, seed=9), bench.file("saved.mapped")
+    bench.file("ram.bin").write_bytes(wanted)
+    out.unlink(missing_ok=True)
+    ran(program, "save", out, "none", str(threads), f"ram={bench.file('ram.bin')}")
+    with bench.waiting(len(wanted), NONE.words) as guest:
+        status, came = qemu.loaded_mapped(guest, out)
+    return loaded_as(status, {"ram": wanted}, {"ram": came})
+
+
 def chain(bench, other):
     """`zimgasol` extracts and saves a QEMU's file. Another QEMU loads that, and writes it again."""
     zimgasol, out, last = bench.programs.zimgasol, bench.file("chain.sav"), bench.file("last.sav")

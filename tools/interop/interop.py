@@ -27,7 +27,7 @@ import packages
 import qemu
 import states
 from checks import (NO_CONFIGURATION, Bench, chain, leave_shared_out, load_saved, read_between,
-                    load_mapped, read_single, refuse_xbzrle)
+                    load_mapped, load_mapped_of_c, read_mapped_in_c, read_single, refuse_xbzrle)
 from guests import KINDS, NONE, OLD, PC, PC_UUID, PC_WRITING, Q35, SMALL, old_files
 from ours import TOP, Differs, Programs
 
@@ -216,6 +216,10 @@ def connect_library(table, bench, version, built, why):
         table.try_(row, lambda: live.lose_each(bench, built, kind, count))
         row = Row(version, there, kind.name, f"{by(count)}, migrate_cancel")
         table.try_(row, lambda: live.cancel(bench, built, kind, count))
+    for threads in (1, 4) if qemu.number(version) >= (9, 0) else ():
+        what = f"mapped-ram, {threads} thread{'s' if threads > 1 else ''}"
+        table.try_(Row(version, there, NONE.name, what), lambda: read_mapped_in_c(bench, built["mapped"], threads))
+        table.try_(Row(version, here, NONE.name, what), lambda: load_mapped_of_c(bench, built["mapped"], threads))
 
 
 def at_hand(words):

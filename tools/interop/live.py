@@ -23,7 +23,7 @@ from guests import MIB, NONE, PAGE, memory
 from ours import TOP, Differs, compare, ran
 from states import wait_for_change
 
-SOURCES = TOP / "examples/c/from_qemu.c", TOP / "tools/interop/to_qemu.c"
+SOURCES = TOP / "examples/c/from_qemu.c", TOP / "tools/interop/to_qemu.c", TOP / "examples/c/mapped.c"
 # the seconds within which a receiver ends whose connection is lost
 LIMIT = 60
 CUTS = 10
@@ -37,7 +37,7 @@ FAULT, LACKS = 1, 2
 
 
 def built(library, folder):
-    """Builds both programs. Returns them by name, or why they can't be built."""
+    """Builds the programs. Returns them by name, or why they can't be built."""
     compiler = shutil.which(os.environ.get("CC", "cc"))
     if not Path(library).exists():
         return None, f"there is no {library}: make lib"
@@ -45,7 +45,7 @@ def built(library, folder):
         return None, "there is no C compiler"
     for source in SOURCES:
         program = folder / source.stem
-        ran(compiler, *STRICT, f"-I{TOP / 'include'}", source, library, "-o", program)
+        ran(compiler, *STRICT, "-pthread", f"-I{TOP / 'include'}", source, library, "-o", program)
     return {it.stem: folder / it.stem for it in SOURCES}, None
 
 
