@@ -10,8 +10,8 @@
  *   bench hostile                   what hostile streams cost: nanoseconds and memory for each byte
  *
  * The guest has PAGES (262144) pages of 4096 bytes. A transfer has the medians of RUNS (5), the
- * others the least time of five. docs/build/BENCHMARKS.md has figures. No test compares one. Without a
- * word it prints its usage. Status 3: it can't go on, and says why.
+ * others the least time of five. docs/build/BENCHMARKS.md has figures. No test compares one.
+ * Without a word it prints its usage. Status 3: it can't go on, and says why.
  */
 #include "yardstick.h"
 #include <stdio.h>
