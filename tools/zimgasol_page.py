@@ -443,10 +443,14 @@ CASES = [
     ("zimgasol verify device.sav", (
         ["zimgasol: device.sav: byte 67 (after section 1): fault 13: unexpected section type; "
          'the section of "dirty-bitmap": bitmaps of disks, which aren\'t read: save without `dirty-bitmaps`'], 1)),
-    (r"(head -c 86372 guest.sav; printf '\4\0\0\0\3\5timer\0\0\0\0\0\0\0\2') > device.sav", ([], 0)),
+    # a background snapshot has no END
+    ("(head -c 86372 guest.sav; tail -c 1011 guest.sav) > snapshot.sav", ([], 0)),
+    ("zimgasol verify snapshot.sav", (
+        ["snapshot.sav: complete: sections 2, blocks 1, memory 131072 bytes, RAM ends at byte 86372, devices: whole, 1011 bytes"], 0)),
+    ("head -c 86372 snapshot.sav > device.sav", ([], 0)),
     ("zimgasol verify device.sav", (
-        ["zimgasol: device.sav: byte 86372 (after section 2): fault 13: unexpected section type; "
-         'the section of "timer": RAM has no END before it, as with `background-snapshot`: save without that'], 1)),
+        ["zimgasol: device.sav: byte 86372 (after section 2): fault 34: the stream ends early; "
+         "the file was cut, or the save didn't come to its end"], 1)),
     (r"(head -c 67 guest.sav; printf '\4\0\0\0\3\5ti') > device.sav", ([], 0)),
     ("zimgasol verify device.sav", (
         [f"zimgasol: device.sav: byte 67 (after section 1): fault 13: unexpected section type; {NOT_READ}"], 1)),

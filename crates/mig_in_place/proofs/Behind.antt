@@ -10,13 +10,17 @@ use Rattle.mig_mem.specs.Image.{Image}
 use Rattle.mig_stream.specs.declared.item.StreamState.{StreamState}
 use Rattle.mig_stream.specs.declared.item.StreamState.TheVariants as stream_state
 use Rattle.mig_stream.specs.Progress.{StreamProgress, start}
+use Rattle.mig_stream.specs.Items.{is_single}
 use Rattle.mig_stream.specs.Reading.{Settings, StreamReading, Reads, IsReading, state_at}
 use Rattle.mig_stream.specs.Reader.{HasState, IsClosedAt, HasClosedAt}
 use Rattle.mig_stream.proofs.Feeding.{reads_short}
 use Rattle.mig_stream.proofs.Later.{Reads-more}
 use Rattle.mig_stream.proofs.Unique.{one_reading}
-use Rattle.mig_load_types.specs.Settings.{for_table, main_of}
+use Rattle.mig_stream.proofs.Closing.{closed_is_first}
+use Rattle.mig_load_types.specs.Settings.{for_table, main_of, mode_of}
 use Rattle.mig_load_types.specs.declared.settings.LoadSettings.{LoadSettings}
+use Rattle.mig_load_types.specs.declared.settings.RoundEnd.{RoundEnd}
+use Rattle.mig_load_types.specs.declared.settings.RoundEnd.TheVariants.{Flush as by_flush, Eos as by_eos, AsShown as as_shown}
 use Rattle.mig_answer.specs.declared.status.Status.TheVariants.{Whole, Pending}
 use Rattle.mig_answer.specs.Status.{status_at, stream_end}
 use Rattle.mig_answer.specs.Texts.{Texts, Readings}
@@ -124,13 +128,20 @@ with_bytes_taken given text full n ends = record {
 abbrev from : Settings → StreamProgress
 from given = start given.frame given.mode given.page_size given.limit given.waiting
 
--- a stream that isn't closed before some bytes is closed behind the first of them, if it is
-closed_later : (given : Settings) (before more : List ℕ) (n : ℕ) → HasClosedAt given before None → IsClosedAt given (before ++ more) n → length before < n
-closed_later given before more n unclosed c = elim (cases_lt (length before) n) [
+-- a main stream isn't a single one
+pub main_is_not_single : (r : RoundEnd) → is_single (mode_of r) ≡ false
+main_is_not_single by_flush = refl
+main_is_not_single by_eos = refl
+main_is_not_single as_shown = refl
+
+-- a main stream that isn't closed before some bytes is closed behind the first of them, if it is
+closed_later : (given : Settings) (before more : List ℕ) (n : ℕ) → is_single given.mode ≡ false → HasClosedAt given before None
+    → IsClosedAt given (before ++ more) n → length before < n
+closed_later given before more n main unclosed c = elim (cases_lt (length before) n) [
   | inl lt ↦ lt
   | inr le ↦ absurd (
       let s : HasState given (take n before) false stream_state.Closed =
-      subst (λ (l : List ℕ). HasState given l false stream_state.Closed) (take-append-le n before more le) c.is_closed in
+      subst (λ (l : List ℕ). HasState given l false stream_state.Closed) (take-append-le n before more le) by_first in
       let is : IsReading given (take n before) s.0 = s.1 in
       let there : Reads (from given) (take n before) is.to is.rest stream_state.Closed =
       subst (λ (x : StreamState). Reads (from given) (take n before) is.to is.rest x) (sym s.2) is.reads in
@@ -142,6 +153,12 @@ closed_later given before more n unclosed c = elim (cases_lt (length before) n) 
       unclosed.2 same.2
       )
 ]
+  where
+    by_first : HasState given (take n (before ++ more)) false stream_state.Closed
+    by_first = elim ((closed_is_first given (before ++ more) n c).is_closed) [
+      | inl closed ↦ closed
+      | inr snapshot ↦ absurd (let clash : true ≡ false = sym (ap is_single snapshot.1) ∙ main in cc)
+    ]
 
 -- the bytes of a buffer from a place before those that wait
 rest_of : (items : List ℕ) (first a b : ℕ) → first ≤ a → a ≤ b → take (b - first) (drop first items) ≡ drop first (take a items) ++ take (b - a) (drop a items)
@@ -159,9 +176,9 @@ rest_of items first a b le within =
 -- wait. Its stream of so many bytes is closed by the first n of them.
 module _ (given : Settings) (text items : List ℕ) (main : KeptSource)
     (a b n : ℕ) (le : a ≤ b) (within : b ≤ length items) (taken : main.taken ≡ take a items) (waits : main.waiting ≡ take (b - a) (drop a items))
-    (ends : EndsWithTaken given text main) (closed : IsClosedAt given text n) where
+    (several : is_single given.mode ≡ false) (ends : EndsWithTaken given text main) (closed : IsClosedAt given text n) where
   pub behind_before : length ends.before < n
-  behind_before = closed_later given ends.before main.taken n ends.was_open (subst (λ (l : List ℕ). IsClosedAt given l n) ends.has_text closed)
+  behind_before = closed_later given ends.before main.taken n several ends.was_open (subst (λ (l : List ℕ). IsClosedAt given l n) ends.has_text closed)
 
   pub as_long : length text ≡ length ends.before + a
   as_long =

@@ -18,8 +18,8 @@ use Rattle.mig_stream.specs.declared.item.StreamState.TheVariants as stream_stat
 use Rattle.mig_stream.specs.PageRecord.{PageRecord}
 use Rattle.mig_stream.specs.Progress.{StreamProgress}
 use Rattle.mig_stream.specs.Reading.{StreamReading, Ends}
-use Rattle.mig_stream.specs.Items.{is_single}
 use Rattle.mig_stream.proofs.ClosedMain.{closed_has_none}
+use Rattle.mig_stream.proofs.Plain.{main_due}
 use Rattle.mig_stream.proofs.Unique.{one_reading as one_stream}
 use Rattle.mig_packet.specs.PageSize.{head_len}
 use Rattle.mig_packet.specs.declared.state.ChannelState.{ChannelState}
@@ -31,8 +31,6 @@ use Rattle.mig_packet.proofs.Exists.{one_reading_law as channel_law}
 use Rattle.mig_assemble.proofs.Elements.{contains_cases}
 use Rattle.mig_load_types.specs.Settings.{for_table, main_of, channel_of, mode_of}
 use Rattle.mig_load_types.specs.declared.settings.LoadSettings.{LoadSettings}
-use Rattle.mig_load_types.specs.declared.settings.RoundEnd.{RoundEnd}
-use Rattle.mig_load_types.specs.declared.settings.RoundEnd.TheVariants.{Flush as by_flush, Eos as by_eos, AsShown as as_shown}
 use Rattle.mig_load_types.specs.declared.fault.Origin.TheVariants as origin
 use Rattle.mig_answer.specs.Status.{stream_end, channel_end, channel_status, is_clean}
 use Rattle.mig_answer.specs.Texts.{Text, IsMainReading}
@@ -43,12 +41,7 @@ use Rattle.mig_answer.proofs.Never.{done_is_clean}
 use Rattle.mig_in_place.specs.Named.{MainNames, ChannelNames, SomeChannelNames, IsNamed, round_so_far, begun, packet_places}
 use Rattle.mig_in_place.specs.Law.{InPlaceDoneIsExact}
 use Rattle.mig_in_place.proofs.Done.{own_or_other}
-
--- a main stream is none that is single, whatever ends its rounds
-main_is_not_single : (r : RoundEnd) → is_single (mode_of r) ≡ false
-main_is_not_single by_flush = refl
-main_is_not_single by_eos = refl
-main_is_not_single as_shown = refl
+use Rattle.mig_in_place.proofs.Behind.{main_is_not_single}
 
 -- ---- names nothing
 
@@ -66,7 +59,8 @@ main_names_none given k text reading p is e clean names =
     stream_closed text.ended is.found.state (sym (ap (λ (r : StreamReading). is_clean (stream_end r.state)) is.has_end) ∙ clean) in
     let ends : Ends mine.to mine.rest stream_state.Closed = subst (λ (s : StreamState). Ends mine.to mine.rest s) closed mine.reads.ends in
     let none : mine.to.records ≡ [] = closed_has_none given.frame
-    (mode_of given.round_end) given.page_size given.limit given.waiting mine.reads.front mine.to (main_is_not_single given.round_end) mine.reads.leads ends in
+    (mode_of given.round_end) given.page_size given.limit given.waiting mine.reads.front mine.to (main_is_not_single given.round_end) mine.reads.leads
+    (main_due (main_of given) mine.reads.front mine.to mine.rest (main_is_not_single given.round_end) mine.reads.leads ends) in
     let rounds : length names.reading.rounds ≡ k =
     ap (λ (l : List (List PageRecord)). length l)
     (its.has_rounds ∙ ap (λ (c : StreamProgress). c.rounds) same.0 ∙ sym mine.has_rounds ∙ sym (ap (λ (r : StreamReading). r.rounds) is.has_end)) ∙ sym e in

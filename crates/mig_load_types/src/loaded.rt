@@ -22,8 +22,9 @@ pub struct Loaded<A: Allocator = Global> {
     /// channels, or a stream of changes alone. The verdict is Ok then. A whole guest lacks none.
     pub missing: Option<u64>,
     /// How many bytes the single stream, or the main stream, has: those up to its end byte, or in a
-    /// machine's stream up to the footer of RAM's END. The bytes after them are left to the caller.
-    /// None if the stream isn't closed, or if an allocation was refused.
+    /// machine's stream up to the footer of RAM's END, or up to the first device's section of a
+    /// background snapshot. The bytes after them are left to the caller. None if the stream isn't
+    /// closed, or if an allocation was refused.
     pub closed_at: Option<u64>,
     /// How many bytes of the single stream, or of the main stream, are complete items without a
     /// fault, from the first byte on. If the verdict is a fault of the stream, the item at fault

@@ -206,8 +206,8 @@ impl<A: Allocator> SectionsLoad<A> {
     }
 
     /// Returns how many of the bytes fed the stream has, once it is closed: those up to its end
-    /// byte, or in a machine's stream up to the footer of RAM's END. The bytes fed after them are
-    /// left to the caller.
+    /// byte, or in a machine's stream up to the footer of RAM's END, or up to the first device's
+    /// section of a background snapshot. The bytes fed after them are left to the caller.
     ///
     /// None for a stream of another table, which isn't read to its end.
     pub fn closed_at(&self) -> Option<u64>

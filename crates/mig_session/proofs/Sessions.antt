@@ -5,7 +5,7 @@ use Rattle.std.specs.Prelude.{◌↔◌, IsTrue, IsFalse, slice_get, Result, Ok,
 use Rattle.std.specs.List.{AllZip, All, enumerate_from, list_all}
 use Rattle.std.specs.Option.{option_map, option_and_then}
 use Rattle.std.proofs.lemmas.Bool.{and_parts}
-use Rattle.std.proofs.lemmas.List.{length-append, length-map, length-replicate, take-append-le}
+use Rattle.std.proofs.lemmas.List.{length-append, length-map, length-replicate}
 use Rattle.std.proofs.lemmas.List.Elements.{All-nil, All-cons, All-head, All-tail}
 use Rattle.mig_mem.specs.PageSize.{IsPageSize}
 use Rattle.mig_stream.specs.declared.item.StreamState.TheVariants.{Reading, Closed}
@@ -14,6 +14,7 @@ use Rattle.mig_stream.specs.Reading.{Settings as StreamSettings, StreamReading, 
 use Rattle.mig_stream.specs.Reader as stream
 use Rattle.mig_stream.specs.Reader.{HasTable}
 use Rattle.mig_stream.proofs.Feeding.{reads_short}
+use Rattle.mig_stream.proofs.Closing.{closed_more}
 use Rattle.mig_packet.specs.Reader as channel
 use Rattle.mig_packet.specs.declared.state.ChannelState.{ChannelState}
 use Rattle.mig_packet.specs.declared.state.ChannelState.TheVariants as channel_state
@@ -602,14 +603,6 @@ fault_read given uuid texts s p (source.Channel j) stands some there =
     (one.0, one.1, ap (option_and_then (λ (n : Noted). n.fault)) here.1 ∙ is)
 
 -- a stream that is closed is so if other bytes follow
-closed_more : (given : StreamSettings) (text more : List ℕ) (n : ℕ) → stream.IsClosedAt given text n → stream.IsClosedAt given (text ++ more) n
-closed_more given text more n c = record {
-  fits = omega (arith, c.fits, length-append text more);
-  is_closed = subst (λ (l : List ℕ). stream.HasState given l false Closed) (sym (take-append-le n text more c.fits)) c.is_closed;
-  is_first = λ m lt s. c.is_first m lt (subst (λ (l : List ℕ). stream.HasState given l false Closed)
-      (take-append-le m text more (omega (arith, lt, c.fits))) s);
-}
-
 closed_on : (given : StreamSettings) (a b : Text) (o : Option ℕ) → GoesOn a b → stream.HasClosedAt given a.bytes o → IfSome o (stream.IsClosedAt given b.bytes)
 closed_on given a b None go has = tt
 closed_on given a b (Some n) go has = subst (λ (l : List ℕ). stream.IsClosedAt given l n) (sym go.has_bytes) (closed_more given a.bytes go.more n has)

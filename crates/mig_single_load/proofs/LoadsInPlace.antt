@@ -19,7 +19,6 @@ use Rattle.mig_mem.proofs.Rounds.{onto-nil, last_at-nil, last_at-cons}
 use Rattle.mig_stream.specs.declared.item.Mode.TheVariants.{Single}
 use Rattle.mig_stream.specs.declared.item.StreamState.{StreamState}
 use Rattle.mig_stream.specs.declared.item.StreamState.TheVariants.{Reading, Closed, Bad}
-use Rattle.mig_stream.specs.declared.item.Due.TheVariants.{Nothing}
 use Rattle.mig_stream.specs.declared.record_reader.RecordEvent.{RecordEvent}
 use Rattle.mig_stream.specs.declared.record_reader.RecordEvent.TheVariants.{Records, Section, End}
 use Rattle.mig_stream.specs.PageRecord.{PageRecord, page_of}
@@ -1189,11 +1188,11 @@ closed_by_sections given first text memory sections table image has v =
           let before : List Page = all_pages (map (pages_on first) has.reading.rounds) in
           let told : Ok _ ≡ verdict_of (length v.reading.rounds) v.reading.state = v.own (subst (λ (x : StreamReading). IsOfOwnTable first x) (sym same) own) in
           let closed : has.reading.state ≡ Closed = ap (λ (x : StreamReading). x.state) (sym same) ∙ ok_closed (length v.reading.rounds) v.reading.state told in
-          let due : has.is_reading.to.due ≡ Nothing =
+          let ends : Ends has.is_reading.to has.is_reading.rest Closed =
           subst (λ (s : StreamState). Ends has.is_reading.to has.is_reading.rest s) closed has.is_reading.reads.ends in
           let none : has.is_reading.to.records ≡ [] =
           closed_is_empty given.frame Single first.table.page_size given.limit given.waiting has.is_reading.reads.front
-          has.is_reading.to refl has.is_reading.reads.leads due in (
+          has.is_reading.to has.is_reading.rest refl has.is_reading.reads.leads ends in (
             (has.own own).0
                 ∙ ap (λ (l : List PageRecord). with_round (with_round first before) (pages_on first l)) none
                 ∙ put_after first before []

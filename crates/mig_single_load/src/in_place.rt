@@ -151,8 +151,8 @@ impl<A: Allocator, M: GuestTarget> InPlaceLoader<A, M> {
     }
 
     /// Returns how many of the bytes fed the stream has, once it is closed: those up to its end
-    /// byte, or in a machine's stream up to the footer of RAM's END. The bytes fed after them are
-    /// left to the caller.
+    /// byte, or in a machine's stream up to the footer of RAM's END, or up to the first device's
+    /// section of a background snapshot. The bytes fed after them are left to the caller.
     ///
     /// None for a stream of another table, which isn't read to its end, and after a refused
     /// allocation.

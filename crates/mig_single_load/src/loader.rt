@@ -181,8 +181,8 @@ impl<A: Allocator> SingleLoader<A> {
     }
 
     /// Returns how many of the bytes fed the stream has, once it is closed: those up to its end
-    /// byte, or in a machine's stream up to the footer of RAM's END. The bytes fed after them are
-    /// left to the caller.
+    /// byte, or in a machine's stream up to the footer of RAM's END, or up to the first device's
+    /// section of a background snapshot. The bytes fed after them are left to the caller.
     pub fn closed_at(&self) -> Option<u64>
         ensures { (given : LoadSettings) (text : List ℕ) (ended : Bool) → Loads given self.now text ended → HasClosedAt (single_of given) text result }
     {

@@ -1,6 +1,6 @@
 -- Between two sections of a single stream no record waits: the footer ended the round of those
 -- before it.
-use Rattle.std.proofs.Common.{◌≡◌, ℕ, ◌-◌, Bool, true, false, ◌==◌, eqb, List, [], ◌∷◌, Option, Some, None, refl, sym, ap, subst, ◌∙◌}
+use Rattle.std.proofs.Common.{◌≡◌, ℕ, ◌-◌, Bool, true, false, ◌==◌, eqb, List, [], ◌∷◌, Option, Some, None, refl, sym, ap, subst, ◌∙◌, inl, inr}
 use Rattle.std.specs.Prelude.{slice_index, ⊤}
 use Rattle.std.specs.Option.{unwrap_or}
 use Rattle.std.proofs.lemmas.Bool.{cond_both}
@@ -24,7 +24,9 @@ use Rattle.mig_stream.specs.Progress.{StreamProgress, start}
 use Rattle.mig_stream.specs.Items.{length_in, is_page_size, is_passed, passed_by, entry_due, behind_passed, end_section, after_type, after_type_byte}
 use Rattle.mig_stream.specs.Items.{after_head, open_records, after_item, after}
 use Rattle.mig_stream.specs.Later.{is_open}
-use Rattle.mig_stream.specs.Reading.{AreFaultless, after_all, Front}
+use Rattle.mig_stream.specs.declared.item.StreamState.TheVariants.{Closed}
+use Rattle.mig_stream.specs.Reading.{AreFaultless, after_all, Front, Ends}
+use Rattle.mig_stream.proofs.Stopping.{over_is}
 use Rattle.mig_stream.proofs.Feeding.{front_item}
 use Rattle.mig_stream.proofs.Steps.{IsLater-front}
 
@@ -125,9 +127,14 @@ all_empty c (item ∷ items) single e free =
     let there = (IsLater-front c (after c item) item (front_item c item free.0 free.1)).same_mode (ap is_open single) ∙ single in
     all_empty (after c item) items there (item_empty c c.due item single e e) free.2
 
--- After the end byte no record waits.
-pub closed_is_empty : (frame : Frame) (m : Mode) (p limit : ℕ) (waiting : Option ℕ) (bytes : List ℕ) (to : StreamProgress)
-    → m ≡ Single → Front (start frame m p limit waiting) bytes to → to.due ≡ Nothing → to.records ≡ []
-closed_is_empty frame m p limit waiting bytes to single f closed =
-    let last : StaysEmpty to = subst StaysEmpty (sym f.leads_to) (all_empty (start frame m p limit waiting) f.items single refl f.are_faultless) in
-    subst (λ (d : Due). IsEmpty d to.records) closed last
+-- Where a stream is closed no record waits.
+pub closed_is_empty : (frame : Frame) (m : Mode) (p limit : ℕ) (waiting : Option ℕ) (bytes : List ℕ) (to : StreamProgress) (rest : List ℕ)
+    → m ≡ Single → Front (start frame m p limit waiting) bytes to → Ends to rest Closed → to.records ≡ []
+closed_is_empty frame m p limit waiting bytes to rest single f closed = by closed
+  where
+    last : StaysEmpty to
+    last = subst StaysEmpty (sym f.leads_to) (all_empty (start frame m p limit waiting) f.items single refl f.are_faultless)
+
+    by : Ends to rest Closed → to.records ≡ []
+    by (inl due) = subst (λ (d : Due). IsEmpty d to.records) due last
+    by (inr over) = subst (λ (d : Due). IsEmpty d to.records) (over_is to over.0 over.4).is_type last

@@ -1,5 +1,5 @@
 -- Bytes are read to an end byte exactly if a front of them is a stream.
-use Rattle.std.proofs.Common.{◌≡◌, ℕ, ◌≤◌, ◌^◌, ◌<◌, List, Some, refl, sym, subst}
+use Rattle.std.proofs.Common.{◌≡◌, ℕ, ◌≤◌, ◌^◌, ◌<◌, List, Some, refl, sym, subst, inl, inr}
 use Rattle.std.specs.Prelude.{All}
 use Rattle.mig_mem.specs.PageSize.{IsPageSize}
 use Rattle.mig_mem.specs.RamTable.{RamTable}
@@ -7,10 +7,11 @@ use Rattle.mig_stream.specs.declared.item.Frame.TheVariants.{Machine}
 use Rattle.mig_stream.specs.declared.item.Mode.{Mode}
 use Rattle.mig_stream.specs.PageRecord.{PageRecord}
 use Rattle.mig_stream.specs.Reading.{settings, in_frame, IsReading}
-use Rattle.mig_stream.specs.Law.{closed, HasText, SpelledIsRead, ReadIsSpelled, ClosedIsText, HasMachineText, MachineClosedIsText}
+use Rattle.mig_stream.specs.Law.{closed, HasText, SpelledIsRead, ReadIsSpelled, ClosedIsText, HasMachineRam, MachineClosedIsText}
 use Rattle.mig_stream.proofs.SpelledText.{spelled_law}
 use Rattle.mig_stream.proofs.Found.{read_law, machine_read_law}
 use Rattle.mig_stream.proofs.SpelledMachine.{machine_is_read}
+use Rattle.mig_stream.proofs.SpelledSnapshot.{snapshot_is_read}
 
 -- what is read closed, of this table and these rounds, begins with a stream of them
 text_of_closed : ReadIsSpelled → (mode : Mode) (limit : ℕ) (bytes : List ℕ) (table : RamTable) (rounds : List (List PageRecord))
@@ -38,17 +39,20 @@ closed_from_laws spelled read mode limit bytes table rounds size small all =
 pub closed_law : ClosedIsText
 closed_law = closed_from_laws spelled_law read_law
 
--- Bytes are read closed as a machine's stream exactly if they begin with one.
+-- Bytes are read closed as a machine's stream exactly if they begin with one, or with a background
+-- snapshot.
 pub machine_closed_law : MachineClosedIsText
 machine_closed_law mode limit bytes table rounds size small all = (to_text, of_text)
   where
-    to_text : IsReading (in_frame Machine (settings mode table.page_size limit)) bytes (closed table rounds) → HasMachineText mode limit bytes table rounds
+    to_text : IsReading (in_frame Machine (settings mode table.page_size limit)) bytes (closed table rounds) → HasMachineRam mode limit bytes table rounds
     to_text is =
         let found = machine_read_law (in_frame Machine (settings mode table.page_size limit)) bytes (closed table rounds) refl size small all is refl in
         let told : Some table ≡ Some found.0 = found.2 in
         let same : found.0 ≡ table = cc in
-        subst (λ (x : RamTable). HasMachineText mode limit bytes x rounds) same found.3
+        subst (λ (x : RamTable). HasMachineRam mode limit bytes x rounds) same found.3
 
-    of_text : HasMachineText mode limit bytes table rounds → IsReading (in_frame Machine (settings mode table.page_size limit)) bytes (closed table rounds)
-    of_text is = subst (λ (x : List ℕ). IsReading (in_frame Machine (settings mode table.page_size limit)) x
+    of_text : HasMachineRam mode limit bytes table rounds → IsReading (in_frame Machine (settings mode table.page_size limit)) bytes (closed table rounds)
+    of_text (inl is) = subst (λ (x : List ℕ). IsReading (in_frame Machine (settings mode table.page_size limit)) x
         (closed table rounds)) (sym is.2) (machine_is_read mode limit is.0 is.1 table rounds is.3)
+    of_text (inr is) = subst (λ (x : List ℕ). IsReading (in_frame Machine (settings mode table.page_size limit)) x
+        (closed table rounds)) (sym is.2) (snapshot_is_read mode limit is.0 is.1 table rounds is.3)

@@ -1,12 +1,14 @@
 -- Worked examples of the definitions: what a writer spells, and how items are judged.
-use Rattle.std.proofs.Common.{◌≡◌, flat_map, ℕ, ◌^◌, false, true, List, [], ◌∷◌, ◌++◌, replicate, Some, None, refl}
+use Rattle.std.proofs.Common.{◌≡◌, flat_map, ℕ, ◌^◌, false, true, List, [], ◌∷◌, ◌++◌, replicate, Some, None, refl, inl, inr}
 use Rattle.mig_mem.specs.Image.{Page}
 use Rattle.mig_mem.specs.RamTable.{RamTable, is_id}
 use Rattle.mig_stream.specs.declared.fault.StreamFault.TheVariants as fault
 use Rattle.mig_stream.specs.declared.item.Frame.TheVariants.{Ram, Machine}
 use Rattle.mig_stream.specs.declared.item.Mode.{Mode}
 use Rattle.mig_stream.specs.declared.item.Mode.TheVariants.{Single, Main}
+use Rattle.mig_stream.specs.declared.item.Section.{Section}
 use Rattle.mig_stream.specs.declared.item.Section.TheVariants as section
+use Rattle.mig_stream.specs.declared.item.StreamState.TheVariants.{Closed, Bad}
 use Rattle.mig_stream.specs.declared.item.Before.TheVariants as before
 use Rattle.mig_stream.specs.declared.item.Filling.TheVariants.{Zero}
 use Rattle.mig_stream.specs.declared.item.Subsection.TheVariants as kinds
@@ -17,7 +19,7 @@ use Rattle.mig_stream.specs.Fields.{be32, be64, counted, be32_at, be64_at}
 use Rattle.mig_stream.specs.Format.{subsection_name, ignore_shared, mapped_ram}
 use Rattle.mig_stream.specs.Progress.{StreamProgress, start}
 use Rattle.mig_stream.specs.Items.{first_fault}
-use Rattle.mig_stream.specs.Reading.{settings, in_frame, after_all, Front}
+use Rattle.mig_stream.specs.Reading.{settings, in_frame, after_all, Front, Ends, stopped}
 use Rattle.mig_stream.specs.Text.{file_header, size_list, start_head, body, footer, section as spelled_section}
 use Rattle.mig_stream.specs.Machine.{Command, command_bytes, command, Uuid, Capabilities, form_of, tailed_list, configured, subsection_head, subsection}
 use Rattle.mig_stream.specs.Machine.{CommandOf, part_or_command}
@@ -234,7 +236,28 @@ device = 0x04 ∷ 0 ∷ 0 ∷ 0 ∷ 2 ∷ 5 ∷ 0x74 ∷ 0x69 ∷ 0x6D ∷ 0x65 
 
 device_left : IsClosedAt (in_frame Machine (settings Single 4096 (2 ^ 40))) (empty_machine ++ device) 79
 device_left = closed_by (in_frame Machine (settings Single 4096 (2 ^ 40))) (empty_machine ++ device) _ device 79
-    (record { front = empty_machine; has_text = refl; leads = empty_front; ends = refl }) refl
+    (record { front = empty_machine; has_text = refl; leads = empty_front; ends = inl refl }) refl
+
+-- ---- a background snapshot
+
+-- its last PART was read, or only START
+abbrev behind : Mode → Section → StreamProgress
+behind mode kind = record (machine mode) { due = TypeByte before.Footer; section = kind; section_id = 1; left = Some 0; blocks = (table 4096 1).blocks }
+
+-- RAM is over before the type byte of a device's section, which is left.
+device_begins : Ends (behind Single section.Part) device Closed
+device_begins = inr (0x04 ∷ [], 0 ∷ 0 ∷ 0 ∷ 2 ∷ 5 ∷ 0x74 ∷ 0x69 ∷ 0x6D ∷ 0x65 ∷ 0x72 ∷ 0 ∷ [], refl, record { is_due = λ e. absurd cc; is_whole = refl }, refl)
+
+-- In a stream without a PART a device's section is refused there, and so it is in a main stream.
+device_too_early : stopped (behind Single section.Start) (0x04 ∷ []) fault.SectionType ≡ Bad fault.SectionType
+device_too_early = refl
+
+device_in_main : stopped (behind Main section.Part) (0x04 ∷ []) fault.SectionType ≡ Bad fault.SectionType
+device_in_main = refl
+
+-- A COMMAND that is passed over may stand between.
+command_between : after_all (behind Single section.Part) ((0x08 ∷ []) ∷ (0 ∷ 0x0B ∷ 0 ∷ 0 ∷ []) ∷ []) ≡ behind Single section.Part
+command_between = refl
 
 -- Without the frame the COMMAND is refused.
 command_refused : first_fault (record (in_part Single 4096) { due = TypeByte before.Footer }) (0x08 ∷ []) ≡ Some fault.SectionType

@@ -17,13 +17,14 @@ use Rattle.mig_stream.specs.declared.item.Due.{Due}
 use Rattle.mig_stream.specs.declared.item.Due.TheVariants.{FileHeader, TypeByte, ConfigLength, ConfigName, StartHead, SectionHead, RecordHead, ListEntry}
 use Rattle.mig_stream.specs.declared.item.Due.TheVariants.{PageSize, BlockName, Content, Footer, Passed, Nothing}
 use Rattle.mig_stream.specs.declared.item.StreamState.{StreamState}
-use Rattle.mig_stream.specs.declared.item.StreamState.TheVariants.{Reading, Closed, Bad}
+use Rattle.mig_stream.specs.declared.item.StreamState.TheVariants.{Reading, Closed}
 use Rattle.mig_stream.specs.declared.fault.StreamFault.{StreamFault}
 use Rattle.mig_stream.specs.PageRecord.{PageRecord}
 use Rattle.mig_stream.specs.Progress.{StreamProgress, start, whole_table}
 use Rattle.mig_stream.specs.Items.{passed_size, is_passed, is_page_size, behind_passed, end_section, after_type_byte, size, first_fault, after_type, after_head}
 use Rattle.mig_stream.specs.Items.{after_item, after}
-use Rattle.mig_stream.specs.Reading.{IsItem, Front, Reads, StreamReading}
+use Rattle.mig_stream.proofs.Stopping.{stops}
+use Rattle.mig_stream.specs.Reading.{IsItem, Front, Reads, stopped, StreamReading}
 use Rattle.mig_stream.specs.Law.{HasOneReading}
 use Rattle.mig_stream.proofs.Fronts.{sized, sized_some, Front-none, Front-push, work, no_item, item_at}
 use Rattle.mig_stream.proofs.Unique.{one_reading}
@@ -157,7 +158,7 @@ pub read_on : (fuel : ℕ) (from c : StreamProgress) (text front rest : List ℕ
 read_on zero from c text front rest some few e so_far = absurd (omega arith)
 read_on (suc fuel) from c text front rest some few e so_far =
     elim (is_nothing c.due) [
-      | inl none ↦ (c, rest, Closed, record { front = front; has_text = e; leads = so_far; ends = none })
+      | inl none ↦ (c, rest, Closed, record { front = front; has_text = e; leads = so_far; ends = inl none })
       | inr open_ ↦ elim (cases_lt (length rest) (size c.page_size c.due rest)) [
         | inl short ↦ (c, rest, Reading, record { front = front; has_text = e; leads = so_far; ends = (open_, no_item c.page_size c.due rest short) })
         | inr le ↦
@@ -173,7 +174,12 @@ read_on (suc fuel) from c text front rest some few e so_far =
                   let text_is : text ≡ (front ++ item) ++ more = e ∙ ap (λ (x : List ℕ). front ++ x) (sym parts) ∙ sym (append_assoc front item more) in
                   read_on fuel from (after c item) text (front ++ item) more (omega (arith, item_size c c.due item))
                   (omega arith) text_is (Front-push from c front item so_far is free)
-              | inr found ↦ (c, rest, Bad found.0, record { front = front; has_text = e; leads = so_far; ends = (item, more, sym parts, is, found.1) })
+              | inr found ↦ (
+                c,
+                rest,
+                stopped c item found.0,
+                record { front = front; has_text = e; leads = so_far; ends = stops c item more rest found.0 (sym parts) is found.1 },
+              )
             ]
       ]
     ]

@@ -1,5 +1,6 @@
 -- Reading a piece after the bytes of an item that wasn't complete.
-use Rattle.std.proofs.Common.{◌≡◌, ◌≢◌, ℕ, ◌+◌, ◌<◌, List, [], ◌++◌, length, take, drop, Option, Some, None, refl, sym, ap, subst, ◌∙◌, append_assoc, inl, inr}
+use Rattle.std.proofs.Common.{◌≡◌, ◌≢◌, ℕ, ◌+◌, ◌<◌, false, List, [], ◌++◌, length, take, drop, Option, Some, None}
+use Rattle.std.proofs.Common.{refl, sym, ap, subst, ◌∙◌, append_assoc, inl, inr}
 use Rattle.std.proofs.Common.{arith}
 use Rattle.std.specs.Prelude.{IfSome, IfNone}
 use Rattle.std.proofs.lemmas.List.{length-append, take-append-drop}
@@ -10,7 +11,7 @@ use Rattle.mig_stream.specs.declared.item.StreamState.{StreamState}
 use Rattle.mig_stream.specs.declared.item.StreamState.TheVariants.{Reading, Bad}
 use Rattle.mig_stream.specs.declared.fault.StreamFault.{StreamFault}
 use Rattle.mig_stream.specs.Progress.{StreamProgress}
-use Rattle.mig_stream.specs.Items.{size, first_fault, after}
+use Rattle.mig_stream.specs.Items.{size, first_fault, is_over, after}
 use Rattle.mig_stream.specs.Reading.{IsItem, Front, Reads}
 use Rattle.mig_stream.specs.Taking.{HasTaken}
 use Rattle.mig_stream.specs.Reader.{IsUnfinished, ReadsOn}
@@ -45,12 +46,12 @@ reads_short c bytes lt = record {
 
 -- an item with a fault ends the reading before it
 pub reads_fault : (c : StreamProgress) (item rest : List ℕ) (f : StreamFault) → IsItem c.page_size c.due item
-    → first_fault c item ≡ Some f → Reads c (item ++ rest) c (item ++ rest) (Bad f)
-reads_fault c item rest f is fault = record {
+    → first_fault c item ≡ Some f → is_over c item ≡ false → Reads c (item ++ rest) c (item ++ rest) (Bad f)
+reads_fault c item rest f is fault not_over = record {
   front = [];
   has_text = refl;
   leads = Front-none c;
-  ends = (item, rest, refl, is, fault);
+  ends = (item, rest, refl, is, fault, not_over);
 }
 
 -- one item, and what is read after it
@@ -105,11 +106,11 @@ text_at {X} o x P e h = subst (λ (y : Option X). IfSome y P) e h
 -- a piece fills an item up that has a fault: the reading ends there with it
 pub whole_fault : (c d : StreamProgress) (old piece item rest pending : List ℕ) (left : ℕ) (f : StreamFault)
     → left ≡ length item + length rest → item ++ rest ≡ old ++ piece → IsItem c.page_size c.due item → first_fault c item ≡ Some f
-    → d ≡ c → ReadsOn c (old ++ piece) d pending left (Bad f)
-whole_fault c d old piece item rest pending left f len e is fault same = record {
+    → is_over c item ≡ false → d ≡ c → ReadsOn c (old ++ piece) d pending left (Bad f)
+whole_fault c d old piece item rest pending left f len e is fault not_over same = record {
   rest = item ++ rest;
   reads = subst (λ (x : List ℕ). Reads c x d (item ++ rest) (Bad f)) e
-      (subst (λ (x : StreamProgress). Reads c (item ++ rest) x (item ++ rest) (Bad f)) (sym same) (reads_fault c item rest f is fault));
+      (subst (λ (x : StreamProgress). Reads c (item ++ rest) x (item ++ rest) (Bad f)) (sym same) (reads_fault c item rest f is fault not_over));
   has_left = length-append item rest ∙ sym len;
   has_rest = λ reading. absurd cc;
 }

@@ -25,13 +25,17 @@ use Rattle.mig_stream.specs.Progress.{StreamProgress}
 use Rattle.mig_stream.specs.Items.{size, is_page_size, record_kind, is_single, has_tail, is_allowed, is_passed, closes, passed_by, after_type_byte, kind_faults}
 use Rattle.mig_stream.specs.Items.{head_faults, record_faults, faults, first_fault, after_type, after_head, after_record, after_entry, end_round, open_room}
 use Rattle.mig_stream.specs.Items.{open_records, whole_rounds, end_section, after_footer, after_item, after, eos_room, eos_records, eos_rounds, end_records}
-use Rattle.mig_stream.specs.Items.{is_start, has_none, flush_ends, flush_rounds, flush_records}
+use Rattle.mig_stream.specs.Items.{is_start, has_none, flush_ends, flush_rounds, flush_records, is_machine, ends_before}
 use Rattle.mig_stream.specs.Later.{is_open}
 use Rattle.mig_stream.specs.Reading.{IsItem, AreFaultless, after_all, Front, Ends, Reads}
 use Rattle.mig_stream.specs.Flushed.{is_eos_kind, is_eos, flush_before, flushed, one_if, eos_count, from, SectionsAreFlushed}
 use Rattle.mig_stream.proofs.Fronts.{Front-none, Front-append}
 use Rattle.mig_stream.proofs.Feeding.{front_item}
 use Rattle.mig_stream.proofs.Later.{choice}
+use Rattle.mig_stream.specs.declared.item.Frame.{Frame}
+use Rattle.mig_stream.specs.declared.item.Section.{Section}
+use Rattle.std.proofs.lemmas.Bool.{false_from_ne_true}
+use Rattle.mig_stream.proofs.Stopping.{over_at, closed_due}
 use Rattle.mig_stream.proofs.SpelledItems.{bare_front}
 use Rattle.mig_stream.proofs.Steps.{IsLater-front, passed, not_size}
 use Rattle.mig_stream.proofs.NoPageSize.{unsized_record}
@@ -287,10 +291,30 @@ flushed_length c (item ∷ items) =
       length-append item (concat items),
     )
 
+-- a main stream is no background snapshot
+no_snapshot : (c : StreamProgress) → c.mode ≡ MainBySection → (is_machine c.frame && is_single c.mode) ≡ false
+no_snapshot c e = ap (λ (m : Mode). is_machine c.frame && is_single m) e ∙ by (is_machine c.frame)
+  where
+    by : (b : Bool) → (b && false) ≡ false
+    by true = refl
+    by false = refl
+
 ends_same : (c : StreamProgress) (rest : List ℕ) (s : StreamState) → c.mode ≡ MainBySection → Ends c rest s → Ends (to_flush c) rest s
 ends_same c rest Reading e h = h
-ends_same c rest Closed e h = h
-ends_same c rest (Bad f) e h = (h.0, h.1, h.2, record { is_due = h.3.is_due; is_whole = h.3.is_whole }, ap first_of (faults_same c c.due h.0 e) ∙ h.4)
+ends_same c rest Closed e h = inl (closed_due c rest (no_snapshot c e) h)
+ends_same c rest (Bad f) e h = (
+  h.0,
+  h.1,
+  h.2,
+  record { is_due = h.3.is_due; is_whole = h.3.is_whole },
+  ap first_of (faults_same c c.due h.0 e) ∙ h.4,
+  not_over c.frame c.section c.due h.0,
+)
+  where
+    not_over : (frame : Frame) (kind : Section) (d : Due) (item : List ℕ) → ends_before frame Main kind d item ≡ false
+    not_over frame kind d item = false_from_ne_true _ (λ over.
+        let at = over_at frame Main kind d item over in
+        let clash : false ≡ true = at.in_single in absurd cc)
 
 -- the law: a stream whose EOS ends a round reads as the one with a FLUSH before each EOS
 pub sections_are_flushed : SectionsAreFlushed

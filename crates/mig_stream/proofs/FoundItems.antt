@@ -1,5 +1,6 @@
 -- An item without a fault, of any kind, goes in front of what is left after it.
-use Rattle.std.proofs.Common.{◌≡◌, ◌≢◌, inl, inr, ℕ, zero, suc, ◌+◌, ◌-◌, ◌^◌, ◌<◌, ◌/◌, ◌%◌, Bool, true, false, not, cond, eqb, List, [], ◌∷◌, ◌++◌, length}
+use Rattle.std.proofs.Common.{◌≡◌, ◌≢◌, ◌⊎◌, inl, inr, ℕ, zero, suc, ◌+◌, ◌-◌, ◌^◌, ◌<◌, ◌/◌, ◌%◌, Bool, true}
+use Rattle.std.proofs.Common.{false, not, cond, eqb, List, [], ◌∷◌, ◌++◌, length}
 use Rattle.std.proofs.Common.{get_or, Option, Some, None, refl, sym, ap, subst, ◌∙◌, append_assoc, arith}
 use Rattle.std.specs.Prelude.{is_none, ◌==◌, ◌&&◌}
 use Rattle.std.specs.Option.{unwrap_or}
@@ -28,7 +29,7 @@ use Rattle.mig_stream.specs.declared.fault.StreamFault.TheVariants as fault
 use Rattle.mig_stream.specs.Fields.{be32, counted, be32_at, be64_at}
 use Rattle.mig_stream.specs.Progress.{StreamProgress, whole_table}
 use Rattle.mig_mem.specs.First.{first_of}
-use Rattle.mig_stream.specs.Items.{is_page_size, is_machine, closes, has_tail, body_of, list_due, entry_due, behind_passed, passed_form, passed_size}
+use Rattle.mig_stream.specs.Items.{is_page_size, is_machine, is_single, closes, has_tail, body_of, list_due, entry_due, behind_passed, passed_form, passed_size}
 use Rattle.mig_stream.specs.Items.{passed_faults, open_records, after_footer, id_in, record_kind, has_page, record_faults, entry_faults, faults, end_section}
 use Rattle.mig_stream.specs.Items.{after_record, after_entry, after_item, after}
 use Rattle.mig_stream.specs.Reading.{IsItem, AreFaultless, after_all}
@@ -177,7 +178,13 @@ id_back Behind c f page item bytes (Some b) len is in_range r = name_back Behind
 -- after the footer of END stands the ending
 ending_behind : (to c : StreamProgress) (bytes : List ℕ) (machine : Bool) → is_machine c.frame ≡ machine
     → (machine ≡ true → HasNoTail c.mode c.records) → RestAt to c (cond machine Nothing (TypeByte before.LastFooter)) bytes → RestOfEnd to c bytes
-ending_behind to c bytes true is whole r = record { has_bytes = r.0 ∙ sym (ap ending is); no_tail = whole refl; has_rounds = r.1; has_table = r.2 }
+ending_behind to c bytes true is whole r = record {
+  has_bytes = r.0 ∙ sym (ap ending is);
+  is_closed = r.3;
+  no_tail = whole refl;
+  has_rounds = r.1;
+  has_table = r.2;
+}
 ending_behind to c bytes false is whole r = r is
 
 -- after a footer
@@ -348,12 +355,35 @@ item_back to c Footer item bytes due is all free r =
 item_back to c (Passed passed) item bytes due is all free r = passed_back to c passed item bytes is.is_whole all free r
 item_back to c Nothing item bytes due is all free r = absurd (is.is_due refl)
 
--- Items without a fault that lead to the end byte are what is left before them.
-pub items_back : (to c : StreamProgress) (items : List (List ℕ)) → AreFaultless c items → IsBytes (concat items)
-    → to ≡ after_all c items → to.due ≡ Nothing → RestFrom to c (concat items)
-items_back to c [] free all leads due =
+-- where a reading may stop: at no item, or in a single stream where a section may begin
+abbrev pub MayStop : StreamProgress → Type 0
+MayStop to = (to.due ≡ Nothing) ⊎ ((to.due ≡ TypeByte before.Footer) × (is_single to.mode ≡ true))
+
+-- no bytes are left there
+none_back : (to c : StreamProgress) → to ≡ c → MayStop to → RestFrom to c []
+none_back to c leads (inl due) =
     let end : c.due ≡ Nothing = ap (λ (x : StreamProgress). x.due) (sym leads) ∙ due in
-    subst (λ (d : Due). RestAt to c d []) (sym end) (refl, ap (λ (x : StreamProgress). x.rounds) leads, ap whole_table leads)
-items_back to c (item ∷ items) free all leads due =
+    subst (λ (d : Due). RestAt to c d []) (sym end) (refl, ap (λ (x : StreamProgress). x.rounds) leads, ap whole_table leads, due)
+none_back to c leads (inr over) =
+    let at : c.due ≡ TypeByte before.Footer = ap (λ (x : StreamProgress). x.due) (sym leads) ∙ over.0 in
+    subst (λ (d : Due). RestAt to c d []) (sym at) (λ used. record {
+      others = [];
+      last = None;
+      stands = (over.0, λ none. ap (λ (x : StreamProgress). x.section) leads);
+      has_bytes = refl;
+      are_others = tt;
+      in_frame = λ ram. tt;
+      follow = tt;
+      flushes = inr tt;
+      no_tail = inl (ap (λ (x : StreamProgress). is_single x.mode) (sym leads) ∙ over.1);
+      has_rounds = ap (λ (x : StreamProgress). x.rounds) leads;
+      has_table = ap whole_table leads;
+    })
+
+-- Items without a fault that lead to where a reading may stop are what is left before it.
+pub items_back : (to c : StreamProgress) (items : List (List ℕ)) → AreFaultless c items → IsBytes (concat items)
+    → to ≡ after_all c items → MayStop to → RestFrom to c (concat items)
+items_back to c [] free all leads stop = none_back to c leads stop
+items_back to c (item ∷ items) free all leads stop =
     item_back to c c.due item (concat items) refl free.0 (bytes_of_front item (concat items) all) free.1
-    (items_back to (after c item) items free.2 (bytes_of_rest item (concat items) all) leads due)
+    (items_back to (after c item) items free.2 (bytes_of_rest item (concat items) all) leads stop)

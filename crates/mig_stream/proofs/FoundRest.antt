@@ -61,7 +61,7 @@ RestAt to c (BlockName f page) bytes = c.left ≡ Some 0 → RestOfName (Behind 
 RestAt to c (Content f place) bytes = c.left ≡ Some 0 → RestOfPage (Behind to) c f place bytes
 RestAt to c Footer bytes = c.left ≡ Some 0 → RestOfFooter (Behind to) c bytes
 RestAt to c (Passed passed) bytes = RestAtPassed to c passed bytes
-RestAt to c Nothing bytes = (bytes ≡ []) × (to.rounds ≡ c.rounds) × (whole_table to ≡ whole_table c)
+RestAt to c Nothing bytes = (bytes ≡ []) × (to.rounds ≡ c.rounds) × (whole_table to ≡ whole_table c) × (to.due ≡ Nothing)
 
 -- what is left from the item that is due on
 abbrev pub RestFrom : StreamProgress → StreamProgress → List ℕ → Type 0

@@ -1,5 +1,6 @@
 -- What is left of a stream after a footer: PARTs, END and the end byte.
-use Rattle.std.proofs.Common.{◌≡◌, ◌⊎◌, ℕ, Bool, true, false, not, eqb, List, [], ◌∷◌, ◌++◌, length, Option, Some, refl, sym, ap, subst, ◌∙◌, append_assoc, inl}
+use Rattle.std.proofs.Common.{◌≡◌, ◌⊎◌, ℕ, Bool, true, false, not, eqb, List, [], ◌∷◌, ◌++◌, length, Option, Some}
+use Rattle.std.proofs.Common.{None, refl, sym, ap, subst, ◌∙◌, append_assoc, inl}
 use Rattle.std.proofs.Common.{inr, arith}
 use Rattle.std.specs.Prelude.{◌&&◌, ⊤}
 use Rattle.std.specs.List.{flat_map, AllByRecursion}
@@ -10,7 +11,8 @@ use Rattle.mig_stream.specs.declared.item.Mode.TheVariants.{Single, Main, MainBy
 use Rattle.mig_stream.specs.declared.item.Section.{Section}
 use Rattle.mig_stream.specs.declared.item.Section.TheVariants.{Start, Part, End}
 use Rattle.mig_stream.specs.declared.item.Due.{Due}
-use Rattle.mig_stream.specs.declared.item.Due.TheVariants.{SectionHead}
+use Rattle.mig_stream.specs.declared.item.Due.TheVariants.{TypeByte, SectionHead, Nothing}
+use Rattle.mig_stream.specs.declared.item.Before.TheVariants as before
 use Rattle.mig_stream.specs.Fields.{be32}
 use Rattle.mig_stream.specs.Format.{end_byte, section_type, command_type}
 use Rattle.mig_stream.specs.PageRecord.{PageRecord}
@@ -33,26 +35,58 @@ HasNoCommand [] = ⊤
 HasNoCommand (PartOf records ∷ others) = HasNoCommand others
 HasNoCommand (CommandOf c ∷ others) = ⊥
 
+-- END as a list of sections, and its records: none of them in a background snapshot
+abbrev pub ends_of : Option (List Record) → List (List Record)
+ends_of None = []
+ends_of (Some records) = records ∷ []
+
+abbrev pub last_records : Option (List Record) → List Record
+last_records None = []
+last_records (Some records) = records
+
+-- END and the ending, or no bytes
+abbrev pub end_bytes : RamTable → ℕ → Bool → Option (List Record) → List ℕ
+end_bytes table id machine None = []
+end_bytes table id machine (Some records) = section table End id records ++ ending machine
+
+-- Where the reading stands after these: at no item after END; without END at a type byte, after the
+-- last PART if there is one.
+abbrev pub StandsAfter : StreamProgress → Section → List PartOrCommand → Option (List Record) → Type 0
+StandsAfter to kind others None = (to.due ≡ TypeByte before.Footer) × (parts_of others ≡ [] → to.section ≡ kind)
+StandsAfter to kind others (Some records) = to.due ≡ Nothing
+
+stands_part : (to : StreamProgress) (kind before_it : Section) (records : List Record) (others : List PartOrCommand) (last : Option (List Record))
+    → StandsAfter to kind others last → StandsAfter to before_it (PartOf records ∷ others) last
+stands_part to kind before_it records others None s = (s.0, λ none. absurd cc)
+stands_part to kind before_it records others (Some l) s = s
+
+stands_command : (to : StreamProgress) (kind : Section) (x : Command) (others : List PartOrCommand) (last : Option (List Record))
+    → StandsAfter to kind others last → StandsAfter to kind (CommandOf x ∷ others) last
+stands_command to kind x others None s = s
+stands_command to kind x others (Some l) s = s
+
 -- The ending is left, and after it the reading stands at `to`.
 pub record RestOfEnd (to c : StreamProgress) (bytes : List ℕ) : Type 0 where
   pub has_bytes : bytes ≡ ending (is_machine c.frame)
+  pub is_closed : to.due ≡ Nothing
   pub no_tail : HasNoTail c.mode c.records
   pub has_rounds : to.rounds ≡ c.rounds
   pub has_table : whole_table to ≡ whole_table c
 
--- PARTs and COMMANDs, END and the ending are left, and after them the reading stands at `to`.
+-- PARTs and COMMANDs, END and the ending are left, and after them the reading stands at `to`. A
+-- background snapshot has no END.
 pub record RestOfParts (to c : StreamProgress) (bytes : List ℕ) : Type 0 where
   pub others : List PartOrCommand
-  pub last : List Record
-  pub has_bytes : bytes ≡ flat_map (part_or_command (table_of c) c.section_id) others
-      ++ (section (table_of c) End c.section_id last ++ ending (is_machine c.frame))
+  pub last : Option (List Record)
+  pub stands : StandsAfter to c.section others last
+  pub has_bytes : bytes ≡ flat_map (part_or_command (table_of c) c.section_id) others ++ end_bytes (table_of c) c.section_id (is_machine c.frame) last
   pub are_others : AllByRecursion IsPartOrCommand others
   pub in_frame : is_machine c.frame ≡ false → HasNoCommand others
-  pub follow : Follow (table_of c) c.named (all_records (parts_of others) ++ last)
-  pub flushes : FlushesFit (is_single c.mode) (parts_of others ++ last ∷ [])
-  pub no_tail : HasNoTail (mode_behind c.mode false c.records (parts_of others ++ last ∷ []))
-      (records_behind c.mode false c.records (parts_of others ++ last ∷ []))
-  pub has_rounds : to.rounds ≡ rounds_behind c.mode false c.records c.rounds (parts_of others ++ last ∷ [])
+  pub follow : Follow (table_of c) c.named (all_records (parts_of others) ++ last_records last)
+  pub flushes : FlushesFit (is_single c.mode) (parts_of others ++ ends_of last)
+  pub no_tail : HasNoTail (mode_behind c.mode false c.records (parts_of others ++ ends_of last))
+      (records_behind c.mode false c.records (parts_of others ++ ends_of last))
+  pub has_rounds : to.rounds ≡ rounds_behind c.mode false c.records c.rounds (parts_of others ++ ends_of last)
   pub has_table : whole_table to ≡ whole_table c
 
 -- what is left after the footer of a section
@@ -94,20 +128,21 @@ part_back to c bytes r =
     let s = r.rest in
     let q = s.others in
     let parts = flat_map (part_or_command (table_of c) c.section_id) q.others in
-    let end = section (table_of c) End c.section_id q.last ++ ending (is_machine c.frame) in
+    let end = end_bytes (table_of c) c.section_id (is_machine c.frame) q.last in
     let items = body (table_of c) c.section_id s.records in
     let spelled : bytes ≡ be32 c.section_id ++ (items ++ (parts ++ end)) =
     r.has_bytes ∙ ap (λ (x : List ℕ). be32 c.section_id ++ x) (s.has_bytes ∙ ap (λ (x : List ℕ). items ++ x) q.has_bytes) in
     record {
       others = PartOf s.records ∷ q.others;
       last = q.last;
+      stands = stands_part to Part c.section s.records q.others q.last q.stands;
       has_bytes = ap (λ (x : List ℕ). section_type Part ∷ x) spelled ∙ regroup_part (be32 c.section_id) items parts end (section_type Part);
       are_others = (tt, q.are_others);
       in_frame = q.in_frame;
-      follow = subst (Follow (table_of c) c.named) (sym (append_assoc s.records (all_records (parts_of q.others)) q.last))
-          (Follow-append (table_of c) c.named s.records (all_records (parts_of q.others) ++ q.last) s.follow q.follow);
-      flushes = FlushesFit-cons (is_single c.mode) s.records (parts_of q.others ++ q.last ∷ []) s.flushes
-          (subst (λ (single : Bool). FlushesFit single (parts_of q.others ++ q.last ∷ [])) (single_kept c.mode false c.records s.records) q.flushes);
+      follow = subst (Follow (table_of c) c.named) (sym (append_assoc s.records (all_records (parts_of q.others)) (last_records q.last)))
+          (Follow-append (table_of c) c.named s.records (all_records (parts_of q.others) ++ last_records q.last) s.follow q.follow);
+      flushes = FlushesFit-cons (is_single c.mode) s.records (parts_of q.others ++ ends_of q.last) s.flushes
+          (subst (λ (single : Bool). FlushesFit single (parts_of q.others ++ ends_of q.last)) (single_kept c.mode false c.records s.records) q.flushes);
       no_tail = q.no_tail;
       has_rounds = q.has_rounds;
       has_table = q.has_table;
@@ -129,7 +164,8 @@ last_back to c bytes r =
     r.has_bytes ∙ ap (λ (x : List ℕ). be32 c.section_id ++ x) (s.has_bytes ∙ ap (λ (x : List ℕ). items ++ x) q.has_bytes) in
     record {
       others = [];
-      last = s.records;
+      last = Some s.records;
+      stands = q.is_closed;
       has_bytes = ap (λ (x : List ℕ). section_type End ∷ x) spelled ∙ regroup_end (be32 c.section_id) items end (section_type End);
       are_others = tt;
       in_frame = λ ram. tt;
@@ -145,6 +181,7 @@ pub parts_at : (to c : StreamProgress) (d : Due) (bytes : List ℕ) → RestOfPa
 parts_at to c d bytes r = record {
   others = r.others;
   last = r.last;
+  stands = r.stands;
   has_bytes = r.has_bytes;
   are_others = r.are_others;
   in_frame = r.in_frame;
@@ -161,9 +198,10 @@ pub command_back : (to c : StreamProgress) (x : Command) (tail bytes : List ℕ)
 command_back to c x tail bytes machine is e q = record {
   others = CommandOf x ∷ q.others;
   last = q.last;
+  stands = stands_command to c.section x q.others q.last q.stands;
   has_bytes = ap (λ (y : List ℕ). command_type ∷ y) (e ∙ ap (λ (y : List ℕ). command_bytes x ++ y) q.has_bytes)
       ∙ sym (append_assoc (command x) (flat_map (part_or_command (table_of c) c.section_id) q.others)
-      (section (table_of c) End c.section_id q.last ++ ending (is_machine c.frame)));
+      (end_bytes (table_of c) c.section_id (is_machine c.frame) q.last));
   are_others = (is, q.are_others);
   in_frame = λ ram. absurd (let clash : true ≡ false = sym machine ∙ ram in cc);
   follow = q.follow;

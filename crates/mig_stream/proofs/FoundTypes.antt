@@ -81,6 +81,7 @@ byte_back to c before.LastFooter byte bytes ok free r =
     byte_front to c before.LastFooter byte end_byte bytes e
     (λ ram. record {
       has_bytes = ap (λ (x : List ℕ). end_byte ∷ x) at.0 ∙ sym (ap ending ram);
+      is_closed = at.3;
       no_tail = no_tail_found c.mode c.records (tail_test c byte e free);
       has_rounds = at.1;
       has_table = at.2;

@@ -1,6 +1,6 @@
 -- Records that were given, and those that are read after them.
 use Rattle.std.proofs.Common.{◌≡◌, ℕ, cond, ◌+◌, ◌-◌, ◌*◌, ◌^◌, ◌<◌, Bool, true, false, not, ◌&&◌, ◌||◌, ◌==◌, All, List, [], ◌∷◌, ◌++◌, length, get_or, Option}
-use Rattle.std.proofs.Common.{Some, None, refl, sym, ap, subst, ◌∙◌, append_assoc, arith, ◌≤◌, inl}
+use Rattle.std.proofs.Common.{Some, None, refl, sym, ap, subst, ◌∙◌, append_assoc, arith, ◌≤◌, inl, inr}
 use Rattle.std.specs.Prelude.{IfSome, slice_index, IfNone, min}
 use Rattle.std.proofs.Math.Nat.{min-eq_left}
 use Rattle.std.specs.Bool.{then_some}
@@ -288,13 +288,15 @@ Front-open b c d bytes single f = record {
 
 Ends-open : (b : List PageRecord) (c : StreamProgress) (rest : List ℕ) (s : StreamState) → c.mode ≡ Single → Ends c rest s → Ends (with_open b c) rest s
 Ends-open b c rest Reading single e = (e.0, λ item more is whole. e.1 item more is (record { is_due = whole.is_due; is_whole = whole.is_whole }))
-Ends-open b c rest Closed single e = e
+Ends-open b c rest Closed single (inl e) = inl e
+Ends-open b c rest Closed single (inr e) = inr (e.0, e.1, e.2, record { is_due = e.3.is_due; is_whole = e.3.is_whole }, e.4)
 Ends-open b c rest (Bad f) single e = (
   e.0,
   e.1,
   e.2,
   record { is_due = e.3.is_due; is_whole = e.3.is_whole },
   ap first_of (faults-open b c c.due e.0 single) ∙ e.4,
+  e.5,
 )
 
 -- ---- reading on
@@ -564,7 +566,7 @@ ends_so given text so_far r found none nothing is g =
       has_state = refl;
       has_open = records;
       has_none_open = λ closed. sym records ∙ closed_is_empty given.frame given.mode given.page_size given.limit given.waiting
-          g.front to g.is_single g.leads (subst (λ (s : StreamState). Ends to r.rest s) closed ends);
+          g.front to r.rest g.is_single g.leads (subst (λ (s : StreamState). Ends to r.rest s) closed ends);
     }
 
 -- ---- between two pieces

@@ -1,5 +1,5 @@
 -- What items leave as it was, rounds that were taken, and a reading that goes on.
-use Rattle.std.proofs.Common.{◌≡◌, ◌≢◌, ℕ, Bool, true, false, cond, List, [], ◌∷◌, ◌++◌, Option, Some, None, refl, sym, ap, subst, ◌∙◌, append_assoc}
+use Rattle.std.proofs.Common.{◌≡◌, ◌≢◌, ℕ, Bool, true, false, cond, List, [], ◌∷◌, ◌++◌, Option, Some, None, refl, sym, ap, subst, ◌∙◌, append_assoc, inl, inr}
 use Rattle.std.specs.Prelude.{slice_index}
 use Rattle.mig_stream.specs.declared.item.Mode.{Mode}
 use Rattle.mig_stream.specs.declared.item.Mode.TheVariants.{Single, Main, MainBySection, MainAsShown}
@@ -156,16 +156,25 @@ Front-taken g c d bytes f = record {
 -- rounds that were taken change nothing of how the reading ends
 pub Ends-taken : (g : List (List PageRecord)) (c : StreamProgress) (rest : List ℕ) (s : StreamState) → Ends c rest s → Ends (with_taken g c) rest s
 Ends-taken g c rest Reading e = e
-Ends-taken g c rest Closed e = e
-Ends-taken g c rest (Bad f) e = (e.0, e.1, e.2, record { is_due = e.3.is_due; is_whole = e.3.is_whole }, ap first_of (faults-taken g c c.due e.0) ∙ e.4)
+Ends-taken g c rest Closed (inl e) = inl e
+Ends-taken g c rest Closed (inr e) = inr (e.0, e.1, e.2, record { is_due = e.3.is_due; is_whole = e.3.is_whole }, e.4)
+Ends-taken g c rest (Bad f) e = (
+  e.0,
+  e.1,
+  e.2,
+  record { is_due = e.3.is_due; is_whole = e.3.is_whole },
+  ap first_of (faults-taken g c c.due e.0) ∙ e.4,
+  e.5,
+)
 
 -- ---- a reading goes on
 
 -- what follows the end, or a fault, changes nothing
 pub Ends-more : (c : StreamProgress) (rest piece : List ℕ) (s : StreamState) → s ≢ Reading → Ends c rest s → Ends c (rest ++ piece) s
 Ends-more c rest piece Reading other e = absurd (other refl)
-Ends-more c rest piece Closed other e = e
-Ends-more c rest piece (Bad f) other e = (e.0, e.1 ++ piece, ap (λ (x : List ℕ). x ++ piece) e.2 ∙ append_assoc e.0 e.1 piece, e.3, e.4)
+Ends-more c rest piece Closed other (inl e) = inl e
+Ends-more c rest piece Closed other (inr e) = inr (e.0, e.1 ++ piece, ap (λ (x : List ℕ). x ++ piece) e.2 ∙ append_assoc e.0 e.1 piece, e.3, e.4)
+Ends-more c rest piece (Bad f) other e = (e.0, e.1 ++ piece, ap (λ (x : List ℕ). x ++ piece) e.2 ∙ append_assoc e.0 e.1 piece, e.3, e.4, e.5)
 
 -- once the reading has ended, more bytes only lengthen the rest
 pub Reads-more : (from : StreamProgress) (text : List ℕ) (to : StreamProgress) (rest piece : List ℕ) (s : StreamState)

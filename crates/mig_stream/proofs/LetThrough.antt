@@ -18,6 +18,7 @@ use Rattle.mig_stream.specs.declared.item.Due.TheVariants.{PageSize, BlockName, 
 use Rattle.mig_stream.specs.declared.item.RecordKind.{RecordKind}
 use Rattle.mig_stream.specs.declared.item.RecordKind.TheVariants.{SizeList, Named, Continued, EndOfSection, Flush}
 use Rattle.mig_stream.specs.declared.item.StreamState.{StreamState}
+use Rattle.mig_stream.specs.declared.item.StreamState.TheVariants.{Closed}
 use Rattle.mig_stream.specs.declared.fault.StreamFault.{StreamFault}
 use Rattle.mig_stream.specs.declared.fault.StreamFault.TheVariants.{Waiting}
 use Rattle.mig_stream.specs.Fields.{be64_at}
@@ -30,6 +31,8 @@ use Rattle.mig_stream.specs.Reading.{Settings, with_waiting, AreFaultless, after
 use Rattle.mig_stream.specs.Flushed.{from}
 use Rattle.mig_stream.specs.Limited.{LimitLetsThrough}
 use Rattle.mig_stream.proofs.Between.{closed_is_empty}
+use Rattle.mig_stream.proofs.Stopping.{over_is}
+use Rattle.mig_stream.proofs.Plain.{main_due}
 use Rattle.mig_stream.proofs.ClosedMain.{closed_has_none}
 use Rattle.mig_stream.proofs.Room.{is_coming, is_waiting, waiting_is, FitsAt, fits_item, first_fits, no_room, full_item, never, sized, passed_unwaiting}
 use Rattle.mig_stream.proofs.Unlimited.{freed, freed_item, freed_faults, freed_all}
@@ -243,14 +246,28 @@ lets_all limit c (item ∷ items) f free never_over =
     )
 
 -- a closed stream has no open round
-closed_none : (given : Settings) (front : List ℕ) (to : StreamProgress) → Front (from given) front to → to.due ≡ Nothing → to.records ≡ []
-closed_none given front to leads closed = by_mode given.mode refl
+closed_none : (given : Settings) (front : List ℕ) (to : StreamProgress) (rest : List ℕ) → Front (from given) front to → Ends to rest Closed → to.records ≡ []
+closed_none given front to rest leads closed = by_mode given.mode refl
   where
+    by_main : is_single given.mode ≡ false → to.records ≡ []
+    by_main main = closed_has_none given.frame given.mode given.page_size given.limit given.waiting front to main leads
+        (main_due given front to rest main leads closed)
+
     by_mode : (m : Mode) → given.mode ≡ m → to.records ≡ []
-    by_mode Single e = closed_is_empty given.frame given.mode given.page_size given.limit given.waiting front to e leads closed
-    by_mode Main e = closed_has_none given.frame given.mode given.page_size given.limit given.waiting front to (ap is_single e) leads closed
-    by_mode MainBySection e = closed_has_none given.frame given.mode given.page_size given.limit given.waiting front to (ap is_single e) leads closed
-    by_mode MainAsShown e = closed_has_none given.frame given.mode given.page_size given.limit given.waiting front to (ap is_single e) leads closed
+    by_mode Single e = closed_is_empty given.frame given.mode given.page_size given.limit given.waiting front to rest e leads closed
+    by_mode Main e = by_main (ap is_single e)
+    by_mode MainBySection e = by_main (ap is_single e)
+    by_mode MainAsShown e = by_main (ap is_single e)
+
+-- nor is a page due
+closed_coming : (c : StreamProgress) (rest : List ℕ) → Ends c rest Closed → is_coming c.due ≡ false
+closed_coming c rest (inl due) = ap is_coming due
+closed_coming c rest (inr over) = ap is_coming (over_is c over.0 over.4).is_type
+
+-- a stream that is closed without a limit is closed with one
+kept_ends : (c : StreamProgress) (rest : List ℕ) → Ends (freed c) rest Closed → Ends c rest Closed
+kept_ends c rest (inl due) = inl due
+kept_ends c rest (inr over) = inr (over.0, over.1, over.2, record { is_due = over.3.is_due; is_whole = over.3.is_whole }, over.4)
 
 all_few : (limit : ℕ) (rounds : List (List PageRecord)) → All (λ (round : List PageRecord). length round ≤ limit) rounds → list_all (is_few limit) rounds ≡ true
 all_few limit [] all = refl
@@ -259,18 +276,18 @@ all_few limit (round ∷ rounds) all =
     (all_few limit rounds (All-tail (λ (r : List PageRecord). length r ≤ limit) round rounds all))
 
 not_over : (limit : ℕ) (c : StreamProgress) → All (λ (round : List PageRecord). length round ≤ limit) c.rounds → c.records ≡ []
-    → c.due ≡ Nothing → IsOverAt limit c → ⊥
+    → is_coming c.due ≡ false → IsOverAt limit c → ⊥
 not_over limit c few none closed (inl long) = absurd (let clash : true ≡ false = sym (all_few limit c.rounds few) ∙ long in cc)
 not_over limit c few none closed (inr (inl long)) = omega (arith, long, ap (λ (l : List PageRecord). length l) none)
-not_over limit c few none closed (inr (inr coming)) = absurd (let clash : true ≡ false = sym coming.0 ∙ ap is_coming closed in cc)
+not_over limit c few none closed (inr (inr coming)) = absurd (let clash : true ≡ false = sym coming.0 ∙ closed in cc)
 
 -- a closed stream whose rounds are within the limit is read under it as without it
 pub through_law : LimitLetsThrough
 through_law given limit text reading waits is closed few =
-    let ends : is.to.due ≡ Nothing = subst (λ (s : StreamState). Ends is.to is.rest s) closed is.reads.ends in
+    let ends : Ends is.to is.rest Closed = subst (λ (s : StreamState). Ends is.to is.rest s) closed is.reads.ends in
     let never_over : IsOverAt limit is.to → ⊥ =
     not_over limit is.to (subst (λ (r : List (List PageRecord)). All (λ (round : List PageRecord). length round ≤ limit) r) is.has_rounds few)
-    (closed_none (with_waiting None given) is.reads.front is.to is.reads.leads ends) ends in
+    (closed_none (with_waiting None given) is.reads.front is.to is.rest is.reads.leads ends) (closed_coming is.to is.rest ends) in
     let items : List (List ℕ) = is.reads.leads.items in
     let free : AreFaultless (from given) items =
     lets_all limit (from given) items (first_fits given limit waits) is.reads.leads.are_faultless
@@ -284,7 +301,8 @@ through_law given limit text reading waits is closed few =
         front = is.reads.front;
         has_text = is.reads.has_text;
         leads = record { items = items; has_bytes = is.reads.leads.has_bytes; are_faultless = free; leads_to = refl };
-        ends = subst (λ (s : StreamState). Ends to is.rest s) (sym closed) (sym (ap (λ (x : StreamProgress). x.due) same) ∙ ends);
+        ends = subst (λ (s : StreamState). Ends to is.rest s) (sym closed)
+            (kept_ends to is.rest (subst (λ (x : StreamProgress). Ends x is.rest Closed) same ends));
       };
       has_table = is.has_table ∙ ap whole_table same;
       has_rounds = is.has_rounds ∙ ap (λ (x : StreamProgress). x.rounds) same;

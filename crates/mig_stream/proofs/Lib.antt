@@ -1,4 +1,5 @@
 pub mod Fronts
+pub mod Stopping
 pub mod Unique
 pub mod After
 pub mod Tables
@@ -29,12 +30,14 @@ pub mod FoundHeads
 pub mod FoundTypes
 pub mod FoundItems
 pub mod Found
+pub mod SpelledSnapshot
 pub mod Closed
 pub mod Writing
 pub mod Walking
 pub mod Entering
 pub mod Later
 pub mod Steps
+pub mod Plain
 pub mod Undoing
 pub mod Feeding
 pub mod Placing

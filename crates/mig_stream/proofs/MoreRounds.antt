@@ -18,7 +18,7 @@ use Rattle.mig_stream.proofs.Modes.{flushed_after, rounds_fixed}
 use Rattle.mig_stream.proofs.SectionRounds.{flushed_read, section_spelled}
 use Rattle.mig_stream.proofs.SpelledText.{spelled_law}
 use Rattle.mig_stream.proofs.SpelledMachine.{machine_is_read}
-use Rattle.mig_stream.proofs.Found.{read_law, machine_read_law}
+use Rattle.mig_stream.proofs.Found.{read_law, machine_read_law, main_text}
 use Rattle.mig_stream.proofs.Exists.{one_reading_law}
 use Rattle.mig_stream.proofs.Shown.{in_mode, machine_in_mode}
 
@@ -94,17 +94,19 @@ machine_more : (given : Settings) (text : List ℕ) (a b : StreamReading) → gi
 machine_more given text a b frame size small all is_a closed_a is_b closed_b =
     let f = machine_read_law (by_flush given) text a frame size small all is_a closed_a in
     let g = machine_read_law (by_section given) text b frame size small all is_b closed_b in
-    let spelled : IsMachineText Main given.limit f.3.0 f.0 a.rounds = f.3.3 in
+    let by_f = main_text Main given.limit text f.0 a.rounds refl f.3 in
+    let by_g = main_text MainBySection given.limit text g.0 b.rounds refl g.3 in
+    let spelled : IsMachineText Main given.limit by_f.0 f.0 a.rounds = by_f.3 in
     let sections : List (List Record) = spelled.first ∷ parts_of spelled.others ++ spelled.last ∷ [] in
     let whole : List (List PageRecord) = rounds_fixed MainBySection [] [] sections in
-    let other : IsMachineText MainBySection given.limit f.3.0 f.0 whole =
-    machine_in_mode Main MainBySection given.limit f.3.0 f.0 a.rounds whole spelled (section_spelled sections) in
+    let other : IsMachineText MainBySection given.limit by_f.0 f.0 whole =
+    machine_in_mode Main MainBySection given.limit by_f.0 f.0 a.rounds whole spelled (section_spelled sections) in
     let here : IsReading (in_frame Machine (settings MainBySection f.0.page_size given.limit)) text (closed f.0 whole) =
     subst (λ (x : List ℕ). IsReading (in_frame Machine (settings MainBySection f.0.page_size given.limit)) x (closed f.0 whole))
-    (sym f.3.2) (machine_is_read MainBySection given.limit f.3.0 f.3.1 f.0 whole other) in
+    (sym by_f.2) (machine_is_read MainBySection given.limit by_f.0 by_f.1 f.0 whole other) in
     let there : IsReading (in_frame Machine (settings MainBySection g.0.page_size given.limit)) text (closed g.0 b.rounds) =
     subst (λ (x : List ℕ). IsReading (in_frame Machine (settings MainBySection g.0.page_size given.limit)) x
-    (closed g.0 b.rounds)) (sym g.3.2) (machine_is_read MainBySection given.limit g.3.0 g.3.1 g.0 b.rounds g.3.3) in
+    (closed g.0 b.rounds)) (sym by_g.2) (machine_is_read MainBySection given.limit by_g.0 by_g.1 g.0 b.rounds by_g.3) in
     let one : closed f.0 whole ≡ closed g.0 b.rounds =
     one_reading (in_frame Machine (settings MainBySection given.page_size given.limit)) text (closed f.0 whole) (closed g.0 b.rounds) size
     (subst (λ (n : ℕ). IsReading (in_frame Machine (settings MainBySection n given.limit)) text (closed f.0 whole)) f.1 here)

@@ -12,7 +12,8 @@ use Rattle.mig_stream.specs.declared.item.Filling.TheVariants.{Zero, Normal}
 use Rattle.mig_stream.specs.declared.item.RecordKind.{RecordKind}
 use Rattle.mig_stream.specs.declared.item.RecordKind.TheVariants.{SizeList, Named, Continued, EndOfSection, Flush}
 use Rattle.mig_stream.specs.declared.item.Due.{Due}
-use Rattle.mig_stream.specs.declared.item.Due.TheVariants.{RecordHead, ListEntry, PageSize, Nothing}
+use Rattle.mig_stream.specs.declared.item.Due.TheVariants.{TypeByte, RecordHead, ListEntry, PageSize, Nothing}
+use Rattle.mig_stream.specs.declared.item.Before.{Before}
 use Rattle.mig_stream.specs.Fields.{be64_at}
 use Rattle.mig_stream.specs.Format.{flags_of, least_page_size}
 use Rattle.mig_stream.specs.Progress.{StreamProgress}
@@ -163,8 +164,20 @@ unsized_entry c d bytes other f = go f.items f.has_bytes f.are_faultless f.leads
           leads_to = leads ∙ ap (λ (x : StreamProgress). after_all x items) (sym new);
         }
 
--- A closed front from what is due after an entry is one from its page size, which isn't there.
-pub unsized_front : (c d : StreamProgress) (last : Bool) (bytes : List ℕ) → IsPageSize c.page_size → d.due ≡ Nothing
+-- neither a record nor an entry of the size list is due
+pub record IsElsewhere (d : Due) : Type 0 where
+  pub no_record : d ≡ RecordHead → ⊥
+  pub no_entry : d ≡ ListEntry → ⊥
+
+pub nothing_elsewhere : IsElsewhere Nothing
+nothing_elsewhere = record { no_record = λ e. absurd cc; no_entry = λ e. absurd cc }
+
+pub type_elsewhere : (b : Before) → IsElsewhere (TypeByte b)
+type_elsewhere b = record { no_record = λ e. absurd cc; no_entry = λ e. absurd cc }
+
+-- A front that leads elsewhere from what is due after an entry is one from its page size, which
+-- isn't there.
+pub unsized_front : (c d : StreamProgress) (last : Bool) (bytes : List ℕ) → IsPageSize c.page_size → IsElsewhere d.due
     → Front (record c { due = list_due last }) bytes d → Front (record c { due = PageSize last }) bytes d
-unsized_front c d true bytes size closed f = unsized_record c d bytes size (λ e. let clash : Nothing ≡ RecordHead = sym closed ∙ e in absurd cc) f
-unsized_front c d false bytes size closed f = unsized_entry c d bytes (λ e. let clash : Nothing ≡ ListEntry = sym closed ∙ e in absurd cc) f
+unsized_front c d true bytes size elsewhere f = unsized_record c d bytes size elsewhere.no_record f
+unsized_front c d false bytes size elsewhere f = unsized_entry c d bytes elsewhere.no_entry f

@@ -1,5 +1,5 @@
 -- Reports: items that are added one after another, and what a reader's report says of its stream.
-use Rattle.std.proofs.Common.{◌≡◌, ◌≢◌, ℕ, ◌+◌, ◌-◌, ◌<◌, ◌≤◌, ◌^◌, List, [], ◌∷◌, ◌++◌, length, take, Option, Some, None, refl, sym, ap, subst, ◌∙◌}
+use Rattle.std.proofs.Common.{◌≡◌, ◌≢◌, ℕ, ◌+◌, ◌-◌, ◌<◌, ◌≤◌, ◌^◌, false, List, [], ◌∷◌, ◌++◌, length, take, Option, Some, None, refl, sym, ap, subst, ◌∙◌}
 use Rattle.std.proofs.Common.{append_assoc, arith}
 use Rattle.std.specs.Prelude.{IfSome, IfNone}
 use Rattle.std.specs.List.{concat}
@@ -10,7 +10,7 @@ use Rattle.mig_stream.specs.declared.item.StreamState.{StreamState}
 use Rattle.mig_stream.specs.declared.item.StreamState.TheVariants.{Reading, Bad}
 use Rattle.mig_stream.specs.declared.fault.StreamFault.{StreamFault}
 use Rattle.mig_stream.specs.Progress.{StreamProgress, start}
-use Rattle.mig_stream.specs.Items.{first_fault, after}
+use Rattle.mig_stream.specs.Items.{first_fault, is_over, after}
 use Rattle.mig_stream.specs.PageRecord.{PageRecord}
 use Rattle.mig_stream.specs.Reading.{Settings, IsItem, AreFaultless, after_all, Ends, Reads}
 use Rattle.mig_stream.specs.Taking.{HasTakenTo, HasTakenPages}
@@ -424,10 +424,10 @@ piece_short o c old piece new left report len none short =
 
 -- a piece that fills up an item with a fault changes nothing in the report
 pub piece_fault : (c d : StreamProgress) (bytes item rest pending : List ℕ) (left : ℕ) (f : StreamFault) (before now : Reported)
-    → left ≡ length item + length rest → item ++ rest ≡ bytes → IsItem c.page_size c.due item → first_fault c item ≡ Some f → d ≡ c → now ≡ before
-    → ReadsReporting c bytes d pending left (Bad f) before now
-piece_fault c d bytes item rest pending left f before now len e is fault same kept =
-    let here : Ends c (item ++ rest) (Bad f) = (item, rest, refl, is, fault) in
+    → left ≡ length item + length rest → item ++ rest ≡ bytes → IsItem c.page_size c.due item → first_fault c item ≡ Some f
+    → is_over c item ≡ false → d ≡ c → now ≡ before → ReadsReporting c bytes d pending left (Bad f) before now
+piece_fault c d bytes item rest pending left f before now len e is fault not_over same kept =
+    let here : Ends c (item ++ rest) (Bad f) = (item, rest, refl, is, fault, not_over) in
     record {
       rest = item ++ rest;
       reports = reports_same c d bytes (item ++ rest) before now same e kept;

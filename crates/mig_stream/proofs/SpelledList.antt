@@ -15,7 +15,7 @@ use Rattle.mig_stream.specs.declared.item.RecordKind.TheVariants.{SizeList}
 use Rattle.mig_stream.specs.declared.item.EntryForm.{EntryForm}
 use Rattle.mig_stream.specs.declared.item.EntryForm.TheVariants.{Plain, Addressed, Sized}
 use Rattle.mig_stream.specs.declared.item.PassedItem.TheVariants.{Address}
-use Rattle.mig_stream.specs.declared.item.Due.TheVariants.{RecordHead, ListEntry, PageSize, Passed, Nothing}
+use Rattle.mig_stream.specs.declared.item.Due.TheVariants.{RecordHead, ListEntry, PageSize, Passed}
 use Rattle.mig_stream.specs.declared.fault.StreamFault.TheVariants as fault
 use Rattle.mig_stream.specs.Fields.{be64, counted, be64_at}
 use Rattle.mig_stream.specs.Format.{flags_of, least_page_size}
@@ -30,7 +30,7 @@ use Rattle.mig_stream.proofs.FoundList.{regroup_entry}
 use Rattle.mig_stream.proofs.Fronts.{sized, Front-append}
 use Rattle.mig_stream.proofs.SpelledItems.{item_front, be64_back, be64_behind, page_size_large, flags_small, head_front}
 use Rattle.mig_stream.proofs.Tables.{AreBlocks, blocks_from_table, sum_of, total_is_sum}
-use Rattle.mig_stream.proofs.NoPageSize.{unsized_front}
+use Rattle.mig_stream.proofs.NoPageSize.{IsElsewhere, unsized_front}
 use Rattle.mig_stream.proofs.Tails.{no_tails, no_tails_length, no_tails_plain, no_tails_list}
 
 -- ---- what follows an entry
@@ -71,13 +71,13 @@ page_size_front c false n is =
     subst (λ (x : StreamProgress). Front d (be64 n) x) new (item_front d (be64 n) (λ e. absurd cc) whole free)
 
 -- what follows an entry, and then all that is left
-tail_front : (c d : StreamProgress) (form : EntryForm) (last : Bool) (tail more : List ℕ) → IsPageSize c.page_size → IsTail form tail → d.due ≡ Nothing
+tail_front : (c d : StreamProgress) (form : EntryForm) (last : Bool) (tail more : List ℕ) → IsPageSize c.page_size → IsTail form tail → IsElsewhere d.due
     → Front (record c { due = list_due last }) more d → Front (record c { due = entry_due form last }) (tail ++ more) d
-tail_front c d Plain last tail more size is closed f = subst (λ (t : List ℕ). Front (record c { due = list_due last }) (t ++ more) d) (sym is) f
-tail_front c d Addressed last tail more size is closed f = Front-append _ _ _ _ _ (address_front c last tail is) f
-tail_front c d Sized last tail more size (inl none) closed f =
-    subst (λ (t : List ℕ). Front (record c { due = PageSize last }) (t ++ more) d) (sym none) (unsized_front c d last more size closed f)
-tail_front c d Sized last tail more size (inr is) closed f =
+tail_front c d Plain last tail more size is elsewhere f = subst (λ (t : List ℕ). Front (record c { due = list_due last }) (t ++ more) d) (sym is) f
+tail_front c d Addressed last tail more size is elsewhere f = Front-append _ _ _ _ _ (address_front c last tail is) f
+tail_front c d Sized last tail more size (inl none) elsewhere f =
+    subst (λ (t : List ℕ). Front (record c { due = PageSize last }) (t ++ more) d) (sym none) (unsized_front c d last more size elsewhere f)
+tail_front c d Sized last tail more size (inr is) elsewhere f =
     Front-append _ _ _ _ _ (subst (λ (t : List ℕ). Front (record c { due = PageSize last }) t (record c { due = list_due last }))
     (sym is.1) (page_size_front c last is.0 is.2)) f
 
@@ -129,21 +129,21 @@ entry_to c before b left more last more_is last_is front =
 entries_front : (c d : StreamProgress) (before : List Block) (b : Block) (blocks : List Block) (tail : List ℕ) (tails : List
     (List ℕ)) (more : List ℕ) → IsPageSize c.page_size
     → length before + length (b ∷ blocks) ≤ max_blocks → AreBlocks before (b ∷ blocks) → sum_of c.page_size (b ∷ blocks) < 2 ^ 64
-    → length tails ≡ length blocks → AllByRecursion (IsTail c.form) (tail ∷ tails) → d.due ≡ Nothing
+    → length tails ≡ length blocks → AllByRecursion (IsTail c.form) (tail ∷ tails) → IsElsewhere d.due
     → Front (record c { due = RecordHead; left = Some 0; blocks = before ++ b ∷ blocks }) more d
     → Front (record c { due = ListEntry; left = Some (sum_of c.page_size (b ∷ blocks)); blocks = before })
     (entries c.page_size (b ∷ blocks) (tail ∷ tails) ++ more) d
-entries_front c d before b [] tail [] more size few are small len tailed closed f =
+entries_front c d before b [] tail [] more size few are small len tailed elsewhere f =
     let left : ℕ = b.pages * c.page_size + 0 in
     let one = entry_front c before b left size (omega arith) are.0 are.1 are.2 (omega arith) small in
     let end = entry_to c before b left 0 true (omega arith) refl one in
     let here : StreamProgress = record c { left = Some 0; blocks = before ++ b ∷ [] } in
-    let behind : Front (record here { due = entry_due c.form true }) (tail ++ more) d = tail_front here d c.form true tail more size tailed.0 closed f in
+    let behind : Front (record here { due = entry_due c.form true }) (tail ++ more) d = tail_front here d c.form true tail more size tailed.0 elsewhere f in
     subst (λ (x : List ℕ). Front (record c { due = ListEntry; left = Some left; blocks = before }) x d)
     (sym (regroup_entry (entry c.page_size b) tail [] more)) (Front-append _ _ _ _ _ end behind)
-entries_front c d before b [] tail (other ∷ tails) more size few are small len tailed closed f = absurd (omega (arith, len))
-entries_front c d before b (next ∷ blocks) tail [] more size few are small len tailed closed f = absurd (omega (arith, len))
-entries_front c d before b (next ∷ blocks) tail (other ∷ tails) more size few are small len tailed closed f =
+entries_front c d before b [] tail (other ∷ tails) more size few are small len tailed elsewhere f = absurd (omega (arith, len))
+entries_front c d before b (next ∷ blocks) tail [] more size few are small len tailed elsewhere f = absurd (omega (arith, len))
+entries_front c d before b (next ∷ blocks) tail (other ∷ tails) more size few are small len tailed elsewhere f =
     let after_it : ℕ = sum_of c.page_size (next ∷ blocks) in
     let left : ℕ = b.pages * c.page_size + after_it in
     let one = entry_front c before b left size (omega arith) are.0 are.1 are.2 (omega arith) small in
@@ -156,22 +156,22 @@ entries_front c d before b (next ∷ blocks) tail (other ∷ tails) more size fe
     (sym (append_assoc before (b ∷ []) (next ∷ blocks))) f in
     let others : Front (record here { due = ListEntry }) (rest ++ more) d =
     entries_front c d (before ++ b ∷ []) next blocks other tails more size (omega (arith, length-append before (b ∷ []))) are.3
-    (omega arith) (omega (arith, len)) tailed.1 closed whole in
+    (omega arith) (omega (arith, len)) tailed.1 elsewhere whole in
     let behind : Front (record here { due = entry_due c.form false }) (tail ++ (rest ++ more)) d =
-    tail_front here d c.form false tail (rest ++ more) size tailed.0 closed others in
+    tail_front here d c.form false tail (rest ++ more) size tailed.0 elsewhere others in
     subst (λ (x : List ℕ). Front (record c { due = ListEntry; left = Some left; blocks = before }) x d)
     (sym (regroup_entry (entry c.page_size b) tail rest more)) (Front-append _ _ _ _ _ first behind)
 
 -- the entries of any blocks but none, and all that is left after them
 all_entries_front : (c d : StreamProgress) (blocks : List Block) (tails : List (List ℕ)) (more : List ℕ) → IsPageSize c.page_size
     → 0 < length blocks → length blocks ≤ max_blocks → AreBlocks [] blocks
-    → sum_of c.page_size blocks < 2 ^ 64 → length tails ≡ length blocks → AllByRecursion (IsTail c.form) tails → d.due ≡ Nothing
+    → sum_of c.page_size blocks < 2 ^ 64 → length tails ≡ length blocks → AllByRecursion (IsTail c.form) tails → IsElsewhere d.due
     → Front (record c { due = RecordHead; left = Some 0; blocks = blocks }) more d
     → Front (record c { due = ListEntry; left = Some (sum_of c.page_size blocks); blocks = [] }) (entries c.page_size blocks tails ++ more) d
-all_entries_front c d [] tails more size some few are small len tailed closed f = absurd (omega arith)
-all_entries_front c d (b ∷ blocks) [] more size some few are small len tailed closed f = absurd (omega (arith, len))
-all_entries_front c d (b ∷ blocks) (tail ∷ tails) more size some few are small len tailed closed f =
-    entries_front c d [] b blocks tail tails more size (omega arith) are small (omega (arith, len)) tailed closed f
+all_entries_front c d [] tails more size some few are small len tailed elsewhere f = absurd (omega arith)
+all_entries_front c d (b ∷ blocks) [] more size some few are small len tailed elsewhere f = absurd (omega (arith, len))
+all_entries_front c d (b ∷ blocks) (tail ∷ tails) more size some few are small len tailed elsewhere f =
+    entries_front c d [] b blocks tail tails more size (omega arith) are small (omega (arith, len)) tailed elsewhere f
 
 -- a total of some pages within the limit passes the test
 fits_limit : (pages total limit : ℕ) → 0 < pages → total ≤ limit → (eqb pages 0 || ltb limit total) ≡ false
@@ -188,10 +188,10 @@ some_pages (b ∷ blocks) are some = omega (arith, sum_by-cons (λ (x : Block). 
 -- A whole size list, in front of all that is left.
 pub tailed_front : (c d : StreamProgress) (table : RamTable) (tails : List (List ℕ)) (more : List ℕ) → IsTable table
     → total_bytes table ≤ c.limit → length tails ≡ length table.blocks → AllByRecursion (IsTail c.form) tails
-    → d.due ≡ Nothing → Front (record c { page_size = table.page_size; due = RecordHead; left = Some 0; blocks = table.blocks }) more d
+    → IsElsewhere d.due → Front (record c { page_size = table.page_size; due = RecordHead; left = Some 0; blocks = table.blocks }) more d
     → Front (record c { page_size = table.page_size; due = RecordHead; left = None; blocks = [] }) (tailed_list table tails ++ more) d
 unfolding tailed_list
-tailed_front c d table tails more is fits len tailed closed f =
+tailed_front c d table tails more is fits len tailed elsewhere f =
     let h : StreamProgress = record c { page_size = table.page_size; left = None; blocks = [] } in
     let total : ℕ = total_bytes table in
     let few : total ≤ 2 ^ 40 = is.has_room in
@@ -200,7 +200,7 @@ tailed_front c d table tails more is fits len tailed closed f =
     let free = ap (λ (x : Bool). first_of ((false, fault.SizePlace) ∷ (x, fault.Total) ∷ [])) (fits_limit (total_pages table.blocks) total c.limit some fits) in
     let head = head_front h SizeList (total_pages table.blocks) is.has_page_size (omega (arith, flags_small SizeList)) free in
     let sum : total ≡ sum_of table.page_size table.blocks = total_is_sum table in
-    let listed = all_entries_front h d table.blocks tails more is.has_page_size is.has_blocks is.has_few are (omega arith) len tailed closed f in
+    let listed = all_entries_front h d table.blocks tails more is.has_page_size is.has_blocks is.has_few are (omega arith) len tailed elsewhere f in
     let from : StreamProgress = record h { due = RecordHead } in
     let bytes : List ℕ = be64 (total + flags_of SizeList) in
     let mid : Front from bytes (record h { due = ListEntry; left = Some (sum_of table.page_size table.blocks) }) =
@@ -209,9 +209,9 @@ tailed_front c d table tails more is fits len tailed closed f =
 
 -- The size list of RAM alone.
 pub list_front : (c d : StreamProgress) (table : RamTable) (more : List ℕ) → IsTable table → total_bytes table ≤ c.limit
-    → d.due ≡ Nothing → Front (record c { form = Plain; page_size = table.page_size; due = RecordHead; left = Some 0; blocks = table.blocks }) more d
+    → IsElsewhere d.due → Front (record c { form = Plain; page_size = table.page_size; due = RecordHead; left = Some 0; blocks = table.blocks }) more d
     → Front (record c { form = Plain; page_size = table.page_size; due = RecordHead; left = None; blocks = [] }) (size_list table ++ more) d
-list_front c d table more is fits closed f =
+list_front c d table more is fits elsewhere f =
     subst (λ (x : List ℕ). Front (record c {
       form = Plain;
       page_size = table.page_size;
@@ -220,4 +220,4 @@ list_front c d table more is fits closed f =
       blocks = [];
     }) (x ++ more) d) (no_tails_list table)
     (tailed_front (record c { form = Plain }) d table (no_tails table.blocks) more is fits (no_tails_length table.blocks)
-    (no_tails_plain table.blocks) closed f)
+    (no_tails_plain table.blocks) elsewhere f)

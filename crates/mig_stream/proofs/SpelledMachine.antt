@@ -27,6 +27,7 @@ use Rattle.mig_stream.proofs.Modes.{single_kept}
 use Rattle.mig_stream.proofs.SectionRounds.{rounds_read}
 use Rattle.mig_stream.proofs.SpelledItems.{type_front, section_front, header_front, configuration_front, start_front}
 use Rattle.mig_stream.proofs.SpelledRecords.{body_front}
+use Rattle.mig_stream.proofs.NoPageSize.{nothing_elsewhere}
 use Rattle.mig_stream.proofs.SpelledList.{tailed_front}
 use Rattle.mig_stream.proofs.SpelledSections.{FlushesFit-first, FlushesFit-rest, Follow-first, Follow-rest, at_end, part_front}
 use Rattle.mig_stream.proofs.SpelledPassed.{late_command_front, IsOpening, behind_commands, commands_front, subsections_front}
@@ -68,7 +69,7 @@ may_start (Some x) [] = (refl, refl)
 may_start None (x ∷ xs) = start_behind xs
 may_start (Some y) (x ∷ xs) = start_behind xs
 
-opening_front : (c : StreamProgress) (o : Option Configuration) (xs : List Command) (id : ℕ) → is_machine c.frame ≡ true
+pub opening_front : (c : StreamProgress) (o : Option Configuration) (xs : List Command) (id : ℕ) → is_machine c.frame ≡ true
     → IfSome o (IsConfiguration c.page_size) → AllByRecursion IsCommand xs
     → (is_addressed (cond (ignores_shared o) Addressed c.form) ≡ true → list_any is_advise xs ≡ false) → id < 2 ^ 32
     → Front (record c { due = FileHeader }) (file_header ++ configured o ++ flat_map command xs ++ start_head id)
@@ -189,12 +190,13 @@ machine_is_read mode limit text rest table rounds is =
     (tailed_list table is.tails) (body table is.id is.first) (flat_map (part_or_command table is.id) is.others)
     (section table sections.End is.id is.last) in
     let to : StreamProgress = at_end first others in
-    let list = tailed_front begun to table is.tails _ is.has_table is.has_limit is.has_tails is.are_tails refl (Front-append _ _ _ _ _ start_body end) in
+    let list = tailed_front begun to table is.tails _ is.has_table is.has_limit is.has_tails is.are_tails nothing_elsewhere
+    (Front-append _ _ _ _ _ start_body end) in
     let leads : Front from text to = subst (λ (x : List ℕ). Front from x to) (sym spelled) (Front-append _ _ _ _ _ opening list) in
     record {
       to = to;
       rest = rest;
-      reads = record { front = text; has_text = refl; leads = leads; ends = refl };
+      reads = record { front = text; has_text = refl; leads = leads; ends = inl refl };
       has_table = refl;
       has_rounds = sym told.2;
     }

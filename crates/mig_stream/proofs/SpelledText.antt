@@ -1,5 +1,5 @@
 -- A complete stream is read as it is spelled, and so no bytes have two prefixes that are streams.
-use Rattle.std.proofs.Common.{◌≡◌, ℕ, Bool, true, List, [], ◌∷◌, ◌++◌, Some, None, refl, sym, ap, subst, ◌∙◌, append_assoc}
+use Rattle.std.proofs.Common.{◌≡◌, ℕ, Bool, true, List, [], ◌∷◌, ◌++◌, Some, None, refl, sym, ap, subst, ◌∙◌, append_assoc, inl}
 use Rattle.std.specs.List.{flat_map}
 use Rattle.std.proofs.lemmas.List.{append_cancel_right}
 use Rattle.mig_mem.specs.RamTable.{RamTable}
@@ -22,6 +22,7 @@ use Rattle.mig_stream.specs.Items.{is_single}
 use Rattle.mig_stream.proofs.SectionRounds.{rounds_read}
 use Rattle.mig_stream.proofs.SpelledItems.{opening_front}
 use Rattle.mig_stream.proofs.SpelledRecords.{body_front}
+use Rattle.mig_stream.proofs.NoPageSize.{nothing_elsewhere}
 use Rattle.mig_stream.proofs.SpelledList.{list_front}
 use Rattle.mig_stream.proofs.SpelledSections.{FlushesFit-first, FlushesFit-rest, Follow-first, Follow-rest, at_end, sections_front}
 
@@ -58,7 +59,7 @@ text_is_read mode limit text table rounds is =
     let end = sections_front first is.parts is.last refl is.has_table is.has_id refl fit (Follow-rest table None is.first behind follow) told.1 in
     let parts : List ℕ = flat_map (section table sections.Part is.id) is.parts in
     let to : StreamProgress = at_end first others in
-    let list = list_front begun to table _ is.has_table is.has_limit refl (Front-append _ _ _ _ _ start_body end) in
+    let list = list_front begun to table _ is.has_table is.has_limit nothing_elsewhere (Front-append _ _ _ _ _ start_body end) in
     let spelled = is.is_spelled ∙ regroup file_header (configuration is.name) (start_head is.id) (size_list table)
     (body table is.id is.first) parts (section table sections.End is.id is.last) (end_byte ∷ []) in
     record {
@@ -73,7 +74,7 @@ text_is_read mode limit text table rounds is =
 text_reads : (mode : Mode) (limit : ℕ) (text rest : List ℕ) (table : RamTable) (rounds : List (List PageRecord))
     → (is : IsReadWhole mode limit text table rounds)
     → Reads (start Ram mode table.page_size limit None) (text ++ rest) is.to rest Closed
-text_reads mode limit text rest table rounds is = record { front = text; has_text = refl; leads = is.leads; ends = is.is_closed }
+text_reads mode limit text rest table rounds is = record { front = text; has_text = refl; leads = is.leads; ends = inl is.is_closed }
 
 -- Whatever is spelled is read so.
 pub spelled_law : SpelledIsRead

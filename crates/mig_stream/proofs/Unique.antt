@@ -1,13 +1,15 @@
 -- A stream has one reading.
-use Rattle.std.proofs.Common.{◌≡◌, ℕ, List, [], ◌∷◌, ◌++◌, length, take, drop, Some, None, refl, sym, ap, subst, ◌∙◌, append_assoc}
+use Rattle.std.proofs.Common.{◌≡◌, ℕ, true, false, inl, inr, List, [], ◌∷◌, ◌++◌, length, take, drop, Some, None, refl, sym, ap, subst, ◌∙◌, append_assoc}
 use Rattle.std.specs.List.{concat}
 use Rattle.std.proofs.lemmas.List.{take_at, drop_at}
 use Rattle.mig_stream.specs.declared.item.Due.{Due}
 use Rattle.mig_stream.specs.declared.item.StreamState.{StreamState}
 use Rattle.mig_stream.specs.declared.item.StreamState.TheVariants.{Reading, Closed, Bad}
+use Rattle.mig_stream.specs.declared.fault.StreamFault.{StreamFault}
 use Rattle.mig_stream.specs.Progress.{StreamProgress}
-use Rattle.mig_stream.specs.Items.{size, first_fault, after}
-use Rattle.mig_stream.specs.Reading.{IsItem, AreFaultless, after_all, Ends, Reads}
+use Rattle.mig_stream.specs.Items.{size, first_fault, is_over, after}
+use Rattle.mig_stream.specs.Reading.{IsItem, AreFaultless, after_all, IsOver, Ends, Reads}
+use Rattle.mig_stream.proofs.Stopping.{over_fault}
 use Rattle.mig_stream.proofs.Fronts.{size-append}
 
 -- of two items at one place one is the other
@@ -20,22 +22,36 @@ one_item p d a b x y i j e =
 -- if a free item stands, a stream doesn't end
 pub no_end : (c : StreamProgress) (item x rest : List ℕ) (s : StreamState) → IsItem c.page_size c.due item
     → first_fault c item ≡ None → rest ≡ item ++ x → Ends c rest s → ⊥
-no_end c item x rest Closed is free e end = is.is_due end
+no_end c item x rest Closed is free e (inl end) = is.is_due end
+no_end c item x rest Closed is free e (inr end) =
+    let same = one_item c.page_size c.due item end.0 x end.1 is end.3 (sym e ∙ end.2) in
+    let two : first_fault c end.0 ≡ None = ap (first_fault c) (sym same.0) ∙ free in
+    absurd (let clash = sym two ∙ over_fault c end.0 end.4 in cc)
 no_end c item x rest Reading is free e end = end.1 item x e is
 no_end c item x rest (Bad f) is free e end =
     let same = one_item c.page_size c.due item end.0 x end.1 is end.3 (sym e ∙ end.2) in
     let two : first_fault c end.0 ≡ None = ap (first_fault c) (sym same.0) ∙ free in
     absurd (let clash = sym two ∙ end.4 in cc)
 
+-- RAM isn't over before an item at fault
+over_bad : (c : StreamProgress) (x : List ℕ) (f : StreamFault) → IsOver c x → Ends c x (Bad f) → ⊥
+over_bad c x f a b =
+    let same = one_item c.page_size c.due a.0 b.0 a.1 b.1 a.3 b.3 (sym a.2 ∙ b.2) in
+    absurd (let clash : true ≡ false = sym a.4 ∙ ap (is_over c) same.0 ∙ b.5 in cc)
+
 one_end : (c : StreamProgress) (x : List ℕ) (s t : StreamState) → Ends c x s → Ends c x t → s ≡ t
 one_end c x Reading Reading a b = refl
-one_end c x Reading Closed a b = absurd (a.0 b)
+one_end c x Reading Closed a (inl b) = absurd (a.0 b)
+one_end c x Reading Closed a (inr b) = absurd (a.1 b.0 b.1 b.2 b.3)
 one_end c x Reading (Bad f) a b = absurd (a.1 b.0 b.1 b.2 b.3)
-one_end c x Closed Reading a b = absurd (b.0 a)
+one_end c x Closed Reading (inl a) b = absurd (b.0 a)
+one_end c x Closed Reading (inr a) b = absurd (b.1 a.0 a.1 a.2 a.3)
 one_end c x Closed Closed a b = refl
-one_end c x Closed (Bad f) a b = absurd (b.3.is_due a)
+one_end c x Closed (Bad f) (inl a) b = absurd (b.3.is_due a)
+one_end c x Closed (Bad f) (inr a) b = absurd (over_bad c x f a b)
 one_end c x (Bad f) Reading a b = absurd (b.1 a.0 a.1 a.2 a.3)
-one_end c x (Bad f) Closed a b = absurd (a.3.is_due b)
+one_end c x (Bad f) Closed a (inl b) = absurd (a.3.is_due b)
+one_end c x (Bad f) Closed a (inr b) = absurd (over_bad c x f b a)
 one_end c x (Bad f) (Bad g) a b =
     let same = one_item c.page_size c.due a.0 b.0 a.1 b.1 a.3 b.3 (sym a.2 ∙ b.2) in
     let faults : first_fault c b.0 ≡ Some f = ap (first_fault c) (sym same.0) ∙ a.4 in

@@ -1,5 +1,5 @@
 -- A stream that a limit doesn't refuse is read as without it.
-use Rattle.std.proofs.Common.{◌≡◌, ◌≢◌, ◌%◌, ◌/◌, eqb, ℕ, Bool, true, false, cond, List, [], ◌∷◌, Option, Some, None, refl, sym, ap, subst, ◌∙◌}
+use Rattle.std.proofs.Common.{◌≡◌, ◌≢◌, ◌%◌, ◌/◌, eqb, ℕ, Bool, true, false, cond, List, [], ◌∷◌, Option, Some, None, refl, sym, ap, subst, ◌∙◌, inl, inr}
 use Rattle.std.specs.Prelude.{not, is_none, slice_index}
 use Rattle.mig_mem.specs.First.{first_of}
 use Rattle.mig_stream.specs.declared.item.Mode.{Mode}
@@ -157,7 +157,8 @@ freed_front c d bytes f = record {
 }
 
 freed_ends : (c : StreamProgress) (rest : List ℕ) (s : StreamState) → s ≢ Bad Waiting → Ends c rest s → Ends (freed c) rest s
-freed_ends c rest Closed other e = e
+freed_ends c rest Closed other (inl e) = inl e
+freed_ends c rest Closed other (inr e) = inr (e.0, e.1, e.2, record { is_due = e.3.is_due; is_whole = e.3.is_whole }, e.4)
 freed_ends c rest Reading other e = (e.0, λ item more is whole. e.1 item more is (record { is_due = whole.is_due; is_whole = whole.is_whole }))
 freed_ends c rest (Bad f) other e = (
   e.0,
@@ -165,6 +166,7 @@ freed_ends c rest (Bad f) other e = (
   e.2,
   record { is_due = e.3.is_due; is_whole = e.3.is_whole },
   freed_faults c c.due e.0 (Some f) e.4 (λ o. other (let same : f ≡ Waiting = cc in ap (λ (g : StreamFault). Bad g) same)),
+  e.5,
 )
 
 -- a reading without the limit's fault is the one without a limit

@@ -1,17 +1,15 @@
 -- The valid prefix of a stream: its length is one number, which more bytes can only increase.
-use Rattle.std.proofs.Common.{◌≡◌, ◌≢◌, ℕ, ◌≤◌, ◌+◌, List, [], ◌∷◌, ◌++◌, length, false, inl, inr, refl, sym, ap, subst, ◌∙◌, append_assoc, arith}
+use Rattle.std.proofs.Common.{◌≡◌, ◌≢◌, ℕ, ◌≤◌, ◌+◌, List, [], ◌∷◌, ◌++◌, length, false, refl, sym, ap, subst, ◌∙◌, append_assoc, arith}
 use Rattle.std.specs.List.{concat}
-use Rattle.std.proofs.lemmas.Bool.{cases_lt}
 use Rattle.std.proofs.lemmas.List.{length-append}
 use Rattle.mig_mem.proofs.PageSizes.{page_size_some}
 use Rattle.mig_stream.specs.declared.item.StreamState.{StreamState}
-use Rattle.mig_stream.specs.declared.item.StreamState.TheVariants.{Reading, Closed, Bad}
+use Rattle.mig_stream.specs.declared.item.StreamState.TheVariants.{Reading, Bad}
 use Rattle.mig_stream.specs.Progress.{StreamProgress, start}
 use Rattle.mig_stream.specs.Items.{after}
 use Rattle.mig_stream.specs.Reading.{Settings, AreFaultless, after_all, Ends, Reads, IsReading}
-use Rattle.mig_stream.specs.Reader.{HasState, IsFinal, HasFront, IsValidUpTo, IsClosedAt}
+use Rattle.mig_stream.specs.Reader.{HasState, IsFinal, HasFront, IsValidUpTo}
 use Rattle.mig_stream.specs.Law.{IsValidUpToOnePlace, LongerTextsStayValid, ClosedIsValid, BadIsValidBefore}
-use Rattle.mig_stream.proofs.Closing.{closed_by}
 use Rattle.mig_stream.proofs.Exists.{reads_from}
 use Rattle.mig_stream.proofs.Later.{Reads-more}
 use Rattle.mig_stream.proofs.Unique.{one_item, no_end, one_reading}
@@ -125,31 +123,9 @@ stays_valid = λ given text more m n v w. (
 
 -- ---- a stream that has ended
 
-valid_closed : (given : Settings) (text : List ℕ) (n : ℕ) → HasState given text false Closed → IsValidUpTo given text n → IsClosedAt given text n
-valid_closed given text n h v =
-    closed_by given text v.to v.rest n (subst (λ (s : StreamState). Reads (from given) text v.to v.rest s)
-    (same_state given text n Closed v h) v.reads) (all_bytes given text n v)
-
--- a stream is closed at one place
-one_close : (given : Settings) (text : List ℕ) (m n : ℕ) → IsClosedAt given text m → IsClosedAt given text n → m ≡ n
-one_close given text m n a b =
-    elim (cases_lt m n) [
-      | inl lt ↦ absurd (b.is_first m lt a.is_closed)
-      | inr le ↦ elim (cases_lt n m) [
-        | inl lt ↦ absurd (a.is_first n lt b.is_closed)
-        | inr ge ↦ omega (arith, le, ge)
-      ]
-    ]
-
 -- a closed stream is valid up to the byte at which it is closed
 pub closed_is_valid : ClosedIsValid
-closed_is_valid = λ given text n h.
-    let is : IsReading given text h.0 = h.1 in
-    let k : ℕ = length is.reads.front in
-    let v : IsValidUpTo given text k = record { to = is.to; rest = is.rest; state = h.0.state; reads = is.reads; has_length = refl } in (
-      λ w. valid_closed given text n h w,
-      λ c. subst (IsValidUpTo given text) (one_close given text k n (valid_closed given text k h v) c) v,
-    )
+closed_is_valid = λ given text n h. (λ v. record { is_closed = h; is_valid_up_to = v }, λ c. c.is_valid_up_to)
 
 -- a bad stream is valid up to the item at fault
 pub bad_is_valid_before : BadIsValidBefore

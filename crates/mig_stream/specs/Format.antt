@@ -28,6 +28,10 @@ section_type Start = 0x01
 section_type Part = 0x02
 section_type End = 0x03
 
+-- QEMU_VM_SECTION_FULL, a device's section that is complete at once
+abbrev pub full_type : ℕ
+full_type = 0x04
+
 -- QEMU_VM_SUBSECTION
 abbrev pub subsection_type : ℕ
 subsection_type = 0x05

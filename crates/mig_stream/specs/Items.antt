@@ -30,7 +30,7 @@ use Rattle.mig_stream.specs.declared.item.PassedItem.TheVariants.{Command, Subse
 use Rattle.mig_stream.specs.declared.item.Due.{Due}
 use Rattle.mig_stream.specs.declared.item.Due.TheVariants.{FileHeader, TypeByte, ConfigLength, ConfigName, StartHead, SectionHead, RecordHead, ListEntry, PageSize, BlockName, Content, Footer, Passed, Nothing}
 use Rattle.mig_stream.specs.Fields.{be16_at, be32_at, be64_at}
-use Rattle.mig_stream.specs.Format.{magic, version, end_byte, section_type, subsection_type, command_type, configuration_type, footer_type, subsection_name, subsections, subsection_version, ignore_shared, mapped_ram, advise_command, advise_bytes, least_page_size, passed_commands, ram_name, ram_instance, ram_version, flags_of, record_kinds, most_name_bytes}
+use Rattle.mig_stream.specs.Format.{magic, version, end_byte, section_type, full_type, subsection_type, command_type, configuration_type, footer_type, subsection_name, subsections, subsection_version, ignore_shared, mapped_ram, advise_command, advise_bytes, least_page_size, passed_commands, ram_name, ram_instance, ram_version, flags_of, record_kinds, most_name_bytes}
 use Rattle.mig_stream.specs.PageRecord.{PageRecord}
 use Rattle.mig_stream.specs.Progress.{StreamProgress}
 
@@ -121,6 +121,21 @@ may_pass before.LastFooter byte = false
 
 abbrev pub is_passed : Frame → Before → ℕ → Bool
 is_passed frame before byte = may_pass before byte && is_machine frame
+
+abbrev pub is_part : Section → Bool
+is_part section.Start = false
+is_part section.Part = true
+is_part section.End = false
+
+-- A background snapshot is a machine's single stream without END: RAM is over before the type byte
+-- of a device's section that stands where a PART or END may begin, after at least one PART.
+abbrev pub ends_before : Frame → Mode → Section → Due → List ℕ → Bool
+ends_before frame mode kind (TypeByte before.Footer) item = (is_machine frame && is_single mode) && (is_part kind && slice_index item 0 == full_type)
+ends_before frame mode kind other item = false
+
+-- RAM is over before this item
+abbrev pub is_over : StreamProgress → List ℕ → Bool
+is_over c item = ends_before c.frame c.mode c.section c.due item
 
 -- the footer of this section closes the stream
 abbrev pub closes : Frame → Section → Bool

@@ -1,5 +1,5 @@
 -- Relations of streams and their readings.
-use Rattle.std.specs.Prelude.{◌≡◌, ◌≢◌, ◌↔◌, ℕ, ◌≤◌, ◌<◌, ◌^◌, false, List, [], ◌∷◌, ◌++◌, length, map, replicate, Some, None, All}
+use Rattle.std.specs.Prelude.{◌≡◌, ◌≢◌, ◌↔◌, ◌⊎◌, ℕ, ◌+◌, ◌≤◌, ◌<◌, ◌^◌, false, List, [], ◌∷◌, ◌++◌, length, map, replicate, slice_index, take, Some, None, All}
 use Rattle.mig_mem.specs.PageSize.{IsPageSize}
 use Rattle.mig_mem.specs.RamTable.{RamTable, IsTable}
 use Rattle.mig_mem.specs.Image.{Page}
@@ -15,7 +15,8 @@ use Rattle.mig_stream.specs.Items.{first_fault}
 use Rattle.mig_stream.specs.Reading.{Settings, settings, in_frame, IsItem, Front, StreamReading, IsReading}
 use Rattle.mig_stream.specs.Reader.{HasState, IsFinal, HasFront, IsValidUpTo, IsClosedAt}
 use Rattle.mig_stream.specs.Text.{IsText, total_bytes}
-use Rattle.mig_stream.specs.Machine.{IsMachineText}
+use Rattle.mig_stream.specs.Format.{full_type}
+use Rattle.mig_stream.specs.Machine.{IsMachineText, IsSnapshotText}
 use Rattle.mig_stream.specs.Written.{written_record, single, main}
 
 -- the reading of a stream that was read to its end
@@ -64,18 +65,34 @@ abbrev pub MachineIsRead : Type 0
 MachineIsRead = (mode : Mode) (limit : ℕ) (text rest : List ℕ) (table : RamTable) (rounds : List (List PageRecord))
     → IsMachineText mode limit text table rounds → IsReading (in_frame Machine (settings mode table.page_size limit)) (text ++ rest) (closed table rounds)
 
--- Bytes that are read to the footer of RAM's END begin with that machine's stream.
+-- A prefix of these bytes is the RAM of a background snapshot, of this table and these rounds, and
+-- the first device's section follows it.
+abbrev pub HasSnapshot : Mode → ℕ → List ℕ → RamTable → List (List PageRecord) → Type 0
+HasSnapshot mode limit bytes table rounds = (text rest : List ℕ) × (bytes ≡ text ++ full_type ∷ rest) × IsSnapshotText mode limit text table rounds
+
+-- The RAM of a background snapshot is read as that, whatever device's section follows it.
+abbrev pub SnapshotIsRead : Type 0
+SnapshotIsRead = (mode : Mode) (limit : ℕ) (text rest : List ℕ) (table : RamTable) (rounds : List (List PageRecord))
+    → IsSnapshotText mode limit text table rounds
+    → IsReading (in_frame Machine (settings mode table.page_size limit)) (text ++ full_type ∷ rest) (closed table rounds)
+
+-- a prefix of these bytes has a machine's RAM, of this table and these rounds, up to its end
+abbrev pub HasMachineRam : Mode → ℕ → List ℕ → RamTable → List (List PageRecord) → Type 0
+HasMachineRam mode limit bytes table rounds = HasMachineText mode limit bytes table rounds ⊎ HasSnapshot mode limit bytes table rounds
+
+-- Bytes that are read to the end of RAM begin with that machine's stream, or with that background
+-- snapshot.
 abbrev pub MachineReadIsSpelled : Type 0
 MachineReadIsSpelled = (given : Settings) (bytes : List ℕ) (reading : StreamReading) → given.frame ≡ Machine
     → IsPageSize given.page_size → given.limit ≤ 2 ^ 40 → All (λ byte. byte < 2 ^ 8) bytes → IsReading given bytes reading → reading.state ≡ Closed
-    → (table : RamTable) × (table.page_size ≡ given.page_size) × (reading.table ≡ Some table) × HasMachineText given.mode given.limit bytes table reading.rounds
+    → (table : RamTable) × (table.page_size ≡ given.page_size) × (reading.table ≡ Some table) × HasMachineRam given.mode given.limit bytes table reading.rounds
 
--- Bytes are read to that footer exactly if a prefix of them is a machine's stream of that table and
--- those rounds.
+-- Bytes are read to the end of RAM exactly if a prefix of them is a machine's stream, or a
+-- background snapshot, of that table and those rounds.
 abbrev pub MachineClosedIsText : Type 0
 MachineClosedIsText = (mode : Mode) (limit : ℕ) (bytes : List ℕ) (table : RamTable) (rounds : List (List PageRecord))
     → IsPageSize table.page_size → limit ≤ 2 ^ 40 → All (λ byte. byte < 2 ^ 8) bytes
-    → IsReading (in_frame Machine (settings mode table.page_size limit)) bytes (closed table rounds) ↔ HasMachineText mode limit bytes table rounds
+    → IsReading (in_frame Machine (settings mode table.page_size limit)) bytes (closed table rounds) ↔ HasMachineRam mode limit bytes table rounds
 
 -- The bytes that a writer writes of rounds are a single stream of them, with an empty round for
 -- START and for END.
@@ -132,6 +149,17 @@ LongerTextsStayValid = (given : Settings) (text more : List ℕ) (m n : ℕ) →
 -- A closed stream is valid up to the byte at which it is closed.
 abbrev pub ClosedIsValid : Type 0
 ClosedIsValid = (given : Settings) (text : List ℕ) (n : ℕ) → HasState given text false Closed → IsValidUpTo given text n ↔ IsClosedAt given text n
+
+-- A stream that is closed at a byte is closed by the bytes before it, and by no fewer. A background
+-- snapshot is closed by these and the type byte of the first device's section.
+pub record IsClosedBy (given : Settings) (text : List ℕ) (n : ℕ) : Type 0 where
+  pub fits : n ≤ length text
+  pub is_closed : HasState given (take n text) false Closed
+      ⊎ ((given.frame ≡ Machine) × (given.mode ≡ Single) × (slice_index text n ≡ full_type) × HasState given (take (n + 1) text) false Closed)
+  pub is_first : (m : ℕ) → m < n → HasState given (take m text) false Closed → ⊥
+
+abbrev pub ClosedIsFirst : Type 0
+ClosedIsFirst = (given : Settings) (text : List ℕ) (n : ℕ) → IsClosedAt given text n → IsClosedBy given text n
 
 -- the first n bytes are complete items without a fault, and the complete item after them has this
 -- fault

@@ -1,11 +1,13 @@
 -- Machines' streams, as QEMU writes them, up to the footer of RAM's END
 -- (`qemu_savevm_state_header`, `vmstate_configuration` and `qemu_savevm_command_send` in
--- `migration/savevm.c`).
+-- `migration/savevm.c`). A background snapshot (`bg_migration_thread` in `migration/migration.c`)
+-- has no END: RAM is over where the first device's section begins.
 use Rattle.std.specs.Prelude.{◌≡◌, ◌⊎◌, ℕ, ◌+◌, ◌%◌, ◌<◌, ◌≤◌, ◌^◌, Bool, true, false, if◌then◌else◌, List, [], ◌∷◌, ◌++◌, length, Option, None, Some, IfSome, ⊤}
 use Rattle.std.specs.List.{flat_map, list_any, AllByRecursion}
 use Rattle.std.specs.Str.{bytes_eq}
 use Rattle.mig_mem.specs.RamTable.{Block, RamTable, IsTable}
 use Rattle.mig_stream.specs.declared.item.Mode.{Mode}
+use Rattle.mig_stream.specs.declared.item.Mode.TheVariants.{Single}
 use Rattle.mig_stream.specs.declared.item.Section.TheVariants.{Part, End}
 use Rattle.mig_stream.specs.declared.item.Subsection.{Subsection}
 use Rattle.mig_stream.specs.declared.item.Subsection.TheVariants as kind
@@ -184,3 +186,11 @@ pub record IsMachineText (mode : Mode) (limit : ℕ) (text : List ℕ) (table : 
   pub are_others : AllByRecursion IsPartOrCommand others
   pub follow : Follow table None (first ++ all_records (parts_of others) ++ last)
   pub has_rounds : AreRounds mode (first ∷ parts_of others ++ last ∷ []) rounds
+
+-- The bytes are the RAM of a background snapshot: with an END of no records after them they are a
+-- machine's single stream. Beside START there is a PART. The stream itself has no END.
+pub record IsSnapshotText (mode : Mode) (limit : ℕ) (text : List ℕ) (table : RamTable) (rounds : List (List PageRecord)) : Type 0 where
+  pub id : ℕ
+  pub is_single : mode ≡ Single
+  pub with_end : IsMachineText mode limit (text ++ section table End id []) table (rounds ++ [] ∷ [])
+  pub has_part : 2 ≤ length rounds

@@ -1,5 +1,5 @@
 -- The state of a reader, and the bytes that it represents.
-use Rattle.std.specs.Prelude.{◌≡◌, ◌≢◌, ℕ, ◌+◌, ◌<◌, ◌≤◌, Bool, true, false, List, [], ◌++◌, length, take, slice_index_or, Option, Some, None}
+use Rattle.std.specs.Prelude.{◌≡◌, ◌≢◌, ℕ, ◌+◌, ◌<◌, Bool, true, false, List, [], ◌++◌, length, slice_index_or, Option, Some, None}
 use Rattle.mig_mem.specs.RamTable.{RamTable}
 use Rattle.mig_stream.specs.declared.item.StreamState.{StreamState}
 use Rattle.mig_stream.specs.declared.item.StreamState.TheVariants.{Reading, Closed}
@@ -95,12 +95,6 @@ HasState given text ended state = (reading : StreamReading) × IsReading given t
 abbrev pub IsFinal : Settings → List ℕ → Type 0
 IsFinal given text = (reading : StreamReading) × IsReading given text reading × (reading.state ≢ Reading)
 
--- The stream is closed by its first n bytes, and by no fewer.
-pub record IsClosedAt (given : Settings) (text : List ℕ) (n : ℕ) : Type 0 where
-  pub fits : n ≤ length text
-  pub is_closed : HasState given (take n text) false Closed
-  pub is_first : (m : ℕ) → m < n → HasState given (take m text) false Closed → ⊥
-
 -- The first n bytes of the stream are complete items without a fault.
 pub record HasFront (given : Settings) (text : List ℕ) (n : ℕ) : Type 0 where
   pub to : StreamProgress
@@ -118,6 +112,12 @@ pub record IsValidUpTo (given : Settings) (text : List ℕ) (n : ℕ) : Type 0 w
   pub state : StreamState
   pub reads : Reads (start given.frame given.mode given.page_size given.limit given.waiting) text to rest state
   pub has_length : length reads.front ≡ n
+
+-- The stream is closed, and its first n bytes are the ones that belong to it. What follows them is
+-- left.
+pub record IsClosedAt (given : Settings) (text : List ℕ) (n : ℕ) : Type 0 where
+  pub is_closed : HasState given text false Closed
+  pub is_valid_up_to : IsValidUpTo given text n
 
 -- where the stream is closed, if it is
 abbrev pub HasClosedAt : Settings → List ℕ → Option ℕ → Type 0

@@ -1,6 +1,6 @@
 -- The reading of a stream: its longest front of complete items without a fault, and its state after
 -- it.
-use Rattle.std.specs.Prelude.{◌≡◌, ◌≢◌, ℕ, Bool, true, false, List, [], ◌∷◌, ◌++◌, length, Option, Some, None, ⊤}
+use Rattle.std.specs.Prelude.{◌≡◌, ◌≢◌, ◌⊎◌, ℕ, Bool, true, false, if◌then◌else◌, List, [], ◌∷◌, ◌++◌, length, Option, Some, None, ⊤}
 use Rattle.std.specs.List.{concat}
 use Rattle.mig_mem.specs.RamTable.{RamTable}
 use Rattle.mig_stream.specs.declared.item.Frame.{Frame}
@@ -10,10 +10,11 @@ use Rattle.mig_stream.specs.declared.item.Due.{Due}
 use Rattle.mig_stream.specs.declared.item.Due.TheVariants.{Nothing}
 use Rattle.mig_stream.specs.declared.item.StreamState.{StreamState}
 use Rattle.mig_stream.specs.declared.item.StreamState.TheVariants.{Reading, Closed, Bad}
+use Rattle.mig_stream.specs.declared.fault.StreamFault.{StreamFault}
 use Rattle.mig_stream.specs.declared.fault.StreamFault.TheVariants.{Truncated}
 use Rattle.mig_stream.specs.PageRecord.{PageRecord}
 use Rattle.mig_stream.specs.Progress.{StreamProgress, start, whole_table}
-use Rattle.mig_stream.specs.Items.{size, first_fault, after}
+use Rattle.mig_stream.specs.Items.{size, first_fault, is_over, after}
 
 -- these bytes are one complete item
 pub record IsItem (page_size : ℕ) (due : Due) (item : List ℕ) : Type 0 where
@@ -36,12 +37,21 @@ pub record Front (from : StreamProgress) (bytes : List ℕ) (to : StreamProgress
   pub are_faultless : AreFaultless from items
   pub leads_to : to ≡ after_all from items
 
--- The state of a stream in which these bytes follow a front: closed after its end, bad if a
--- complete item with a fault follows, and else not complete.
+-- a complete item follows before which RAM is over
+abbrev pub IsOver : StreamProgress → List ℕ → Type 0
+IsOver c rest = (item more : List ℕ) × (rest ≡ item ++ more) × IsItem c.page_size c.due item × (is_over c item ≡ true)
+
+-- The state of a stream in which these bytes follow a front: closed after its end, or where RAM is
+-- over; bad if another complete item with a fault follows; and else not complete.
 abbrev pub Ends : StreamProgress → List ℕ → StreamState → Type 0
-Ends c rest Closed = c.due ≡ Nothing
-Ends c rest (Bad fault) = (item more : List ℕ) × (rest ≡ item ++ more) × IsItem c.page_size c.due item × (first_fault c item ≡ Some fault)
+Ends c rest Closed = (c.due ≡ Nothing) ⊎ IsOver c rest
+Ends c rest (Bad fault) =
+    (item more : List ℕ) × (rest ≡ item ++ more) × IsItem c.page_size c.due item × (first_fault c item ≡ Some fault) × (is_over c item ≡ false)
 Ends c rest Reading = (c.due ≢ Nothing) × ((item more : List ℕ) → rest ≡ item ++ more → IsItem c.page_size c.due item → ⊥)
+
+-- the state of a stream whose next item has this fault
+abbrev pub stopped : StreamProgress → List ℕ → StreamFault → StreamState
+stopped c item fault = if is_over c item then Closed else Bad fault
 
 -- a stream is read up to `to`, with these bytes left, and has this state
 pub record Reads (from : StreamProgress) (text : List ℕ) (to : StreamProgress) (rest : List ℕ) (state : StreamState) : Type 0 where

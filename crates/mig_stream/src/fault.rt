@@ -57,7 +57,7 @@ pub enum StreamFault {
     /// A main stream ends after a page record that no FLUSH follows.
     Tail,
     /// The stream ended before its end byte, or in a machine's stream before the footer of RAM's
-    /// END.
+    /// END, or the first device's section of a background snapshot.
     Truncated,
     /// A subsection of the configuration has an unknown name, or a version other than 1.
     Subsection,

@@ -17,6 +17,8 @@ pub(crate) const QEMU_VM_SECTION_PART: u8 = 0x02;
 
 pub(crate) const QEMU_VM_SECTION_END: u8 = 0x03;
 
+pub(crate) const QEMU_VM_SECTION_FULL: u8 = 0x04;
+
 pub(crate) const QEMU_VM_SUBSECTION: u8 = 0x05;
 
 pub(crate) const QEMU_VM_CONFIGURATION: u8 = 0x07;

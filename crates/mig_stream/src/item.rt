@@ -36,6 +36,10 @@ pub enum Frame {
     /// stream is closed by the footer of RAM's END, and the bytes after it, the devices' sections,
     /// are left to the caller.
     ///
+    /// A background snapshot has no END. So a single stream with at least one PART is closed, too,
+    /// where the type byte of a device's section stands in place of a PART's or END's
+    /// (`QEMU_VM_SECTION_FULL`). That byte is left to the caller with those after it.
+    ///
     /// A COMMAND has up to 65,539 bytes after its type byte. If pieces cut it, a reader keeps the
     /// bytes so far.
     Machine,
@@ -46,7 +50,8 @@ pub enum Frame {
 pub enum StreamState {
     /// More bytes are needed.
     Reading,
-    /// The end byte was read, or in a machine's stream the footer of RAM's END.
+    /// The end byte was read, or in a machine's stream the footer of RAM's END; or a background
+    /// snapshot has come to its first device's section.
     Closed,
     /// The stream has a fault.
     Bad(StreamFault),

@@ -9,7 +9,7 @@ ghost use Rattle.mig_stream.specs.Law.{HasOneReading, SpelledIsRead, ReadIsSpell
 ghost use Rattle.mig_stream.specs.Flushed.{SectionsAreFlushed, SectionsHaveNoTail, SectionsAreMore};
 ghost use Rattle.mig_stream.specs.Limited.{WaitingIsBounded, FullRoundIsRefused, LimitOnlyRefuses, LimitLetsThrough};
 ghost use Rattle.mig_stream.specs.Shown.{ShownIsOneOfBoth, MachineShownIsOneOfBoth, FlushIsShown, MachineFlushIsShown, EosIsShown, MachineEosIsShown};
-ghost use Rattle.mig_stream.specs.Law.{IsValidUpToOnePlace, LongerTextsStayValid, ClosedIsValid, BadIsValidBefore};
+ghost use Rattle.mig_stream.specs.Law.{IsValidUpToOnePlace, LongerTextsStayValid, ClosedIsValid, ClosedIsFirst, BadIsValidBefore};
 ghost use Rattle.mig_stream.specs.Report.{HasReport, HasOneReport, ReportsUpToValid, LongerTextsReportMore};
 
 /// Bytes have exactly one reading. So every reader of them, in any pieces, finds the same table,
@@ -64,16 +64,20 @@ pub fn longer_texts_stay()
 /// A stream is valid up to exactly one byte offset, which `valid_up_to` of each reader returns.
 /// That many of its bytes are complete items without a fault, and no more are. More bytes can only
 /// increase the offset. Once the stream is closed or bad, it stays: at the end of the stream, or
-/// where the item at fault begins.
+/// where the item at fault begins. A stream is closed by the bytes before that offset, and by no
+/// fewer; a background snapshot by these and the type byte of the first device's section.
 pub fn text_is_valid_up_to_one_place()
     ensures one { IsValidUpToOnePlace }
     ensures longer { LongerTextsStayValid }
     ensures closed { ClosedIsValid }
+    ensures first { ClosedIsFirst }
     ensures bad { BadIsValidBefore }
 {}
 
-/// Bytes are read as a machine's stream to the footer of RAM's END exactly if a prefix of them is
-/// one, of that table and those rounds. Any bytes may follow it.
+/// Bytes are read as a machine's stream to the end of RAM exactly if a prefix of them is one, of
+/// that table and those rounds: up to the footer of RAM's END, whatever bytes follow it. Or the
+/// prefix is the RAM of a background snapshot, which has no END, and the type byte of the first
+/// device's section follows it.
 pub fn machine_closed_is_text()
     ensures { MachineClosedIsText }
 {}

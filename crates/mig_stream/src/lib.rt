@@ -1,6 +1,7 @@
 //! The migration stream: the RAM section of QEMU's stream version 3, alone or as the main stream of
 //! multifd. `Frame::Ram` is that section alone, as `StreamWriter` writes it. `Frame::Machine` is a
-//! complete machine's stream as QEMU writes it, read up to the footer of RAM's END.
+//! complete machine's stream as QEMU writes it, read up to the footer of RAM's END. A background
+//! snapshot has no END, and is read up to its first device's section.
 //!
 //! The definitions are in `specs/`, apart from the code of both directions:
 //!

@@ -5,17 +5,19 @@ ghost use Rattle.std.specs.Option.{option_copied};
 ghost use Rattle.mig_mem.specs.PageSize.{IsPageSize};
 ghost use Rattle.mig_stream.specs.declared.item.Due.TheVariants as due;
 ghost use Rattle.mig_stream.specs.Progress.{StreamProgress, start, whole_table};
-ghost use Rattle.mig_stream.specs.Items.{size, passed_size, less_room};
-ghost use Rattle.mig_stream.specs.Reading.{IsItem, Ends, Reads};
+ghost use Rattle.mig_stream.specs.Items.{size, passed_size, less_room, is_over};
+ghost use Rattle.mig_stream.specs.Reading.{IsItem, Ends, Reads, stopped};
 ghost use Rattle.mig_stream.specs.Taking.{TakesAs, HasTaken, HasTakenTo};
 ghost use Rattle.mig_stream.specs.Entries.{AreListed};
 ghost use Rattle.mig_stream.specs.Kept.{bytes_of, HasShortPlace};
 ghost use Rattle.mig_stream.specs.Later.{checkpoint_of, IsLater, WasSaved};
 ghost use Rattle.mig_stream.specs.Reader.{with_taken};
 
+use crate::StreamFault;
 use crate::entries::Entries;
+use crate::format::QEMU_VM_SECTION_FULL;
 use crate::item::{
-    Due, EntryForm, Filling, Frame, Mode, PassedItem, Section, StreamState, Subsection,
+    Before, Due, EntryForm, Filling, Frame, Mode, PassedItem, Section, StreamState, Subsection,
 };
 use crate::items::less_room;
 use crate::piece::Piece;
@@ -276,7 +278,7 @@ impl<'a, A: Allocator + Copy> Progress<'a, A> {
                     }
                     rest = self.pass_zeros(behind)?;
                 }
-                Err(Stop::Fault(fault)) => return Ok((rest, Some(StreamState::Bad(fault)))),
+                Err(Stop::Fault(fault)) => return Ok((rest, Some(self.stopped(item, fault)))),
                 Err(Stop::Memory) => return Err(NoMemory),
             }
         }
@@ -348,6 +350,35 @@ impl<'a, A: Allocator> Progress<'a, A> {
         match self.due {
             Due::Nothing => true,
             _ => false,
+        }
+    }
+
+    // Returns whether RAM is over before `item`: it is the type byte of a device's section, after a
+    // PART of a background snapshot.
+    pub(crate) fn is_over(&self, item: &[u8]) -> bool
+        ensures { result ≡ is_over self.now item.now }
+    {
+        let is_full = match item.first() {
+            Some(byte) => *byte == QEMU_VM_SECTION_FULL,
+            None => false,
+        };
+        match (self.due, self.section) {
+            (Due::TypeByte(Before::Footer), Section::Part) => {
+                is_full && self.frame == Frame::Machine && self.mode == Mode::Single
+            }
+            _ => false,
+        }
+    }
+
+    // Returns the state of the stream where the next item has this fault: bad, or closed if RAM is
+    // over before that item.
+    pub(crate) fn stopped(&self, item: Piece<'a, '_>, fault: StreamFault) -> StreamState
+        ensures { result ≡ stopped self.now (bytes_of item.entry) fault }
+    {
+        if self.is_over(item.bytes()) {
+            StreamState::Closed
+        } else {
+            StreamState::Bad(fault)
         }
     }
 

@@ -451,8 +451,8 @@ impl<'a, A: Allocator> StreamReader<'a, A> {
     }
 
     /// Returns how many of the bytes fed the stream has, once it is closed: those up to its end
-    /// byte, or in a machine's stream up to the footer of RAM's END. The bytes fed after them are
-    /// left to the caller.
+    /// byte, or in a machine's stream up to the footer of RAM's END, or up to the first device's
+    /// section of a background snapshot. The bytes fed after them are left to the caller.
     pub fn closed_at(&self) -> Option<u64>
         ensures { Tells self.now (λ given so_far. HasClosedAt given so_far.text result) }
     {

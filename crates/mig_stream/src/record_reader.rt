@@ -141,7 +141,8 @@ fn read_pending<'b, A: Allocator + Copy>(
     pending: &mut Vec<u8, A>,
     piece: &'b [u8],
 ) -> Result<(&'b [u8], Option<StreamState>), NoMemory>
-    requires { IsUnfinished progress.old pending.old.items }
+    requires part { IsUnfinished progress.old pending.old.items }
+    requires some { 0 < length pending.old.items }
     ensures taken { IfOk result (λ r. HasTakenTo progress.old (pending.old.items ++ piece.now) (pending.new.items ++ r.0.now) progress.new) }
     ensures stands { IfOk result (λ r. IfSome r.1 (λ found. Ends progress.new (pending.new.items ++ r.0.now) found)) }
     ensures moves { IfOk result (λ r. IfNone r.1 (length (pending.new.items ++ r.0.now) < length (pending.old.items ++ piece.now))) }
@@ -473,7 +474,8 @@ impl<'a, A: Allocator> RecordReader<'a, A> {
     }
 
     /// Returns the bytes after the stream, once `read_on` returned `End(Closed)`: those after its
-    /// end byte, or in a machine's stream those after the footer of RAM's END.
+    /// end byte, or in a machine's stream those after the footer of RAM's END. In a background
+    /// snapshot they begin with the type byte of the first device's section.
     pub fn unread(&self) -> Option<&'a [u8]>
         ensures behind { IfSome result (λ rest. GiverTells self.now (λ given text so_far. IsBehind given text rest.now)) }
         ensures some { self.now.found ≡ Some state.Closed → IsSome result }

@@ -178,7 +178,7 @@ impl<'a, A: Allocator + Copy> Progress<'a, A> {
                     rest = self.pass_zeros(behind)?;
                     report.skip(len - rest.bytes().len());
                 }
-                Err(Stop::Fault(fault)) => return Ok((rest, Some(StreamState::Bad(fault)))),
+                Err(Stop::Fault(fault)) => return Ok((rest, Some(self.stopped(item, fault)))),
                 Err(Stop::Memory) => return Err(NoMemory),
             }
         }
@@ -194,7 +194,8 @@ pub(crate) fn read_pending_reporting<'b, A: Allocator + Copy>(
     piece: &'b [u8],
     report: &mut Report<A>,
 ) -> Result<(&'b [u8], Option<StreamState>), NoMemory>
-    requires { IsUnfinished progress.old pending.old.items }
+    requires part { IsUnfinished progress.old pending.old.items }
+    requires some { 0 < length pending.old.items }
     ensures reports { IfOk result (λ r. ReportsTo progress.old (pending.old.items ++ piece.now) (pending.new.items ++ r.0.now) progress.new report.old report.new) }
     ensures stands { IfOk result (λ r. IfSome r.1 (λ found. Ends progress.new (pending.new.items ++ r.0.now) found)) }
     ensures moves { IfOk result (λ r. IfNone r.1 (length (pending.new.items ++ r.0.now) < length (pending.old.items ++ piece.now))) }

@@ -13,17 +13,18 @@ use Rattle.mig_mem.specs.PageSize.{IsPageSize}
 use Rattle.mig_mem.specs.RamTable.{RamTable}
 use Rattle.mig_mem.specs.Place.{IsPlace}
 use Rattle.mig_stream.specs.declared.item.StreamState.{StreamState}
-use Rattle.mig_stream.specs.declared.item.StreamState.TheVariants.{Reading, Closed, Bad}
+use Rattle.mig_stream.specs.declared.item.StreamState.TheVariants.{Reading}
 use Rattle.mig_stream.specs.declared.record_reader.RecordEvent.{RecordEvent}
 use Rattle.mig_stream.specs.declared.record_reader.RecordEvent.TheVariants.{Records, Section, End}
 use Rattle.mig_stream.specs.PageRecord.{PageRecord}
 use Rattle.mig_stream.specs.Progress.{StreamProgress, start, whole_table}
 use Rattle.mig_stream.specs.Round.{RoundOfRecords, record_at}
-use Rattle.mig_stream.specs.Reading.{Settings, StreamReading, Ends, Reads}
+use Rattle.mig_stream.specs.Reading.{Settings, StreamReading, Reads}
 use Rattle.mig_stream.specs.Reader.{HasTable, IsValidUpTo}
 use Rattle.mig_stream.specs.Giving.{Giver, GivenSoFar, none_given, with_given, Gives, GivesOn, GiverTells, EndsSo, HasNoneLeft, Paused, PausesAt}
 use Rattle.mig_stream.proofs.Exists.{one_reading_law}
 use Rattle.mig_stream.proofs.Feeding.{reads_short}
+use Rattle.mig_stream.proofs.Later.{Ends-more}
 use Rattle.mig_stream.proofs.Limits.{limits_law}
 use Rattle.mig_stream.proofs.Longer.{longer_law}
 use Rattle.mig_stream.proofs.Valid.{one_place, stays_valid}
@@ -238,13 +239,6 @@ longer_all : (holds : Option RamTable → List PageRecord → Type 0) (given : S
 longer_all holds given text piece so_far true size has = (has.0, longer_table given text piece has.0 size has.1, has.2)
 longer_all holds given text piece so_far false size has = has
 
--- what follows the end or a fault changes nothing
-longer_ends : (c : StreamProgress) (rest piece : List ℕ) (s : StreamState) → s ≢ Reading → Ends c rest s → Ends c (rest ++ piece) s
-longer_ends c rest piece Reading over ends = absurd (over refl)
-longer_ends c rest piece Closed over ends = ends
-longer_ends c rest piece (Bad fault) over ends =
-    (ends.0, ends.1 ++ piece, ap (λ (l : List ℕ). l ++ piece) ends.2 ∙ append_assoc ends.0 ends.1 piece, ends.3, ends.4)
-
 pub stands_over : (holds : Option RamTable → List PageRecord → Type 0) (given : Settings) (text piece : List ℕ) (found : StreamState) (n valid : ℕ)
     (begun : Bool)
     → Stands holds given text None found n valid begun → Stands holds given (text ++ piece) None found n valid begun
@@ -266,7 +260,7 @@ stands_over holds given text piece found n valid begun s =
             front = i.reads.front;
             has_text = ap (λ (l : List ℕ). l ++ piece) i.reads.has_text ∙ append_assoc i.reads.front i.rest piece;
             leads = i.reads.leads;
-            ends = longer_ends i.to i.rest piece h.reading.state over i.reads.ends;
+            ends = Ends-more i.to i.rest piece h.reading.state over i.reads.ends;
           };
           has_table = i.has_table;
           has_rounds = i.has_rounds;

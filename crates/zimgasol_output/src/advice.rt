@@ -27,9 +27,6 @@ const FLAG_XBZRLE: u16 = 0x40;
 
 const FLAG_COMPRESS_PAGE: u16 = 0x100;
 
-/// The complete sections from which RAM has a PART.
-const SECTIONS_WITH_PART: u64 = 2;
-
 /// The end of a section's name: the state of virtio-mem that comes before RAM's pages.
 const VIRTIO_MEM_EARLY: &[u8] = b"virtio-mem-device-early";
 
@@ -37,6 +34,9 @@ const VIRTIO_MEM_EARLY: &[u8] = b"virtio-mem-device-early";
 const DIRTY_BITMAP: &[u8] = b"dirty-bitmap";
 
 const BLOCK_MIGRATION: &[u8] = b"block";
+
+/// What the section of any other device is.
+const OTHER_DEVICE: &str = "a device that saves its state before RAM's END, which isn't read";
 
 /// The first bytes of files that aren't a stream, and what they are.
 const KNOWN_FILES: [(&[u8], &str); 8] = [
@@ -90,8 +90,6 @@ pub(crate) struct Met<'a> {
     pub item: &'a [u8],
     /// The items between the sections.
     pub notes: &'a [Note],
-    /// The complete sections.
-    pub sections: u64,
 }
 
 /// Returns advice for the user on a fault; None if there is none.
@@ -102,7 +100,7 @@ pub(crate) struct Met<'a> {
 pub(crate) fn advice(alloc: Global, met: &Met<'_>) -> Result<Option<String>, AllocError> {
     match met.fault {
         StreamFault::SectionType => type_advice(alloc, met),
-        StreamFault::SectionName => name_advice(alloc, met, 0, false),
+        StreamFault::SectionName => name_advice(alloc, met, 0),
         StreamFault::SectionId => id_advice(alloc, met, 0),
         _ => owned(alloc, plain_advice(met)),
     }
@@ -129,8 +127,7 @@ fn type_advice(alloc: Global, met: &Met<'_>) -> Result<Option<String>, AllocErro
         SECTION_START | SECTION_FULL | SUBSECTION | COMMAND if matches!(met.frame, Frame::Ram) => {
             owned(alloc, Some(OTHER_FRAME))
         }
-        SECTION_FULL => name_advice(alloc, met, 1, true),
-        SECTION_START => name_advice(alloc, met, 1, false),
+        SECTION_FULL | SECTION_START => name_advice(alloc, met, 1),
         SECTION_PART | SECTION_END => id_advice(alloc, met, 1),
         VM_EOF => owned(alloc, Some("the stream ends before RAM's END")),
         _ => Ok(None),
@@ -138,23 +135,17 @@ fn type_advice(alloc: Global, met: &Met<'_>) -> Result<Option<String>, AllocErro
 }
 
 // Returns advice on a section that isn't RAM's, whose head begins at the byte `at` of the item.
-// `is_full` if the section is complete in itself.
-fn name_advice(
-    alloc: Global,
-    met: &Met<'_>,
-    at: usize,
-    is_full: bool,
-) -> Result<Option<String>, AllocError> {
+fn name_advice(alloc: Global, met: &Met<'_>, at: usize) -> Result<Option<String>, AllocError> {
     let Some(name) = section_name(met.item, at) else {
-        return owned(alloc, Some(other_device(met, is_full)));
+        return owned(alloc, Some(OTHER_DEVICE));
     };
-    let why = device_advice(met, name, is_full);
+    let why = device_advice(name);
     let name = shown(alloc, name)?;
     Ok(Some(format!(in alloc; "the section of \"{name}\": {why}")?))
 }
 
 // Returns what the section `name` is.
-fn device_advice(met: &Met<'_>, name: &[u8], is_full: bool) -> &'static str {
+fn device_advice(name: &[u8]) -> &'static str {
     if name.ends_with(VIRTIO_MEM_EARLY) {
         return "virtio-mem's state before RAM's pages, which isn't read";
     }
@@ -164,15 +155,7 @@ fn device_advice(met: &Met<'_>, name: &[u8], is_full: bool) -> &'static str {
     if name == BLOCK_MIGRATION {
         return "the contents of disks, which aren't read: save without block migration";
     }
-    other_device(met, is_full)
-}
-
-// Returns what another device's section is.
-fn other_device(met: &Met<'_>, is_full: bool) -> &'static str {
-    if is_full && met.sections >= SECTIONS_WITH_PART {
-        return "RAM has no END before it, as with `background-snapshot`: save without that";
-    }
-    "a device that saves its state before RAM's END, which isn't read"
+    OTHER_DEVICE
 }
 
 // Returns advice on a section that goes on or ends, and isn't RAM's. Its head begins at the byte
@@ -181,8 +164,7 @@ fn id_advice(alloc: Global, met: &Met<'_>, at: usize) -> Result<Option<String>, 
     let Some(id) = section_id(met.item, at) else {
         return Ok(None);
     };
-    let why = other_device(met, false);
-    Ok(Some(format!(in alloc; "the section with the id {id}: {why}")?))
+    Ok(Some(format!(in alloc; "the section with the id {id}: {OTHER_DEVICE}")?))
 }
 
 // Returns advice on any other fault.

@@ -76,13 +76,11 @@ pub(crate) fn several_advice<F: Read + OpenFile + Drop>(
     let Fault::Stream(fault) = fault else {
         return owned(alloc, advice_of(fault));
     };
-    let (sections, _) = several.main.section();
     let met = Met {
         fault,
         frame: several.frame,
         item: several.main.item(),
         notes: several.main.read_notes(),
-        sections,
     };
     advice(alloc, &met)
 }

@@ -71,7 +71,6 @@ fn met_of(survey: &Survey, fault: StreamFault) -> Met<'_> {
         frame: survey.frame,
         item: survey.head.bytes(),
         notes: survey.notes.notes.as_slice(),
-        sections: survey.notes.sections,
     }
 }
 

@@ -1,6 +1,6 @@
 -- The survey of a single stream.
 use Rattle.std.proofs.Common.{ℕ, ◌≡◌, ◌≢◌, ◌≤◌, ◌<◌, ◌^◌, Bool, true, false, List, [], ◌∷◌}
-use Rattle.std.proofs.Common.{◌++◌, length, map, drop, Option, Some, None, refl, sym, ap, ◌∙◌, subst, ◌⊎◌, inl, inr}
+use Rattle.std.proofs.Common.{◌++◌, length, map, drop, Option, Some, None, refl, sym, ap, ◌∙◌, subst, ◌⊎◌, inl, inr, arith}
 use Rattle.std.specs.Prelude.{⊤, All, IfSome, IsSomeAnd, Result, Ok, Err, IfOk, OnOk}
 use Rattle.std.specs.List.{flat_map}
 use Rattle.std.proofs.lemmas.List.{append-nil}
@@ -17,6 +17,7 @@ use Rattle.mig_stream.specs.declared.item.StreamState.TheVariants.{Closed}
 use Rattle.mig_stream.specs.PageRecord.{PageRecord}
 use Rattle.mig_stream.specs.Reading.{Settings, settings, in_frame, StreamReading, IsReading}
 use Rattle.mig_stream.specs.Text.{Record, page_records}
+use Rattle.mig_stream.specs.Law.{HasMachineRam}
 use Rattle.mig_stream.specs.Giving.{GivenSoFar, Paused}
 use Rattle.mig_stream.proofs.Exists.{one_reading_law}
 use Rattle.mig_stream.proofs.Found.{read_law, machine_read_law}
@@ -42,8 +43,11 @@ closed_rounds Ram page_size limit text reading size small all is closed =
     let found = read_law (in_frame Ram (settings Single page_size limit)) text reading refl size small all is closed in
     first_round reading.rounds found.3.3.first _ found.3.3.has_rounds.1
 closed_rounds Machine page_size limit text reading size small all is closed =
-    let found = machine_read_law (in_frame Machine (settings Single page_size limit)) text reading refl size small all is closed in
-    first_round reading.rounds found.3.3.first _ found.3.3.has_rounds.1
+    of_either (machine_read_law (in_frame Machine (settings Single page_size limit)) text reading refl size small all is closed).3
+  where
+    of_either : {table : RamTable} → HasMachineRam Single limit text table reading.rounds → reading.rounds ≢ []
+    of_either (inl is) = first_round reading.rounds is.3.first _ is.3.has_rounds.1
+    of_either (inr is) = λ none. absurd (omega (arith, is.3.has_part, ap (λ (l : List (List PageRecord)). length l) none))
 
 -- ---- the blocks
 

@@ -254,8 +254,9 @@ pub const ZIMGASOL_ROUND: u64 = u64::MAX;
 
 /// How a stream is framed. RAM: RAM's section alone, up to the end byte after its END, as this
 /// library writes it. MACHINE: a whole machine's stream, as QEMU writes it, up to the footer of
-/// RAM's END. COMMANDs and subsections that don't concern RAM are skipped, and the sections of
-/// devices that follow aren't read: they begin at `closed_at` of zimgasol_standing.
+/// RAM's END, or in a background snapshot, which has none, up to the first device's section.
+/// COMMANDs and subsections that don't concern RAM are skipped, and the sections of devices that
+/// follow aren't read: they begin at `closed_at` of zimgasol_standing.
 pub type zimgasol_frame = u32;
 
 pub const ZIMGASOL_FRAME_RAM: zimgasol_frame = 0;
@@ -384,8 +385,8 @@ pub struct zimgasol_fed {
 ///  - `is_closed`: 1 if the main stream, or the single stream, is closed, else 0; always 0 with
 ///    NO_MEMORY, and of a single stream with OTHER_TABLE.
 ///  - `closed_at`: if it is closed, how many of the bytes taken belong to it: up to its end byte, or
-///    in the frame MACHINE up to the footer of RAM's END. Bytes taken after them are the caller's.
-///    Else 0.
+///    in the frame MACHINE up to the footer of RAM's END, in a background snapshot up to the first
+///    device's section. Bytes taken after them are the caller's. Else 0.
 #[repr(C)]
 #[derive(Clone, Copy, Debug)]
 pub struct zimgasol_standing {

@@ -9,6 +9,7 @@ use Rattle.mig_stream.specs.Reading.{IsItem}
 use Rattle.mig_stream.specs.Taking.{TakesAs, HasTaken}
 use Rattle.mig_stream.specs.Reader.{ReadsOn}
 use Rattle.mig_stream.proofs.Feeding.{is_due, still_short, text_at, whole_fault, reads_behind, taken_behind}
+use Rattle.mig_stream.proofs.Stopping.{within_item, some_bytes}
 use Rattle.mig_stream.proofs.reader.read.Goals as goal
 
 pub returns-in_default-clause-ok : goal.returns-in_default-clause-ok
@@ -65,6 +66,7 @@ returns-in-Err-Fault-clause-ok g c =
     let len : c.len-in-Err-Fault.result ≡ length item = search rules in
     let read = whole_fault p c.take.new.self c.args.pending.now.items c.args.piece.now item c.in-Some.rest.now item
     (c.len-in-Err-Fault.result + length c.in-Some.rest.now) c.in-Err-Fault.fault
-    (ap (λ (x : ℕ). x + length c.in-Some.rest.now) len) text is (ap (λ (x : List ℕ). first_fault p x) (sym c.deref.ensures.value) ∙ taken.0) taken.1 in
+    (ap (λ (x : ℕ). x + length c.in-Some.rest.now) len) text is (ap (λ (x : List ℕ). first_fault p x) (sym c.deref.ensures.value) ∙ taken.0)
+    (within_item p c.args.pending.now.items item c.requires (some_bytes _ _ _ c.is_empty.ensures c.if-is_empty.false (search rules))) taken.1 in
     subst (λ (x : StreamFault). ReadsOn p (c.args.pending.now.items ++ c.args.piece.now) c.take.new.self item
     (c.len-in-Err-Fault.result + length c.in-Some.rest.now) (Bad x)) (sym c.in-Err-Fault.fault-is) read

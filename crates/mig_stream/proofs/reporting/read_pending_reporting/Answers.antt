@@ -30,7 +30,7 @@ returns-in-Ok-clause-reports g c =
     text_at c.in_ok-rest.field-0 c.in-Some.rest (λ r. item ++ r.now ≡ c.args.pending.now.items ++ c.args.piece.now) c.in-Some.is c.in_ok-rest.ensures.text in
     let whole : length item ≡ size p.page_size p.due item =
     text_at c.in_ok-rest.field-0 c.in-Some.rest (λ r. length item ≡ size p.page_size p.due item) c.in-Some.is c.in_ok-rest.ensures.whole in
-    let is : IsItem p.page_size p.due item = record { is_due = is_due p.page_size p.due c.args.pending.now.items c.requires; is_whole = whole } in
+    let is : IsItem p.page_size p.due item = record { is_due = is_due p.page_size p.due c.args.pending.now.items c.requires.part; is_whole = whole } in
     let free : first_fault p item ≡ None = ap (λ (x : List ℕ). first_fault p x) (sym c.deref.ensures.value) ∙ c.in-Ok.ensures.takes.0 in
     let next : c.take_reporting.new.self ≡ after p item = c.in-Ok.ensures.takes.1 ∙ ap (λ (x : List ℕ). after p x) c.deref.ensures.value in
     let added : before.at + length item < 2 ^ 64 → now ≡ with_item (kind_of p.page_size p.due item) item before =

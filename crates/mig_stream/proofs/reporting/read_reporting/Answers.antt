@@ -10,6 +10,7 @@ use Rattle.mig_stream.specs.Taking.{TakesAs, HasTaken}
 use Rattle.mig_stream.specs.Report.{kind_of, with_item, ReportsTo, ReadsReporting, KeepsItems}
 use Rattle.mig_stream.proofs.Feeding.{is_due, text_at, taken_behind}
 use Rattle.mig_stream.proofs.Reported.{reports_one, keeps_on, piece_short, piece_fault, piece_behind}
+use Rattle.mig_stream.proofs.Stopping.{within_item, some_bytes}
 use Rattle.mig_stream.proofs.reporting.read_reporting.Goals as goal
 
 pub returns-in_default-clause-ok : goal.returns-in_default-clause-ok
@@ -87,6 +88,8 @@ returns-in-Err-Fault-clause-ok g c =
     let read = piece_fault p c.take_reporting.new.self (c.args.pending.now.items ++ c.args.piece.now) item rest item
     (c.len-in-Err-Fault.result + length rest) c.in-Err-Fault.fault before between
     (ap (λ (x : ℕ). x + length rest) len) text is
-    (ap (λ (x : List ℕ). first_fault p x) (sym c.deref.ensures.value) ∙ taken.0) taken.1 c.in-Err-Fault.ensures.err in
+    (ap (λ (x : List ℕ). first_fault p x) (sym c.deref.ensures.value) ∙ taken.0)
+    (within_item p c.args.pending.now.items item c.requires (some_bytes _ _ _ c.is_empty.ensures c.if-is_empty.false (search rules)))
+    taken.1 c.in-Err-Fault.ensures.err in
     subst (λ (x : StreamFault). ReadsReporting p (c.args.pending.now.items ++ c.args.piece.now) c.take_reporting.new.self item
     (c.len-in-Err-Fault.result + length rest) (Bad x) before between) (sym c.in-Err-Fault.fault-is) read

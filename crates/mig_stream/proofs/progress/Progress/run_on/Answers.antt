@@ -1,16 +1,17 @@
 use Rattle.std.proofs.Common.{◌≡◌, ◌<◌, ◌≤◌, ◌+◌, ◌*◌, ◌∙◌, length, sym, refl, ap, subst, List, ℕ, Err, arith, length-append}
 use Rattle.mig_stream.specs.declared.fault.StreamFault.{StreamFault}
-use Rattle.mig_stream.specs.declared.item.StreamState.TheVariants.{Bad}
+use Rattle.mig_stream.specs.declared.item.StreamState.{StreamState}
 use Rattle.mig_stream.specs.declared.stop.Stop.{Stop}
 use Rattle.mig_stream.specs.declared.stop.Stop.TheVariants.{Fault}
 use Rattle.mig_stream.specs.Progress.{StreamProgress}
 use Rattle.mig_stream.specs.Items.{size, after_item}
 use Rattle.mig_stream.specs.Kept.{bytes_of}
-use Rattle.mig_stream.specs.Reading.{Ends}
+use Rattle.mig_stream.specs.Reading.{Ends, stopped}
 use Rattle.mig_stream.specs.Taking.{TakesAs, HasTakenTo}
 use Rattle.mig_mem.proofs.PageSizes.{page_size_some}
 use Rattle.mig_stream.proofs.Fronts.{work, split_item, goes_on}
 use Rattle.mig_stream.proofs.Exists.{work_falls}
+use Rattle.mig_stream.proofs.Stopping.{stops}
 use Rattle.mig_stream.proofs.Writing.{on_err}
 use Rattle.mig_stream.proofs.ZeroRecords.{pages_taken, goes_on_to, stops_within}
 use Rattle.mig_stream.proofs.progress.Progress.run_on.Goals as goal
@@ -75,7 +76,9 @@ returns-in-Err-Fault-clause-stands g c =
     (subst (λ (x : List ℕ). c.size-size.result ≤ length x) c.bytes-bytes.ensures c.if-bytes-size.false) c.split_at.ensures.front c.split_at.ensures.back in
     let taken : TakesAs d d.due item c.take.new.self (Err (Fault c.in-Err-Fault.fault)) =
     subst (λ (x : Stop). TakesAs d d.due item c.take.new.self (Err x)) c.in-Err-Fault.field-0-is c.in-Err-Fault.ensures in
-    let here : Ends d rest (Bad c.in-Err-Fault.fault) = (item, bytes_of c.split_at.result.1, parts.1, parts.0, taken.0) in
-    let there : Ends c.take.new.self rest (Bad c.in-Err-Fault.fault) =
-    subst (λ (x : StreamProgress). Ends x rest (Bad c.in-Err-Fault.fault)) (sym taken.1) here in
-    subst (λ (x : StreamFault). Ends c.take.new.self rest (Bad x)) (sym c.in-Err-Fault.fault-is) there
+    let here : Ends d rest (stopped d item c.in-Err-Fault.fault) =
+    stops d item (bytes_of c.split_at.result.1) rest c.in-Err-Fault.fault parts.1 parts.0 taken.0 in
+    let there : Ends c.take.new.self rest (stopped c.take.new.self item c.in-Err-Fault.fault) =
+    subst (λ (x : StreamProgress). Ends x rest (stopped x item c.in-Err-Fault.fault)) (sym taken.1) here in
+    subst (λ (x : StreamState). Ends c.take.new.self rest x) (sym c.stopped.ensures)
+    (subst (λ (x : StreamFault). Ends c.take.new.self rest (stopped c.take.new.self item x)) (sym c.in-Err-Fault.fault-is) there)

@@ -1,16 +1,17 @@
 use Rattle.std.proofs.Common.{◌-◌, ◌^◌, take, ◌≡◌, ◌<◌, ◌≤◌, ◌+◌, ◌*◌, ◌∙◌, length, sym, refl, ap, subst, List, ℕ, Err, arith, length-append}
 use Rattle.mig_stream.specs.declared.fault.StreamFault.{StreamFault}
-use Rattle.mig_stream.specs.declared.item.StreamState.TheVariants.{Bad}
+use Rattle.mig_stream.specs.declared.item.StreamState.{StreamState}
 use Rattle.mig_stream.specs.declared.stop.Stop.{Stop}
 use Rattle.mig_stream.specs.declared.stop.Stop.TheVariants.{Fault}
 use Rattle.mig_stream.specs.Progress.{StreamProgress}
 use Rattle.mig_stream.specs.Items.{size, after_item}
 use Rattle.mig_stream.specs.Kept.{bytes_of}
-use Rattle.mig_stream.specs.Reading.{Ends}
+use Rattle.mig_stream.specs.Reading.{Ends, stopped}
 use Rattle.mig_stream.specs.Taking.{TakesAs}
 use Rattle.mig_mem.proofs.PageSizes.{page_size_some}
 use Rattle.mig_stream.proofs.Fronts.{work, split_item}
 use Rattle.mig_stream.proofs.Exists.{work_falls}
+use Rattle.mig_stream.proofs.Stopping.{stops}
 use Rattle.mig_stream.specs.Report.{ItemAt, Reported, ReportsTo}
 use Rattle.mig_stream.proofs.Writing.{on_err}
 use Rattle.mig_stream.proofs.ZeroRecords.{stops_within}
@@ -87,10 +88,12 @@ returns-in-Err-Fault-clause-stands g c =
     (subst (λ (x : List ℕ). c.size-size.result ≤ length x) c.bytes-bytes.ensures c.if-bytes-size.false) c.split_at.ensures.front c.split_at.ensures.back in
     let taken : TakesAs d d.due item c.take_reporting.new.self (Err (Fault c.in-Err-Fault.fault)) =
     subst (λ (x : Stop). TakesAs d d.due item c.take_reporting.new.self (Err x)) c.in-Err-Fault.field-0-is c.in-Err-Fault.ensures.takes in
-    let here : Ends d (bytes_of c.items.rest) (Bad c.in-Err-Fault.fault) = (item, behind, parts.1, parts.0, taken.0) in
-    let there : Ends c.take_reporting.new.self (bytes_of c.items.rest) (Bad c.in-Err-Fault.fault) =
-    subst (λ (x : StreamProgress). Ends x (bytes_of c.items.rest) (Bad c.in-Err-Fault.fault)) (sym taken.1) here in
-    subst (λ (x : StreamFault). Ends c.take_reporting.new.self (bytes_of c.items.rest) (Bad x)) (sym c.in-Err-Fault.fault-is) there
+    let rest : List ℕ = bytes_of c.items.rest in
+    let here : Ends d rest (stopped d item c.in-Err-Fault.fault) = stops d item behind rest c.in-Err-Fault.fault parts.1 parts.0 taken.0 in
+    let there : Ends c.take_reporting.new.self rest (stopped c.take_reporting.new.self item c.in-Err-Fault.fault) =
+    subst (λ (x : StreamProgress). Ends x rest (stopped x item c.in-Err-Fault.fault)) (sym taken.1) here in
+    subst (λ (x : StreamState). Ends c.take_reporting.new.self rest x) (sym c.stopped.ensures)
+    (subst (λ (x : StreamFault). Ends c.take_reporting.new.self rest (stopped c.take_reporting.new.self item x)) (sym c.in-Err-Fault.fault-is) there)
 
 pub returns-then-pause-clause-kept : goal.returns-then-pause-clause-kept
 returns-then-pause-clause-kept g c = keeps_on c.args.report.now c.items.report c.take_reporting.new.report c.items.invariant.1 c.in-Ok.ensures.kept
