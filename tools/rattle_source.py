@@ -84,12 +84,12 @@ def above(lines, at, mark="///"):
 
 
 def balanced(text, at):
-    """The place after the `}` that closes the `{` at this place."""
+    """The place after the `}` that closes the `{` at this place; braces in strings don't count."""
     depth = 0
-    for end in range(at, len(text)):
-        depth += {"{": 1, "}": -1}.get(text[end], 0)
+    for sign in re.finditer(r'"(?:[^"\\\n]|\\.)*"|[{}]', text[at:]):
+        depth += {"{": 1, "}": -1}.get(sign[0], 0)
         if depth == 0:
-            return end + 1
+            return at + sign.end()
     raise SystemExit(f"a brace is never closed: {text[at:at + 80]!r}")
 
 

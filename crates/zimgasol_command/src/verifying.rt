@@ -2,7 +2,7 @@
 
 ghost use Rattle.std.specs.Prelude.{◌≡◌, ◌↔◌, ◌≤◌, ◌<◌, ◌^◌, ℕ, List, length, Some, All, IfOk, IsNone, IsTrue};
 ghost use Rattle.zimgasol_reading.specs.Coverage.{IsComplete};
-ghost use Rattle.zimgasol_reading.specs.Surveyed.{HasCompleteStream};
+ghost use Rattle.zimgasol_reading.specs.Surveyed.{IsWholeSave};
 
 use crate::opening::{OpenStream, open_stream, put_mapped_note};
 use crate::troubles::{FAILED, REFUSED, WELL, put_message, put_named_trouble, trouble_status};
@@ -132,10 +132,11 @@ fn judge_single<W: Write, E: Write>(
     put_verdict(alloc, output, errors, name, survey, talk)
 }
 
-/// Reads the stream in `input`, prints whether it is complete, and returns whether it is. If it is,
-/// a complete stream is in the bytes of `input`, after libvirt's header: closed, and with a record
-/// of each page, unless `--partial` is set. `metadata` is that of the file that `input` is, if it
-/// is one; `name` is printable.
+/// Reads the stream in `input`, prints whether it is complete, and returns whether it is. It is
+/// complete exactly if, after libvirt's header, a closed stream with a record of each page is in
+/// the bytes of `input`, and a whole ending after it. With `--partial` pages may lack a record; the
+/// ending isn't checked with `--ram-only` or `--frame ram`. `metadata` is that of the file that
+/// `input` is, if it is one; `name` is printable.
 ///
 /// # Errors
 ///
@@ -150,8 +151,8 @@ pub fn verify_input<H: AllocGlobal + Files + Clock, R: Read, W: Write, E: Write>
     output: &mut W,
     errors: &mut E,
 ) -> Result<bool, Trouble>
-    ensures complete { IfOk result (λ is_whole. IsTrue is_whole → (text : List ℕ) → R.remaining input.old ≡ Some text
-        → length text < 2 ^ 63 → All (λ byte. byte < 2 ^ 8) text → HasCompleteStream words.now.frame words.now.partial text) }
+    ensures exact { IfOk result (λ is_whole. (text : List ℕ) → R.remaining input.old ≡ Some text → length text < 2 ^ 63 → All (λ byte. byte < 2 ^ 8) text
+        → IsTrue is_whole ↔ IsWholeSave words.now text) }
 {
     let (read, _sink) = read_input(rt, words, metadata, input, NoSink, errors);
     let survey = read?;

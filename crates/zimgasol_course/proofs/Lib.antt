@@ -1,2 +1,3 @@
 mod Taking
+pub mod Seeing
 mod Reading

@@ -1,13 +1,15 @@
 //! Reads a single stream piece after piece, and gives each of its records to a taker.
 
-ghost use Rattle.std.specs.Prelude.{◌≡◌, ◌<◌, ◌≤◌, ◌-◌, ◌++◌, ◌^◌, ℕ, List, [], length, take, drop, ⊤, None, Some, IfOk, OnOk, IsTrue, true, false};
+ghost use Rattle.std.specs.Prelude.{◌≡◌, ◌≢◌, ◌<◌, ◌≤◌, ◌-◌, ◌++◌, ◌^◌, ℕ, List, [], length, take, drop, ⊤, None, Some, IfOk, OnOk, IsTrue, true, false};
 ghost use Rattle.std.specs.Io.KnownBytes.{IsAtEnd};
 ghost use Rattle.mig_mem.specs.PageSize.{IsPageSize};
 ghost use Rattle.mig_stream.specs.Progress.{whole_table};
 ghost use Rattle.mig_stream.specs.Reading.{Settings, settings, in_frame};
 ghost use Rattle.mig_stream.specs.declared.item.Mode.TheVariants.{Single};
+ghost use Rattle.mig_stream.specs.declared.item.StreamState.TheVariants.{Closed};
 ghost use Rattle.mig_stream.specs.Giving.{GivenSoFar, HasNoneLeft, with_given};
 ghost use Rattle.zimgasol_course.specs.Course.{Begins, Puts, Counts, Keeps, Waits, Taken, TakesAll, Stands};
+ghost use Rattle.zimgasol_course.specs.Seen.{OfStream, StillSees, HasSeen};
 
 use crate::taker::Taker;
 use mig_stream::{Frame, Pause, RecordEvent, RecordReader, Report, StreamState};
@@ -38,7 +40,8 @@ fn begin<T: Taker>(
     taker: &mut T,
     has_begun: bool,
 ) -> Result<bool, Trouble>
-    ensures { IfOk result (λ then. Begins (T.holds taker.old) (T.holds taker.new) (whole_table reader.now.progress) has_begun then) }
+    ensures ok { IfOk result (λ then. Begins (T.holds taker.old) (T.holds taker.new) (whole_table reader.now.progress) has_begun then) }
+    ensures seen { OnOk result (StillSees (T.sees taker.old) (T.sees taker.new)) }
 {
     if has_begun {
         return Ok(true);
@@ -54,7 +57,8 @@ fn begin<T: Taker>(
 
 // Gives the taker the records that `reader` returned last.
 fn take_given<T: Taker>(reader: &RecordReader<'_>, taker: &mut T) -> Result<(), Trouble>
-    ensures { OnOk result (Puts true (T.holds taker.old) (T.holds taker.new) reader.now.given) }
+    ensures ok { OnOk result (Puts true (T.holds taker.old) (T.holds taker.new) reader.now.given) }
+    ensures seen { OnOk result (StillSees (T.sees taker.old) (T.sees taker.new)) }
 {
     let given = reader.given();
     let count = given.len();
@@ -71,7 +75,8 @@ fn take_known<T: Taker>(
     taker: &mut T,
     has_begun: bool,
 ) -> Result<(), Trouble>
-    ensures { OnOk result (Puts has_begun (T.holds taker.old) (T.holds taker.new) reader.now.given) }
+    ensures ok { OnOk result (Puts has_begun (T.holds taker.old) (T.holds taker.new) reader.now.given) }
+    ensures seen { OnOk result (StillSees (T.sees taker.old) (T.sees taker.new)) }
 {
     if has_begun {
         return take_given(reader, taker);
@@ -97,8 +102,9 @@ fn take_next<T: Taker>(
     has_begun: &mut bool,
     sections: &mut u64,
 ) -> Result<(), Trouble>
-    ensures { OnOk result ((given : Settings) (text : List ℕ) (so_far : GivenSoFar) → Waits (T.holds taker.old) given text so_far gave reader.now has_begun.old sections.old
+    ensures ok { OnOk result ((given : Settings) (text : List ℕ) (so_far : GivenSoFar) → Waits (T.holds taker.old) given text so_far gave reader.now has_begun.old sections.old
         → Taken (T.holds taker.new) given text (with_given gave reader.now.given.records so_far) reader.now has_begun.new sections.new) }
+    ensures seen { OnOk result (StillSees (T.sees taker.old) (T.sees taker.new)) }
 {
     *has_begun = begin(reader, taker, *has_begun)?;
     take_known(reader, taker, *has_begun)?;
@@ -116,6 +122,7 @@ fn take_all<T: Taker>(
 ) -> Result<StreamState, Trouble>
     ensures ok { IfOk result (λ found. TakesAll (T.holds taker.old) reader.old has_begun.old sections.old (T.holds taker.new) reader.new has_begun.new sections.new found) }
     ensures none { IfOk result (λ found. HasNoneLeft found reader.new) }
+    ensures seen { OnOk result (StillSees (T.sees taker.old) (T.sees taker.new)) }
 {
     'records: loop {
         let gave = reader.read_on_reporting(report)?;
@@ -137,9 +144,12 @@ fn take_piece<T: Taker>(
     has_begun: &mut bool,
     sections: &mut u64,
 ) -> Result<(Option<Pause>, StreamState, u64), Trouble>
-    ensures { IfOk result (λ r. (given : Settings) (text : List ℕ) (found : StreamState) (valid : ℕ) → length (text ++ piece.now) < 2 ^ 63
+    ensures ok { IfOk result (λ r. (given : Settings) (text : List ℕ) (found : StreamState) (valid : ℕ) → length (text ++ piece.now) < 2 ^ 63
         → Stands (T.holds taker.old) given text (Some pause) found sections.old valid has_begun.old
         → Stands (T.holds taker.new) given (text ++ piece.now) r.0 r.1 sections.new r.2 has_begun.new) }
+    ensures seen { IfOk result (λ r. (given : Settings) (text : List ℕ) (found : StreamState) (valid : ℕ) → length (text ++ piece.now) < 2 ^ 63
+        → Stands (T.holds taker.old) given text (Some pause) found sections.old valid has_begun.old
+        → T.sees taker.old (OfStream text) → HasSeen (T.sees taker.new) (text ++ piece.now) r.0 r.1 r.2) }
 {
     let mut reader = pause.resume(piece);
     let found = take_all(&mut reader, report, taker, has_begun, sections)?;
@@ -157,6 +167,7 @@ impl Course {
         requires page_size { IsPageSize page_size }
         requires limit { limit ≤ 2 ^ 40 }
         ensures begun { result.has_begun ≡ false }
+        ensures goes_on { result.pause ≢ None }
         ensures ok { Stands (λ _ _. ⊤) (in_frame frame (settings Single page_size limit)) [] result.pause result.state result.sections result.valid result.has_begun }
     {
         Course {
@@ -171,9 +182,13 @@ impl Course {
 
     // Reads the next piece of the stream. After the stream's end or a fault the taker only sees it.
     fn feed<T: Taker>(&mut self, piece: &[u8], taker: &mut T) -> Result<(), Trouble>
-        ensures { OnOk result ((given : Settings) (text : List ℕ) → length (text ++ piece.now) < 2 ^ 63
+        ensures ok { OnOk result ((given : Settings) (text : List ℕ) → length (text ++ piece.now) < 2 ^ 63
             → Stands (T.holds taker.old) given text self.old.pause self.old.state self.old.sections self.old.valid self.old.has_begun
             → Stands (T.holds taker.new) given (text ++ piece.now) self.new.pause self.new.state self.new.sections self.new.valid self.new.has_begun) }
+        ensures seen { OnOk result ((given : Settings) (text : List ℕ) → length (text ++ piece.now) < 2 ^ 63
+            → Stands (T.holds taker.old) given text self.old.pause self.old.state self.old.sections self.old.valid self.old.has_begun
+            → HasSeen (T.sees taker.old) text self.old.pause self.old.state self.old.valid
+            → HasSeen (T.sees taker.new) (text ++ piece.now) self.new.pause self.new.state self.new.valid) }
     {
         let Some(pause) = self.pause.take() else {
             taker.look_after(piece)?;
@@ -207,6 +222,10 @@ impl Course {
         ensures ok { OnOk result ((given : Settings) (text : List ℕ) → length (text ++ drop skip (take len buffer.now)) < 2 ^ 63
             → Stands (T.holds taker.old) given text self.old.pause self.old.state self.old.sections self.old.valid self.old.has_begun
             → Stands (T.holds taker.new) given (text ++ drop skip (take len buffer.now)) self.new.pause self.new.state self.new.sections self.new.valid self.new.has_begun) }
+        ensures seen { OnOk result ((given : Settings) (text : List ℕ) → length (text ++ drop skip (take len buffer.now)) < 2 ^ 63
+            → Stands (T.holds taker.old) given text self.old.pause self.old.state self.old.sections self.old.valid self.old.has_begun
+            → HasSeen (T.sees taker.old) text self.old.pause self.old.state self.old.valid
+            → HasSeen (T.sees taker.new) (text ++ drop skip (take len buffer.now)) self.new.pause self.new.state self.new.valid) }
     {
         let skipped = skip.min(len as u64);
         let piece = &buffer[..len];
@@ -218,7 +237,8 @@ impl Course {
 
     // Returns whether the stream has a fault, so that nothing after it is read.
     fn is_bad(&self) -> bool
-        ensures { IsTrue result → self.now.pause ≡ None }
+        ensures over { IsTrue result → self.now.pause ≡ None }
+        ensures other { IsTrue result → self.now.state ≢ Closed }
     {
         match (&self.pause, self.state) {
             (None, StreamState::Bad(_)) => true,
@@ -244,9 +264,13 @@ impl Course {
         requires room { 0 < length buffer.old }
         requires within { len ≤ length buffer.old }
         requires end { len < length buffer.old → IsAtEnd (R.remaining input.old) }
-        ensures { OnOk result ((given : Settings) (rest : List ℕ) → R.remaining input.old ≡ Some rest → length (take len buffer.old ++ rest) < 2 ^ 63
+        ensures ok { OnOk result ((given : Settings) (rest : List ℕ) → R.remaining input.old ≡ Some rest → length (take len buffer.old ++ rest) < 2 ^ 63
             → Stands (T.holds taker.old) given [] self.old.pause self.old.state self.old.sections self.old.valid self.old.has_begun
             → Stands (T.holds taker.new) given (drop before (take len buffer.old ++ rest)) self.new.pause self.new.state self.new.sections self.new.valid self.new.has_begun) }
+        ensures seen { OnOk result ((given : Settings) (rest : List ℕ) → R.remaining input.old ≡ Some rest → length (take len buffer.old ++ rest) < 2 ^ 63
+            → Stands (T.holds taker.old) given [] self.old.pause self.old.state self.old.sections self.old.valid self.old.has_begun
+            → HasSeen (T.sees taker.old) [] self.old.pause self.old.state self.old.valid
+            → HasSeen (T.sees taker.new) (drop before (take len buffer.old ++ rest)) self.new.pause self.new.state self.new.valid) }
     {
         let mut len = len;
         let mut skip = before;

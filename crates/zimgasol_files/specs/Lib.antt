@@ -7,3 +7,5 @@ pub mod Differing
 pub mod ReadOn
 -- An input, and the bytes of it that wait
 pub mod Waiting
+-- What words ask of the reading of a stream
+pub mod Asked

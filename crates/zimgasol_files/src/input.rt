@@ -12,7 +12,8 @@ pub(crate) const PIECE_LEN: usize = 262_144;
 
 /// Returns the buffer that pieces are read into.
 pub fn piece_buffer(alloc: Global) -> Result<Vec<u8>, Trouble>
-    ensures { IfOk result (λ v. 0 < length v.items) }
+    ensures some { IfOk result (λ v. 0 < length v.items) }
+    ensures room { IfOk result (λ v. 16 ≤ length v.items) }
 {
     let buffer = vec![in alloc; 0u8; PIECE_LEN]?;
     Ok(buffer)

@@ -17,7 +17,8 @@
 //! control a terminal.
 //!
 //! Definitions: `Shown`, `Naming`; `Differing`, of the pages that differ; `ReadOn`, of a file and an
-//! older one that are read in pieces (`specs/`).
+//! older one that are read in pieces; `Asked`, of what words ask of the reading of a stream
+//! (`specs/`).
 #![tactic(auto)]
 
 mod block_file;

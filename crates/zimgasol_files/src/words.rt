@@ -1,8 +1,9 @@
 //! The command line, declared for `clap`, and its parsed arguments.
 
-ghost use Rattle.std.specs.Prelude.{◌≡◌, ◌≤◌, ◌^◌, None, IsTrue, IfSome};
+ghost use Rattle.std.specs.Prelude.{◌≡◌, ◌↔◌, ◌≤◌, ◌^◌, None, IsTrue, IfSome};
 ghost use Rattle.mig_mem.specs.PageSize.{IsPageSize};
 ghost use Rattle.mig_stream.specs.declared.item.Frame.TheVariants.{Machine};
+ghost use Rattle.zimgasol_files.specs.Asked.{page_bytes, most_total, ChecksEnding};
 
 use crate::digest::DigestWords;
 use crate::shown;
@@ -72,7 +73,8 @@ pub enum PageSize {
 impl PageSize {
     /// Returns the size in bytes.
     pub fn bytes(self) -> u64
-        ensures { IsPageSize result }
+        ensures size { IsPageSize result }
+        ensures value { result ≡ page_bytes self }
     {
         match self {
             PageSize::Small => PAGE_SIZE_4K,
@@ -111,7 +113,8 @@ pub struct StreamWords<'a> {
 impl StreamWords<'_> {
     /// Returns the most bytes of guest memory that the size list may have.
     pub fn limit(&self) -> u64
-        ensures { result ≤ 2 ^ 40 }
+        ensures bound { result ≤ 2 ^ 40 }
+        ensures value { result ≡ most_total self.now }
     {
         if self.most_memory < MAX_TOTAL {
             self.most_memory
@@ -121,7 +124,9 @@ impl StreamWords<'_> {
     }
 
     /// Returns whether the bytes after RAM are checked: those of a machine's stream are.
-    pub fn checks_tail(&self) -> bool {
+    pub fn checks_tail(&self) -> bool
+        ensures { IsTrue result ↔ ChecksEnding self.now }
+    {
         matches!(self.frame, Frame::Machine) && !self.ram_only
     }
 }

@@ -203,19 +203,26 @@ pub on_ok : {X E A : Type 0} (r : Result X E) → A → OnOk r A
 on_ok (Ok x) a = a
 on_ok (Err e) a = tt
 
+pub on_ok_map : {X E A B : Type 0} (r : Result X E) → OnOk r A → (A → B) → OnOk r B
+on_ok_map (Ok x) a f = f a
+on_ok_map (Err e) a f = tt
+
+pub of_ok : {X E A : Type 0} (r : Result X E) (x : X) → r ≡ Ok x → OnOk r A → A
+of_ok {X = X} {E = E} {A = A} r x is = subst (λ (o : Result X E). OnOk o A → A) (sym is) (λ a. a)
+
 pub if_ok : {X E : Type 0} (P : X → Type 0) (r : Result X E) (x : X) → r ≡ Ok x → IfOk r P → P x
 if_ok {X = X} {E = E} P r x is held = subst (λ (o : Result X E). IfOk o P) is held
 
-consumes_left : (text : List ℕ) (after : Option (List ℕ)) (piece : List ℕ) → Consumes (Some text) after piece
+pub consumes_left : (text : List ℕ) (after : Option (List ℕ)) (piece : List ℕ) → Consumes (Some text) after piece
     → (rest : List ℕ) × (after ≡ Some rest) × (text ≡ piece ++ rest)
 consumes_left text None piece c = absurd c
 consumes_left text (Some rest) piece c = (rest, refl, c)
 
 -- the settings that a survey reads with
-abbrev given_of : Survey → Settings
+abbrev pub given_of : Survey → Settings
 given_of s = in_frame s.frame (settings Single s.page_size s.limit)
 
-given_as_asked : (before after : Survey) → IsAsked before after → given_of after ≡ given_of before
+pub given_as_asked : (before after : Survey) → IsAsked before after → given_of after ≡ given_of before
 given_as_asked before after asked =
     ap (λ (f : Frame). in_frame f (settings Single after.page_size after.limit)) asked.0
     ∙ ap (λ p. in_frame before.frame (settings Single p after.limit)) asked.1

@@ -1,9 +1,12 @@
 pub mod Answered
 pub mod Consumed
 pub mod Coverage
+pub mod Ending
 pub mod Left
 pub mod Libvirt
 pub mod Loaded
 pub mod Passed
 pub mod Recorded
 pub mod Surveyed
+pub mod TailSeen
+pub mod Tailed

@@ -1,6 +1,6 @@
 -- The header that libvirt puts before the stream of a guest that it saved: `virQEMUSaveHeader` in
 -- `src/qemu/qemu_saveimage.h`.
-use Rattle.std.specs.Prelude.{ℕ, ◌≡◌, ◌+◌, ◌≤◌, Bool, List, length, take, slice_range, if◌then◌else◌, codes}
+use Rattle.std.specs.Prelude.{ℕ, ◌≡◌, ◌≢◌, ◌⊎◌, ◌+◌, ◌≤◌, Bool, List, length, take, slice_range, if◌then◌else◌, codes}
 use Rattle.std.specs.Int.{w32, from_be_bytes, from_le_bytes}
 
 -- the number of four bytes at an offset, in the byte order of the host that saved the guest
@@ -18,3 +18,8 @@ pub record IsHeader (bytes : List ℕ) (before : ℕ) : Type 0 where
   pub has_version : field_at is_little 16 (take 92 bytes) ≡ 2
   pub has_format : field_at is_little 28 (take 92 bytes) ≡ 0
   pub has_length : before ≡ 92 + field_at is_little 20 (take 92 bytes)
+
+-- So many bytes precede the stream: those of libvirt's header, which is there if the first 16 bytes
+-- say so.
+abbrev pub IsBefore : List ℕ → ℕ → Type 0
+IsBefore bytes before = IsHeader bytes before ⊎ ((take 16 bytes ≢ codes "LibvirtQemudSave") × (before ≡ 0))

@@ -2,7 +2,6 @@
 
 use crate::heads::Head;
 use crate::notes::Notes;
-use crate::tail::Tail;
 use mig_mem::Place;
 use mig_stream::Report;
 use std::fs::Files;
@@ -28,9 +27,6 @@ pub(crate) trait Beside<H> {
     /// byte `valid`.
     fn look(&mut self, piece: &[u8], start: u64, valid: u64) -> Result<(), Trouble>;
 
-    /// Sees bytes after RAM.
-    fn look_after(&mut self, bytes: &[u8]) -> Result<(), Trouble>;
-
     /// Counts `len` bytes more of the input, and shows the progress.
     fn progress(&mut self, len: usize);
 }
@@ -43,7 +39,6 @@ pub(crate) struct Parts<'a, H, E> {
     pub(crate) last: &'a mut Option<Place>,
     pub(crate) notes: &'a mut Notes,
     pub(crate) head: &'a mut Head,
-    pub(crate) tail: &'a mut Tail,
     pub(crate) watch: &'a mut Watch,
     pub(crate) len: &'a mut u64,
 }
@@ -68,11 +63,6 @@ impl<'a, H: Files + Clock, E: Write> Beside<H> for Parts<'a, H, E> {
 
     fn look(&mut self, piece: &[u8], start: u64, valid: u64) -> Result<(), Trouble> {
         self.head.look(piece, start, valid)?;
-        Ok(())
-    }
-
-    fn look_after(&mut self, bytes: &[u8]) -> Result<(), Trouble> {
-        self.tail.look(bytes)?;
         Ok(())
     }
 

@@ -3,7 +3,9 @@
 //! It is JSON: `vmstate_save` in QEMU's `migration/savevm.c` begins a device, and
 //! `vmstate_save_state_v` in `migration/vmstate.c` lists its fields with the bytes of each.
 
-ghost use Rattle.std.specs.Prelude.{◌≤◌};
+ghost use Rattle.std.specs.Prelude.{◌≤◌, ◌↔◌, IfOk, IsSome, IsTrue, codes};
+ghost use Rattle.serde_json.specs.View.{view};
+ghost use Rattle.zimgasol_reading.specs.Ending.{array_at, HasState, IsDescription, IsDevice, ListsDevices};
 
 use serde_json::Value;
 use std::alloc::{AllocError, Global};
@@ -84,24 +86,36 @@ fn state_len(alloc: Global, device: &Value) -> Result<Option<u64>, AllocError> {
     Ok(Some(total))
 }
 
-// Returns whether a device has what QEMU writes beside its name: a version with the name of its
-// layout, or the size of a state without one; and its fields.
-fn has_state(device: &Value) -> bool {
-    let has_layout = device.get("vmsd_name").is_some_and(Value::is_string)
-        && device.get("version").is_some_and(Value::is_i64);
-    let has_size = device.get("size").is_some_and(Value::is_u64);
-    (has_layout || has_size) && device.get("fields").is_some_and(Value::is_array)
+// Returns whether a device has a version with the name of its layout, or the size of a state
+// without one.
+fn has_state(device: &Value) -> bool
+    ensures { IsTrue result ↔ HasState (view device.now) }
+{
+    let layout = device.get("vmsd_name").and_then(Value::as_str);
+    let version = device.get("version").and_then(Value::as_i64);
+    let size = device.get("size").and_then(Value::as_u64);
+    (layout.is_some() && version.is_some()) || size.is_some()
+}
+
+// Returns whether a device has its fields.
+fn has_fields(device: &Value) -> bool
+    ensures { IsTrue result ↔ IsSome (array_at (codes "fields") (view device.now)) }
+{
+    let fields = device.get("fields").and_then(Value::as_array);
+    fields.is_some()
 }
 
 // Returns a device of the list; None if it isn't one.
-fn device_in(alloc: Global, entry: &Value) -> Result<Option<Device>, AllocError> {
+fn device_in(alloc: Global, entry: &Value) -> Result<Option<Device>, AllocError>
+    ensures { IfOk result (λ device. IsSome device ↔ IsDevice (view entry.now)) }
+{
     let Some(name) = entry.get("name").and_then(Value::as_str) else {
         return Ok(None);
     };
     let Some(instance) = entry.get("instance_id").and_then(Value::as_i64) else {
         return Ok(None);
     };
-    if !has_state(entry) {
+    if !has_state(entry) || !has_fields(entry) {
         return Ok(None);
     }
     Ok(Some(Device {
@@ -112,7 +126,9 @@ fn device_in(alloc: Global, entry: &Value) -> Result<Option<Device>, AllocError>
 }
 
 // Returns the devices of a description; None if it has no list of devices.
-fn listed(alloc: Global, description: &Value) -> Result<Option<Vec<Device>>, AllocError> {
+fn listed(alloc: Global, description: &Value) -> Result<Option<Vec<Device>>, AllocError>
+    ensures { IfOk result (λ devices. IsSome devices ↔ ListsDevices (view description.now)) }
+{
     let Some(entries) = description.get("devices").and_then(Value::as_array) else {
         return Ok(None);
     };
@@ -131,7 +147,9 @@ fn listed(alloc: Global, description: &Value) -> Result<Option<Vec<Device>>, All
 /// # Errors
 ///
 /// `Trouble::NoMemory`.
-pub(crate) fn devices_in(alloc: Global, text: &[u8]) -> Result<Option<Vec<Device>>, Trouble> {
+pub(crate) fn devices_in(alloc: Global, text: &[u8]) -> Result<Option<Vec<Device>>, Trouble>
+    ensures { IfOk result (λ devices. IsSome devices ↔ IsDescription text.now) }
+{
     match Value::from_slice(alloc, text) {
         Ok(description) => Ok(listed(alloc, &description)?),
         Err(error) if error.is_memory() => Err(Trouble::NoMemory),

@@ -1,7 +1,7 @@
 //! Reads the header that libvirt puts before QEMU's stream in the file of `virsh save`
 //! (`virQEMUSaveHeader` in libvirt's `src/qemu/qemu_saveimage.h`).
 
-ghost use Rattle.std.specs.Prelude.{◌≡◌, ◌+◌, ◌≤◌, Bool, length, IfOk, IfSome};
+ghost use Rattle.std.specs.Prelude.{◌≡◌, ◌≢◌, ◌+◌, ◌≤◌, Bool, length, take, codes, IfOk, IfSome, IsNone};
 ghost use Rattle.zimgasol_reading.specs.Libvirt.{IsHeader, field_at};
 
 use zimgasol_files::{Packed, Trouble};
@@ -92,7 +92,8 @@ fn read_header(header: &[u8]) -> Result<LibvirtHeader, Trouble>
 /// `Trouble::Libvirt` if the save was never completed, the header is cut or has another version, or
 /// the stream is sparse. `Trouble::Packed` if the stream is compressed.
 pub fn header_of(bytes: &[u8]) -> Result<Option<LibvirtHeader>, Trouble>
-    ensures { IfOk result (λ found. IfSome found (λ header. IsHeader bytes.now header.len)) }
+    ensures header { IfOk result (λ found. IfSome found (λ header. IsHeader bytes.now header.len)) }
+    ensures none { IfOk result (λ found. IsNone found → take 16 bytes.now ≢ codes "LibvirtQemudSave") }
 {
     if bytes.starts_with(PARTIAL_MAGIC) {
         return Err(Trouble::Libvirt("libvirt never completed this save"));

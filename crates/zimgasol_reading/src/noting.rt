@@ -1,7 +1,7 @@
 //! What takes the records of a stream for its survey: it passes them to a sink, and notes what is
 //! printed of them.
 
-ghost use Rattle.std.specs.Prelude.{◌≡◌, List, [], ◌∷◌, ◌++◌, None, Some, OnOk};
+ghost use Rattle.std.specs.Prelude.{◌≡◌, ◌≤◌, ℕ, List, [], ◌∷◌, ◌++◌, length, drop, None, Some, OnOk};
 ghost use Rattle.std.specs.Option.{option_copied};
 ghost use Rattle.mig_mem.specs.RamTable.{RamTable};
 ghost use Rattle.mig_mem.specs.Place.{IsPlace};
@@ -13,6 +13,7 @@ use crate::beside::Beside;
 use crate::blocks::Blocks;
 use crate::front::Front;
 use crate::sink::GuestSink;
+use crate::tail::Tail;
 use mig_mem::{Place, Table};
 use mig_stream::{Report, StreamState};
 use std::alloc::{AllocGlobal, Global};
@@ -31,17 +32,20 @@ pub(crate) struct Noting<H, B: Drop, S: Drop> {
     // the bytes before RAM's records, until the sink takes them, and whether it has the table
     front: Front,
     has_begun: bool,
-    // the number of the stream's bytes that were read
+    // the number of the stream's bytes that were read, and the bytes after RAM
     fed: u64,
+    tail: Tail,
     // the handle by which the sink opens files
     handle: PhantomData<H>,
 }
 
 impl<H: AllocGlobal + Files, B: Beside<H> + Drop, S: GuestSink<H> + Drop> Noting<H, B, S> {
     /// Creates what passes a stream to `sink`, before its first byte was read.
-    pub(crate) fn new(alloc: Global, beside: B, sink: S) -> Noting<H, B, S>
+    pub(crate) fn new(alloc: Global, beside: B, sink: S, tail: Tail) -> Noting<H, B, S>
         ensures blocks { result.blocks ≡ None }
         ensures sink { result.sink ≡ sink }
+        ensures fed { result.fed ≡ 0 }
+        ensures tail { result.tail ≡ tail }
     {
         Noting {
             beside,
@@ -50,6 +54,7 @@ impl<H: AllocGlobal + Files, B: Beside<H> + Drop, S: GuestSink<H> + Drop> Noting
             front: Front::new(alloc),
             has_begun: false,
             fed: 0,
+            tail,
             handle: PhantomData,
         }
     }
@@ -59,6 +64,8 @@ impl<H: AllocGlobal + Files, B: Beside<H> + Drop, S: GuestSink<H> + Drop> Noting
     fn keep_front(&mut self, piece: &[u8]) -> Result<(), Trouble>
         ensures blocks { self.new.blocks ≡ self.old.blocks }
         ensures sink { OnOk result (StillHolds (S.holds self.old.sink) (S.holds self.new.sink)) }
+        ensures fed { self.new.fed ≡ self.old.fed }
+        ensures tail { self.new.tail ≡ self.old.tail }
     {
         if self.front.is_taken || !self.sink.keeps_state() {
             return Ok(());
@@ -74,13 +81,24 @@ impl<H: AllocGlobal + Files, B: Beside<H> + Drop, S: GuestSink<H> + Drop> Noting
         Ok(())
     }
 
-    /// Returns the blocks and their records, and the sink.
-    pub(crate) fn into_parts(self) -> (Option<Blocks>, S)
+    /// Returns the blocks and their records, the sink, and the bytes after RAM.
+    pub(crate) fn into_parts(self) -> (Option<Blocks>, S, Tail)
         ensures blocks { result.0 ≡ self.blocks }
         ensures sink { result.1 ≡ self.sink }
+        ensures tail { result.2 ≡ self.tail }
     {
-        (self.blocks, self.sink)
+        (self.blocks, self.sink, self.tail)
     }
+}
+
+// Returns the bytes of a piece that follow the stream's byte `valid`. The piece begins at the
+// stream's byte `start`.
+fn after_in(piece: &[u8], start: u64, valid: u64) -> &[u8]
+    ensures { (text : List ℕ) → start ≡ length text → start ≤ valid → valid ≤ length (text ++ piece.now) → result.now ≡ drop valid (text ++ piece.now) }
+{
+    let from = valid.saturating_sub(start).min(piece.len() as u64);
+    let (_, after) = piece.split_at(from as usize);
+    after
 }
 
 // Counts a record in the blocks, if there are some.
@@ -114,8 +132,11 @@ fn list_blocks(
 impl<H: AllocGlobal + Files, B: Beside<H> + Drop, S: GuestSink<H> + Drop> Taker
     for Noting<H, B, S> {
     ghost use Rattle.zimgasol_reading.specs.Recorded.{AreCountedAndTaken};
+    ghost use Rattle.zimgasol_reading.specs.Tailed.{HasSeenBytes};
 
     ghost holds = { λ noting. AreCountedAndTaken noting.blocks (S.holds noting.sink) };
+
+    ghost sees = { λ noting. HasSeenBytes noting.fed noting.tail };
 
     // Lists the blocks, and passes the table to the sink.
     fn begin(&mut self, table: &Table) -> Result<(), Trouble> {
@@ -152,9 +173,8 @@ impl<H: AllocGlobal + Files, B: Beside<H> + Drop, S: GuestSink<H> + Drop> Taker
         self.beside.look(piece, start, valid)?;
         self.keep_front(piece)?;
         if let StreamState::Closed = found {
-            let from = valid.saturating_sub(start);
-            let after = piece.get(from as usize..).unwrap_or(&[]);
-            self.beside.look_after(after)?;
+            let after = after_in(piece, start, valid);
+            self.tail.look(after)?;
             self.sink.take_after(after)?;
         }
         Ok(())
@@ -169,7 +189,7 @@ impl<H: AllocGlobal + Files, B: Beside<H> + Drop, S: GuestSink<H> + Drop> Taker
     }
 
     fn look_after(&mut self, piece: &[u8]) -> Result<(), Trouble> {
-        self.beside.look_after(piece)?;
+        self.tail.look(piece)?;
         self.sink.take_after(piece)
     }
 

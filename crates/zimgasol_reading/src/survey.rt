@@ -1,16 +1,20 @@
 //! Reads a single stream in pieces. Passes each page on as it is read, counts the stream's items,
 //! and finds its fault.
 
-ghost use Rattle.std.specs.Prelude.{◌≡◌, ◌↔◌, ◌<◌, ◌≤◌, ◌++◌, ◌^◌, ℕ, List, [], length, take, drop, Some, IfOk, OnOk, IfSome, IsTrue, false};
+ghost use Rattle.std.specs.Prelude.{◌≡◌, ◌↔◌, ◌<◌, ◌≤◌, ◌++◌, ◌^◌, ℕ, List, [], length, take, drop, Some, All, IfOk, OnOk, IfSome, IsNone, IsTrue, true, false};
 ghost use Rattle.std.specs.Io.KnownBytes.{Consumes, IsAtEnd};
 ghost use Rattle.mig_mem.specs.PageSize.{IsPageSize};
 ghost use Rattle.mig_stream.specs.declared.item.Mode.TheVariants.{Single};
+ghost use Rattle.mig_stream.specs.declared.item.StreamState.TheVariants.{Closed};
 ghost use Rattle.mig_stream.specs.Reading.{Settings, settings, in_frame};
 ghost use Rattle.zimgasol_course.specs.Course.{Stands};
+ghost use Rattle.zimgasol_course.specs.Seen.{OfStream, HasSeen};
+ghost use Rattle.zimgasol_files.specs.Asked.{page_bytes, most_total, ChecksEnding};
 ghost use Rattle.zimgasol_reading.specs.Coverage.{IsWhole, HasItsPages};
-ghost use Rattle.zimgasol_reading.specs.Libvirt.{IsHeader};
+ghost use Rattle.zimgasol_reading.specs.Libvirt.{IsHeader, IsBefore};
 ghost use Rattle.zimgasol_reading.specs.Recorded.{AreCountedAndTaken};
-ghost use Rattle.zimgasol_reading.specs.Surveyed.{IsSurveyed, IsTaken, IsAsked, before_of};
+ghost use Rattle.zimgasol_reading.specs.Surveyed.{IsSurveyed, IsTaken, IsAsked, IsEnded, before_of};
+ghost use Rattle.zimgasol_reading.specs.Tailed.{HasSeenBytes, HasEnding};
 
 use crate::beside::{Beside, Parts};
 use crate::blocks::{Blocks, Coverage};
@@ -65,8 +69,8 @@ pub struct Survey {
     pub is_partial: bool,
     /// The most bytes of guest memory that the size list may have.
     pub limit: u64,
-    // the bytes after RAM
-    tail: Tail,
+    // whether the bytes after RAM are checked
+    checks_tail: bool,
     // whether the input's end was reached, and the length of the file that it is
     is_over: bool,
     file_len: Option<u64>,
@@ -78,6 +82,8 @@ impl Survey {
         ensures page_size { IsPageSize result.page_size }
         ensures limit { result.limit ≤ 2 ^ 40 }
         ensures asked { (result.frame ≡ words.now.frame) × (result.is_partial ≡ words.now.partial) × (result.is_laid_over ≡ false) }
+        ensures sizes { (result.page_size ≡ page_bytes words.now.page_size) × (result.limit ≡ most_total words.now) }
+        ensures tail { result.checks_tail ≡ true ↔ ChecksEnding words.now }
     {
         let page_size = words.page_size.bytes();
         Survey {
@@ -97,7 +103,7 @@ impl Survey {
             is_laid_over: false,
             is_partial: words.partial,
             limit: words.limit(),
-            tail: Tail::new(alloc, words.checks_tail()),
+            checks_tail: words.checks_tail(),
             is_over: false,
             file_len: None,
         }
@@ -160,6 +166,7 @@ impl Survey {
         ensures bytes { IfOk result (λ len. Consumes (R.remaining input.old) (R.remaining input.new) (take len buffer.new)) }
         ensures end { IfOk result (λ len. len < length buffer.new → IsAtEnd (R.remaining input.new)) }
         ensures header { IfOk result (λ len. IfSome self.new.libvirt (λ header. IsHeader (take len buffer.new) header.len)) }
+        ensures before { IfOk result (λ len. IsBefore (take len buffer.new) (before_of self.new.libvirt)) }
         ensures asked { IsAsked self.old self.new }
     {
         let len = read_piece(input, buffer)?;
@@ -173,6 +180,7 @@ impl Survey {
         course: Course,
         blocks: Option<Blocks>,
         is_over: bool,
+        tail: &Tail,
     ) -> Result<(), Trouble>
         ensures asked { IsAsked self.old self.new }
         ensures libvirt { self.new.libvirt ≡ self.old.libvirt }
@@ -180,13 +188,14 @@ impl Survey {
         ensures sections { self.new.sections ≡ course.sections }
         ensures valid { self.new.valid ≡ course.valid }
         ensures blocks { self.new.blocks ≡ blocks }
+        ensures ending { OnOk result (course.state ≡ Closed → HasEnding self.old.checks_tail tail.now self.new.ending.fault) }
     {
         self.blocks = blocks;
         self.is_over = is_over;
         self.state = course.state;
         self.sections = course.sections;
         self.valid = course.valid;
-        self.ending = ending_of(&self.tail, self.state)?;
+        self.ending = ending_of(tail, self.checks_tail, self.state)?;
         Ok(())
     }
 
@@ -215,6 +224,9 @@ impl Survey {
             → IsSurveyed (in_frame self.old.frame (settings Single self.old.page_size self.old.limit)) (drop (before_of self.new.libvirt) text) self.new.state self.new.sections self.new.valid self.new.blocks) }
         ensures taken { OnOk result.0 ((text : List ℕ) → R.remaining input.old ≡ Some text → length text < 2 ^ 63
             → IsTaken (S.holds result.1) (in_frame self.old.frame (settings Single self.old.page_size self.old.limit)) (drop (before_of self.new.libvirt) text) self.new.state) }
+        ensures before { OnOk result.0 (16 ≤ length buffer.old → (text : List ℕ) → R.remaining input.old ≡ Some text → IsBefore text (before_of self.new.libvirt)) }
+        ensures ended { OnOk result.0 ((text : List ℕ) → R.remaining input.old ≡ Some text → length text < 2 ^ 63 → All (λ byte. byte < 2 ^ 8) text → self.new.state ≡ Closed
+            → IsEnded (self.old.checks_tail ≡ true) (in_frame self.old.frame (settings Single self.old.page_size self.old.limit)) (drop (before_of self.new.libvirt) text) self.new.ending.fault) }
     {
         let len = match self.read_first(input, buffer) {
             Ok(len) => len,
@@ -222,35 +234,42 @@ impl Survey {
         };
         let before = self.before();
         let course = Course::new(rt.alloc(), self.frame, self.page_size, self.limit);
+        let tail = Tail::new(rt.alloc(), self.checks_tail);
         let parts = Parts {
             rt,
             errors,
             last: &mut self.last,
             notes: &mut self.notes,
             head: &mut self.head,
-            tail: &mut self.tail,
             watch: &mut self.watch,
             len: &mut self.len,
         };
-        let noting = Noting::new(rt.alloc(), parts, sink);
+        let noting = Noting::new(rt.alloc(), parts, sink, tail);
         let (read, sink) = read_course(course, input, buffer, len, before, noting);
         match read {
-            Ok((course, blocks, is_over)) => (self.take_course(course, blocks, is_over), sink),
+            Ok((course, blocks, is_over, tail)) => {
+                (self.take_course(course, blocks, is_over, &tail), sink)
+            }
             Err(trouble) => (Err(trouble), sink),
         }
     }
 }
 
-// Returns what is known of the bytes after RAM, if the stream has them.
-fn ending_of(tail: &Tail, found: StreamState) -> Result<Ending, Trouble> {
+// Returns what is known of the bytes after RAM, if the stream has them and they are checked.
+fn ending_of(tail: &Tail, checks: bool, found: StreamState) -> Result<Ending, Trouble>
+    ensures { IfOk result (λ ending. found ≡ Closed → HasEnding checks tail.now ending.fault) }
+{
     match found {
-        StreamState::Closed => tail.ending(),
+        StreamState::Closed if checks => {
+            let ending = tail.ending()?;
+            Ok(ending)
+        }
         _ => Ok(Ending::unchecked()),
     }
 }
 
-// Reads a stream. Returns how far it was read, its blocks, and whether the input's end was reached;
-// and the sink.
+// Reads a stream. Returns how far it was read, its blocks, whether the input's end was reached, and
+// the bytes after RAM; and the sink.
 fn read_course<H: AllocGlobal + Files, R: Read, B: Beside<H> + Drop, S: GuestSink<H> + Drop>(
     mut course: Course,
     input: &mut R,
@@ -258,18 +277,22 @@ fn read_course<H: AllocGlobal + Files, R: Read, B: Beside<H> + Drop, S: GuestSin
     len: usize,
     before: u64,
     mut noting: Noting<H, B, S>,
-) -> (Result<(Course, Option<Blocks>, bool), Trouble>, S)
+) -> (Result<(Course, Option<Blocks>, bool, Tail), Trouble>, S)
     requires room { 0 < length buffer.old }
     requires within { len ≤ length buffer.old }
     requires end { len < length buffer.old → IsAtEnd (R.remaining input.old) }
-    ensures { IfOk result.0 (λ r. (given : Settings) (rest : List ℕ) → R.remaining input.old ≡ Some rest → length (take len buffer.old ++ rest) < 2 ^ 63
+    ensures ok { IfOk result.0 (λ r. (given : Settings) (rest : List ℕ) → R.remaining input.old ≡ Some rest → length (take len buffer.old ++ rest) < 2 ^ 63
         → Stands (AreCountedAndTaken noting.blocks (S.holds noting.sink)) given [] course.pause course.state course.sections course.valid course.has_begun
         → Stands (AreCountedAndTaken r.1 (S.holds result.1)) given (drop before (take len buffer.old ++ rest)) r.0.pause r.0.state r.0.sections r.0.valid r.0.has_begun) }
+    ensures seen { IfOk result.0 (λ r. (given : Settings) (rest : List ℕ) → R.remaining input.old ≡ Some rest → length (take len buffer.old ++ rest) < 2 ^ 63
+        → Stands (AreCountedAndTaken noting.blocks (S.holds noting.sink)) given [] course.pause course.state course.sections course.valid course.has_begun
+        → HasSeen (HasSeenBytes noting.fed noting.tail) [] course.pause course.state course.valid
+        → (fed : ℕ) × HasSeen (HasSeenBytes fed r.3) (drop before (take len buffer.old ++ rest)) r.0.pause r.0.state r.0.valid) }
 {
     let read = course.read(input, buffer, len, before, &mut noting);
-    let (blocks, sink) = noting.into_parts();
+    let (blocks, sink, tail) = noting.into_parts();
     match read {
-        Ok(is_over) => (Ok((course, blocks, is_over)), sink),
+        Ok(is_over) => (Ok((course, blocks, is_over, tail)), sink),
         Err(trouble) => (Err(trouble), sink),
     }
 }
@@ -280,9 +303,12 @@ fn begin_survey<H: AllocGlobal + Clock>(
     words: &StreamWords<'_>,
     metadata: Option<&Metadata>,
 ) -> Result<(Vec<u8>, Survey), Trouble>
-    ensures room { IfOk result (λ r. 0 < length r.0.items) }
+    ensures some { IfOk result (λ r. 0 < length r.0.items) }
+    ensures room { IfOk result (λ r. 16 ≤ length r.0.items) }
     ensures asked { IfOk result (λ r. (r.1.frame ≡ words.now.frame) × (r.1.is_partial ≡ words.now.partial) × (r.1.is_laid_over ≡ false)) }
     ensures bounds { IfOk result (λ r. IsPageSize r.1.page_size × (r.1.limit ≤ 2 ^ 40)) }
+    ensures sizes { IfOk result (λ r. (r.1.page_size ≡ page_bytes words.now.page_size) × (r.1.limit ≡ most_total words.now)) }
+    ensures tail { IfOk result (λ r. r.1.checks_tail ≡ true ↔ ChecksEnding words.now) }
 {
     let buffer = piece_buffer(rt.alloc())?;
     let watch = Watch::new(rt, rt.alloc(), words.talk, words.file)?;
@@ -314,11 +340,15 @@ pub fn read_input<H: AllocGlobal + Files + Clock, R: Read, S: GuestSink<H> + Dro
 ) -> (Result<Survey, Trouble>, S)
     ensures asked { IfOk result.0 (λ s. (s.frame ≡ words.now.frame) × (s.is_partial ≡ words.now.partial) × (s.is_laid_over ≡ false)) }
     ensures bounds { IfOk result.0 (λ s. IsPageSize s.page_size × (s.limit ≤ 2 ^ 40)) }
+    ensures sizes { IfOk result.0 (λ s. (s.page_size ≡ page_bytes words.now.page_size) × (s.limit ≡ most_total words.now)) }
+    ensures before { IfOk result.0 (λ s. (text : List ℕ) → R.remaining input.old ≡ Some text → IsBefore text (before_of s.libvirt)) }
     ensures header { IfOk result.0 (λ s. (text : List ℕ) → R.remaining input.old ≡ Some text → IfSome s.libvirt (λ header. IsHeader text header.len)) }
     ensures found { IfOk result.0 (λ s. (text : List ℕ) → R.remaining input.old ≡ Some text → length text < 2 ^ 63
         → IsSurveyed (in_frame s.frame (settings Single s.page_size s.limit)) (drop (before_of s.libvirt) text) s.state s.sections s.valid s.blocks) }
     ensures taken { IfOk result.0 (λ s. (text : List ℕ) → R.remaining input.old ≡ Some text → length text < 2 ^ 63
         → IsTaken (S.holds result.1) (in_frame s.frame (settings Single s.page_size s.limit)) (drop (before_of s.libvirt) text) s.state) }
+    ensures ended { IfOk result.0 (λ s. (text : List ℕ) → R.remaining input.old ≡ Some text → length text < 2 ^ 63 → All (λ byte. byte < 2 ^ 8) text → s.state ≡ Closed
+        → IsEnded (ChecksEnding words.now) (in_frame s.frame (settings Single s.page_size s.limit)) (drop (before_of s.libvirt) text) s.ending.fault) }
 {
     let (mut buffer, mut survey) = match begin_survey(rt, words, metadata) {
         Ok(begun) => begun,

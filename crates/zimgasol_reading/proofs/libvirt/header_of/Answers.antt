@@ -1,10 +1,10 @@
-use Rattle.std.proofs.Common.{sym, arith}
+use Rattle.std.proofs.Common.{◌≡◌, take, sym, ap, ◌∙◌, subst, arith}
 use Rattle.std.proofs.lemmas.Bool.Decides.{Decides-eqb}
 use Rattle.std.proofs.lemmas.Slice.Eq.{slice_eq-Decides}
 use Rattle.zimgasol_reading.proofs.libvirt.header_of.Goals as goal
 
-pub returns : goal.returns
-returns c =
+pub returns-clause-header : goal.returns-clause-header
+returns-clause-header c =
     let h = c.in_ok-read_header.ensures in
     record {
       is_little = h.0;
