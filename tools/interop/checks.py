@@ -3,6 +3,7 @@
 Each takes a `Bench`, and returns the text on what was compared, or raises `Differs`.
 """
 import re
+import time
 from dataclasses import dataclass
 from pathlib import Path
 
@@ -13,6 +14,8 @@ from ours import (Differs, Programs, block_words, compare, extracted, fault_of,
 
 # The rounds after which a guest that writes is stopped.
 ROUNDS = 6
+# How long the firmware of a guest runs before a background snapshot.
+SECONDS_OF_FIRMWARE = 2
 # What is said of a machine that leaves out its shared memory.
 SHARED_OUT = "left out shared memory (`x-ignore-shared`)"
 # A stream without a configuration is refused unless the receiver runs with this.
@@ -84,6 +87,29 @@ def read_single(bench, kind, capabilities=(), **parameters):
     ran(bench.programs.zimgasol, "verify", stream, "--quiet")
     came = extracted(bench.programs.zimgasol, stream, bench.file("memory"))
     return compare_written(bench, kind, stream, wanted, came)
+
+
+def write_snapshot(bench, kind):
+    """Has QEMU write a background snapshot of a guest, once that has stopped. Returns the file, and the guest's memory then.
+
+    QEMU watches for writes to memory that no file has, and lets the guest run on after the snapshot.
+    """
+    stream = bench.file("guest.sav")
+    stream.unlink(missing_ok=True)
+    with qemu.Guest(bench.qemu, kind.mib * MIB, words_of(kind, bench.folder), running=True) as guest:
+        time.sleep(SECONDS_OF_FIRMWARE)
+        guest.qmp.call("stop")
+        guest.set(["background-snapshot"])
+        wanted = guest.blocks()
+        qemu.written_file(guest, stream)
+        return stream, wanted
+
+
+def read_snapshot(bench, kind):
+    """QEMU writes a background snapshot, and `zimgasol` verifies and extracts it."""
+    stream, wanted = write_snapshot(bench, kind)
+    ran(bench.programs.zimgasol, "verify", stream, "--quiet")
+    return compare(wanted, extracted(bench.programs.zimgasol, stream, bench.file("memory")))
 
 
 def read_between(bench, kind):

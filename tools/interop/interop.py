@@ -27,7 +27,7 @@ import packages
 import qemu
 import states
 from checks import (NO_CONFIGURATION, Bench, chain, leave_shared_out, load_saved, read_between,
-                    load_mapped, load_mapped_of_c, read_mapped_in_c, read_single, refuse_xbzrle)
+                    load_mapped, load_mapped_of_c, read_mapped_in_c, read_single, read_snapshot, refuse_xbzrle)
 from guests import KINDS, NONE, OLD, PC, PC_UUID, PC_WRITING, Q35, SMALL, old_files
 from ours import TOP, Differs, Programs
 
@@ -102,9 +102,17 @@ def read_files(table, bench, version):
                lambda: read_single(bench, PC_UUID, ("validate-uuid",)))
     table.try_(Row(version, "QEMU, extract", PC.name, "return-path, between two QEMUs"),
                lambda: read_between(bench, PC))
+    if qemu.number(version) >= (8, 0):
+        # (7.2 doesn't show where its blocks lie, and this guest's RAM is in no file)
+        row = Row(version, "QEMU, extract", PC.name, "background-snapshot")
+        table.try_(row, lambda: read_snapshot(bench, PC))
     if qemu.number(version) >= (9, 0):
         row = Row(version, "QEMU, extract", PC.name, "mapped-ram")
         table.try_(row, lambda: read_single(bench, PC, ("mapped-ram",)))
+        row = Row(version, "QEMU, extract", PC.name, f"mapped-ram, {on_channels(2)}")
+        table.try_(row, lambda: read_single(bench, PC, ("mapped-ram", "multifd"), multifd_channels=2))
+        row = Row(version, "QEMU, extract", PC.name, "mode=cpr-reboot")
+        table.try_(row, lambda: read_single(bench, PC, mode="cpr-reboot"))
         for way in ("none", "legacy"):
             row = Row(version, "QEMU, extract", PC_WRITING.name, f"zero-page-detection={way}")
             table.try_(row, lambda: read_single(bench, PC_WRITING, zero_page_detection=way))
@@ -180,8 +188,13 @@ def restore_machines(table, bench, version):
     way = "QEMU, extract, save --state, QEMU"
     for kind in (PC, PC_WRITING, Q35, *old_files(qemu.number(version))):
         table.try_(Row(version, way, kind.name, "a file"), lambda: states.restore(bench, kind))
+    row = Row(version, way, PC.name, "with other RAM")
+    table.try_(row, lambda: states.restore_replaced(bench, PC))
     row = Row(version, way, PC_WRITING.name, "after libvirt's header, made by hand")
     table.try_(row, lambda: states.restore_libvirt(bench, PC_WRITING))
+    if qemu.number(version) >= (8, 0):
+        row = Row(version, way, PC.name, "background-snapshot")
+        table.try_(row, lambda: states.restore_snapshot(bench, PC))
     if qemu.number(version) >= (9, 0):
         for kind in (PC, PC_WRITING, Q35):
             table.try_(Row(version, way, kind.name, "mapped-ram"), lambda: states.restore_mapped(bench, kind))

@@ -104,6 +104,12 @@ def block_words(folder):
     return [word for it in blocks for word in ("--block", f"{it['id']}={folder / it['file']}")]
 
 
+def file_of(folder, block):
+    """The file of a block in a folder that `extract` made."""
+    blocks = json.loads((folder / "blocks.json").read_text())["blocks"]
+    return next(folder / it["file"] for it in blocks if it["id"] == block)
+
+
 def fault_of(said):
     """The number of the fault that a program printed; None where there is none."""
     found = re.search(r"\bfault (\d+)", said)

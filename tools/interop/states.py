@@ -8,9 +8,9 @@ import time
 
 import channels
 import qemu
-from checks import compare_written, rounds_of, write_file
-from guests import MIB, words_of
-from ours import Differs, compare, extracted, ran
+from checks import compare_written, rounds_of, write_file, write_snapshot
+from guests import MIB, PAGE, memory, words_of
+from ours import Differs, compare, extracted, file_of, ran
 
 XML = b"<domain><name>interop</name></domain>\0"
 # libvirt's header of a save that is complete, of a guest that ran, not compressed, without a cookie
@@ -53,6 +53,23 @@ def restore(bench, kind):
     stream, wanted = write_file(bench, kind)
     out = saved_again(bench, stream)
     return resumed(bench, kind, out, lambda came: compare_written(bench, kind, stream, wanted, came))
+
+
+def restore_snapshot(bench, kind):
+    """A background snapshot, extracted and saved with its state, resumes."""
+    stream, wanted = write_snapshot(bench, kind)
+    return resumed(bench, kind, saved_again(bench, stream), lambda came: compare(wanted, came))
+
+
+def restore_replaced(bench, kind):
+    """QEMU's file, extracted, with other bytes put into the file of RAM, and saved with its state, resumes with these."""
+    zimgasol, folder, out = bench.programs.zimgasol, bench.file("memory"), bench.file("again.sav")
+    stream, wanted = write_file(bench, kind)
+    extracted(zimgasol, stream, folder)
+    other = memory(kind.mib * MIB // PAGE, seed=11)
+    file_of(folder, "ram").write_bytes(other)
+    ran(zimgasol, "save", "--state", folder, "--replace", out)
+    return resumed(bench, kind, out, lambda came: compare({**wanted, "ram": other}, came))
 
 
 def restore_libvirt(bench, kind):
