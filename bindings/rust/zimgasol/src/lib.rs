@@ -12,6 +12,7 @@
 //! | [`load`](Load) | loads of one stream, or of a main stream and its channels |
 //! | [`receive`] | threads that receive a guest, a connection each |
 //! | [`send`](Sender) | sends of one stream, or on several channels |
+//! | [`mapped`] | files with mapped-ram, in which each page has an offset of its own |
 //!
 //! Two of its pages are sent as one stream, and loaded:
 //!
@@ -44,6 +45,7 @@
 
 mod error;
 mod load;
+pub mod mapped;
 pub mod receive;
 mod send;
 mod table;

@@ -106,6 +106,16 @@ impl Table {
         }
     }
 
+    /// Makes the table that a call writes to an empty handle.
+    pub(crate) fn made(
+        page_size: PageSize,
+        call: impl FnOnce(&mut sys::zimgasol_table) -> sys::zimgasol_status,
+    ) -> Result<Table, Error> {
+        let mut handle = EMPTY;
+        done(call(&mut handle))?;
+        Ok(Table { handle: Mutex::new(Handle(handle)), page_size })
+    }
+
     /// Makes a call with the handle, while no other one has it.
     pub(crate) fn with<R>(&self, call: impl FnOnce(&mut sys::zimgasol_table) -> R) -> R {
         call(&mut self.handle.lock().unwrap_or_else(PoisonError::into_inner).0)
