@@ -5,11 +5,11 @@
 
 A capture is `NAME.stream`, `NAME.main` with its channels `NAME.0`, `NAME.1` and so on, or libvirt's
 `NAME.save`. A single stream or a file of libvirt's may be packed by xz, as `NAME.stream.xz`. With
-mapped-ram it is compared with the plain stream that tools/mapped_facts.py makes of it. `NAME.image` is the guest's memory, in the order of the size list; in its place
-`NAME.sums` has the SHA-256 of each block of QEMU's own memory, a line each, or `-` for a block of
-shared memory that isn't in the stream (x-ignore-shared). `NAME.blocks` is the guest's description,
-as JSON. They give the expected verdict, the memory, and the byte at which
-RAM's END ends.
+mapped-ram it is compared with the plain stream that tools/mapped_facts.py makes of it. `NAME.image`
+is the guest's memory, in the order of the size list; in its place `NAME.sums` has the SHA-256 of
+each block of QEMU's own memory, a line each, or `-` for a block of shared memory that isn't in the
+stream (x-ignore-shared). `NAME.blocks` is the guest's description, as JSON. They give the expected
+verdict, the memory, and the byte at which RAM ends. A capture without a memory differs.
 
 PROGRAM is `zimgasol`, by default as `make program` builds it. Each capture is verified, listed and
 extracted, with its channels by `--channel`. The lines and the JSON that it prints, the exit status,
@@ -96,10 +96,10 @@ class Capture:
         return len(text) - len(stream) + ram_end(stream)
 
     def image_digests(self, lengths):
-        """The SHA-256 of each block of QEMU's own memory."""
+        """The SHA-256 of each block of QEMU's own memory; None if neither NAME.image nor NAME.sums is there."""
         image, sums = self.beside.with_suffix(".image"), self.beside.with_suffix(".sums")
         if not image.exists():
-            return sums.read_text().split()
+            return sums.read_text().split() if sums.exists() else None
         with image.open("rb") as image:
             digests = [hashlib.sha256(image.read(length)).hexdigest() for length in lengths]
             return digests if not image.read(1) else []

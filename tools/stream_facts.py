@@ -2,7 +2,8 @@
 
 If the bytes end too early, it raises EOFError with the place and the number of complete sections.
 `facts` reads the bytes as QEMU's migration/savevm.c and migration/ram.c write them, up to the
-footer of RAM's END, and raises on anything else. It reads pages of 4,096 bytes.
+footer of RAM's END, or in a background snapshot to the first device's section, and raises on
+anything else. It reads pages of 4,096 bytes.
 """
 import hashlib
 import struct
@@ -135,6 +136,10 @@ def facts(data):
             subsection(reader, found, at)
         elif kind == 8:
             command(reader, found, found["sections"], at)
+        elif kind == 4 and found["sections"] > 1:
+            # a background snapshot has a START, a PART and no END
+            reader.at -= 1
+            break
         else:
             section(reader, kind, found)
     found["end"] = reader.at

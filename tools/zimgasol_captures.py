@@ -56,9 +56,11 @@ def facts_of(capture):
     if capture.blocks:
         expect("NAME.blocks, blocks", capture.blocks, sizes)
         expect("NAME.blocks, notes", capture.notes, [said(it) for it in found["notes"]])
-    found["digests"] = capture.image_digests([length for _, length in sizes])
+    known = capture.image_digests([length for _, length in sizes])
+    if known is None:
+        raise Differs("there is no NAME.image and no NAME.sums to compare its memory with")
     digests = {it: stream_facts.digest(memory) for it, memory in found["memory"].items()}
-    for block, wanted in zip(digests, found["digests"]):
+    for block, wanted in zip(digests, known):
         if not is_outside(found, block):
             expect(f"NAME.image, block {block}", wanted, digests[block])
     found["digests"] = list(digests.values())
