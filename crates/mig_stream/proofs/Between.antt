@@ -12,7 +12,7 @@ use Rattle.mig_stream.specs.declared.item.Frame.{Frame}
 use Rattle.mig_stream.specs.declared.item.EntryForm.{EntryForm}
 use Rattle.mig_stream.specs.declared.item.EntryForm.TheVariants.{Plain, Addressed, Sized}
 use Rattle.mig_stream.specs.declared.item.PassedItem.{PassedItem}
-use Rattle.mig_stream.specs.declared.item.PassedItem.TheVariants.{Command, SubsectionHead, SubsectionBody, Capability, Address}
+use Rattle.mig_stream.specs.declared.item.PassedItem.TheVariants.{Command, SubsectionHead, SubsectionBody, Capability, Address, Early}
 use Rattle.mig_stream.specs.declared.item.Due.{Due}
 use Rattle.mig_stream.specs.declared.item.Due.TheVariants.{FileHeader, TypeByte, ConfigLength, ConfigName, StartHead, SectionHead, RecordHead, ListEntry}
 use Rattle.mig_stream.specs.declared.item.Due.TheVariants.{PageSize, BlockName, Content, Footer, Passed, Nothing}
@@ -59,6 +59,7 @@ no_records (Passed SubsectionHead) = refl
 no_records (Passed (SubsectionBody kind)) = refl
 no_records (Passed (Capability others)) = refl
 no_records (Passed (Address last)) = tt
+no_records (Passed (Early before part)) = refl
 no_records Nothing = refl
 
 abbrev StaysEmpty : StreamProgress → Type 0
@@ -76,7 +77,7 @@ empty_due : (d : Due) (records : List PageRecord) → records ≡ [] → IsEmpty
 empty_due d records e = subst (IsEmpty d) (sym e) (no_records d)
 
 type_byte_empty : (c : StreamProgress) (before : Before) (b : ℕ) → c.records ≡ [] → StaysEmpty (after_type_byte c before b)
-type_byte_empty c before b e = cond_both (is_passed c.frame before b) _ _ StaysEmpty
+type_byte_empty c before b e = cond_both (is_passed c.frame c.section before b) _ _ StaysEmpty
     (λ _. empty_due (Passed (passed_by before b)) c.records e) (λ _. type_empty c b e)
 
 -- after the guest address of a block stands another entry, or a record
@@ -87,6 +88,7 @@ passed_empty c (SubsectionBody kind) item h = empty_due (behind_passed (Subsecti
 passed_empty c (Capability others) item h = empty_due (behind_passed (Capability others) item) c.records h
 passed_empty c (Address true) item h = tt
 passed_empty c (Address false) item h = tt
+passed_empty c (Early before part) item h = empty_due (behind_passed (Early before part) item) c.records h
 
 entry_empty : (form : EntryForm) (last : Bool) (records : List PageRecord) → IsEmpty (entry_due form last) records
 entry_empty Plain true records = tt

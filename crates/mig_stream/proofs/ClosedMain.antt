@@ -16,7 +16,8 @@ use Rattle.mig_stream.specs.declared.item.Filling.TheVariants.{Zero, Normal}
 use Rattle.mig_stream.specs.declared.item.Subsection.{Subsection}
 use Rattle.mig_stream.specs.declared.item.Subsection.TheVariants.{PageBits, Uuid, Capabilities}
 use Rattle.mig_stream.specs.declared.item.PassedItem.{PassedItem}
-use Rattle.mig_stream.specs.declared.item.PassedItem.TheVariants.{Command, SubsectionHead, SubsectionBody, Capability, Address}
+use Rattle.mig_stream.specs.declared.item.PassedItem.TheVariants.{Command, SubsectionHead, SubsectionBody, Capability, Address, Early}
+use Rattle.mig_stream.specs.declared.item.EarlyPart.TheVariants as early
 use Rattle.mig_stream.specs.declared.item.RecordKind.{RecordKind}
 use Rattle.mig_stream.specs.declared.item.RecordKind.TheVariants.{SizeList, Named, Continued, EndOfSection, Flush}
 use Rattle.mig_stream.specs.declared.item.EntryForm.{EntryForm}
@@ -88,16 +89,16 @@ type_closes : (c : StreamProgress) (before : Before) (item : List ℕ) → is_si
     → (after_type_byte c before (slice_index item 0)).due ≡ Nothing → (after_type_byte c before (slice_index item 0)).records ≡ []
 type_closes c before item main free closed =
     let b : ℕ = slice_index item 0 in
-    elim (cases_Bool (is_passed c.frame before b)) [
+    elim (cases_Bool (is_passed c.frame c.section before b)) [
       | inl p ↦ absurd (let e : Passed (passed_by before b) ≡ Nothing = rw p at closed in cc)
       | inr n ↦
-          let t1 = passed (not (is_allowed before b || is_passed c.frame before b)) stream_fault.SectionType
+          let t1 = passed (not (is_allowed before b || is_passed c.frame c.section before b)) stream_fault.SectionType
           ((has_tail (b == end_byte) c, stream_fault.Tail) ∷ []) free in
           let t2 = passed (has_tail (b == end_byte) c) stream_fault.Tail [] t1.1 in
           let allowed : is_allowed before b ≡ true =
-          elim (or_cases (is_allowed before b) (is_passed c.frame before b) (not-false _ t1.0)) [ inl a ↦ a | inr p ↦ absurd cc ] in
+          elim (or_cases (is_allowed before b) (is_passed c.frame c.section before b) (not-false _ t1.0)) [ inl a ↦ a | inr p ↦ absurd cc ] in
           let here : after_type_byte c before b ≡ after_type c b =
-          cond-false (is_passed c.frame before b) (record c { due = Passed (passed_by before b) }) (after_type c b) n in
+          cond-false (is_passed c.frame c.section before b) (record c { due = Passed (passed_by before b) }) (after_type c b) n in
           let end : (b == end_byte) ≡ true = type_ends c before b allowed (sym (ap (λ (x : StreamProgress). x.due) here) ∙ closed) in
           ap (λ (x : StreamProgress). x.records) here ∙ type_records c b ∙ no_tail (b == end_byte) c main end t2.0
     ]
@@ -145,6 +146,10 @@ passed_never c (SubsectionBody Uuid) item free e = absurd cc
 passed_never c (SubsectionBody Capabilities) item free e = capabilities_never (be32_at 0 item) e
 passed_never c (Capability others) item free e = capabilities_never others e
 passed_never c (Address last) item free e = list_never last e
+passed_never c (Early before early.Head) item free e = absurd cc
+passed_never c (Early before (early.Numbers id)) item free e = absurd cc
+passed_never c (Early before (early.Plugged id others)) item free e = absurd cc
+passed_never c (Early before (early.Footer id)) item free e = absurd cc
 
 head_never : (c : StreamProgress) (k : Option RecordKind) (page : ℕ) → c.due ≢ Nothing → (after_head c k page).due ≡ Nothing → ⊥
 head_never c None page here e = here e

@@ -22,7 +22,7 @@ use Rattle.mig_stream.specs.Items.{first_fault}
 use Rattle.mig_stream.specs.Reading.{settings, in_frame, after_all, Front, Ends, stopped}
 use Rattle.mig_stream.specs.Text.{file_header, size_list, start_head, body, footer, section as spelled_section}
 use Rattle.mig_stream.specs.Machine.{Command, command_bytes, command, Uuid, Capabilities, form_of, tailed_list, configured, subsection_head, subsection}
-use Rattle.mig_stream.specs.Machine.{CommandOf, part_or_command}
+use Rattle.mig_stream.specs.Machine.{CommandOf, PassedOf, part_or_passed}
 use Rattle.mig_stream.specs.Reader.{IsClosedAt}
 use Rattle.mig_stream.proofs.Closing.{closed_by}
 use Rattle.mig_stream.specs.Written.{RoundPart, FlushPart, written, written_parts, opening, closing}
@@ -166,7 +166,7 @@ switchover = record { number = 11; carried = [] }
 
 -- it is spelled so
 empty_spelled : file_header ++ configured None ++ flat_map command [] ++ start_head 1 ++ size_list (table 4096 1) ++ body (table 4096 1) 1 []
-    ++ flat_map (part_or_command (table 4096 1) 1) (CommandOf switchover ∷ []) ++ spelled_section (table 4096 1) section.End 1 [] ≡ empty_machine
+    ++ flat_map (part_or_passed (table 4096 1) 1) (PassedOf (CommandOf switchover) ∷ []) ++ spelled_section (table 4096 1) section.End 1 [] ≡ empty_machine
 unfolding file_header size_list
 empty_spelled = refl
 
@@ -285,12 +285,12 @@ other_version : first_fault (record (machine Single) { due = Passed pass.Subsect
 unfolding subsection_name be32_at
 other_version = refl
 
--- A subsection stands after the configuration alone, and the section of a device before END
--- nowhere.
+-- A subsection stands after the configuration alone, and the section of a device before the first
+-- PART alone.
 late_subsection : first_fault (record (machine Single) { due = TypeByte before.Command }) (0x05 ∷ []) ≡ Some fault.SectionType
 late_subsection = refl
 
-early_device : first_fault (record (machine Single) { due = TypeByte before.Configuration }) (0x04 ∷ []) ≡ Some fault.SectionType
+early_device : first_fault (record (machine Single) { due = TypeByte before.Configuration }) (0x04 ∷ []) ≡ None
 early_device = refl
 
 -- ---- what follows the entries of a machine's size list
@@ -320,10 +320,10 @@ abbrev page_sizes : List ℕ
 page_sizes = be64 0x201000 ++ be64 0x1000
 
 -- With postcopy of RAM it says that page sizes may follow; for dirty bitmaps alone it says nothing.
-advise_form : form_of None (advise page_sizes ∷ []) ≡ Sized
+advise_form : form_of None (CommandOf (advise page_sizes) ∷ []) ≡ Sized
 advise_form = refl
 
-bitmaps_form : form_of None (advise [] ∷ []) ≡ form_of None []
+bitmaps_form : form_of None (CommandOf (advise []) ∷ []) ≡ form_of None []
 bitmaps_form = refl
 
 -- Beside "x-ignore-shared" it is refused.

@@ -11,7 +11,8 @@ use Rattle.mig_stream.specs.declared.item.RecordKind.{RecordKind}
 use Rattle.mig_stream.specs.declared.item.RecordKind.TheVariants.{SizeList, Named, Continued, EndOfSection, Flush}
 use Rattle.mig_stream.specs.declared.item.Before.{Before}
 use Rattle.mig_stream.specs.declared.item.PassedItem.{PassedItem}
-use Rattle.mig_stream.specs.declared.item.PassedItem.TheVariants.{Command, SubsectionHead, SubsectionBody, Capability, Address}
+use Rattle.mig_stream.specs.declared.item.PassedItem.TheVariants.{Command, SubsectionHead, SubsectionBody, Capability, Address, Early}
+use Rattle.mig_stream.specs.declared.item.EarlyPart.TheVariants as early
 use Rattle.mig_stream.specs.declared.item.Subsection.TheVariants.{PageBits, Uuid, Capabilities}
 use Rattle.mig_stream.specs.declared.item.Due.{Due}
 use Rattle.mig_stream.specs.declared.item.Due.TheVariants.{FileHeader, TypeByte, ConfigLength, ConfigName, StartHead, SectionHead, RecordHead, ListEntry}
@@ -40,7 +41,7 @@ type_size c byte =
     cond_both (eqb byte 3) _ _ (λ (x : StreamProgress). x.page_size ≡ c.page_size) (λ _. refl) (λ _. refl))))
 
 type_byte_size : (c : StreamProgress) (before : Before) (byte : ℕ) → (after_type_byte c before byte).page_size ≡ c.page_size
-type_byte_size c before byte = cond_both (is_passed c.frame before byte) _ _ (λ (x : StreamProgress). x.page_size ≡ c.page_size)
+type_byte_size c before byte = cond_both (is_passed c.frame c.section before byte) _ _ (λ (x : StreamProgress). x.page_size ≡ c.page_size)
     (λ _. refl) (λ _. type_size c byte)
 
 -- so does a record head, of any kind
@@ -99,6 +100,10 @@ passed_some (SubsectionBody Uuid) item = omega arith
 passed_some (SubsectionBody Capabilities) item = omega arith
 passed_some (Capability others) item = omega arith
 passed_some (Address last) item = omega arith
+passed_some (Early before early.Head) item = omega arith
+passed_some (Early before (early.Numbers id)) item = omega arith
+passed_some (Early before (early.Plugged id others)) item = omega arith
+passed_some (Early before (early.Footer id)) item = omega arith
 
 -- an item is not empty, or it is a name, after which no name comes
 pub work_falls : (c : StreamProgress) (d : Due) (item : List ℕ) → 0 < c.page_size → d ≢ Nothing

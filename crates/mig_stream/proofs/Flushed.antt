@@ -67,7 +67,8 @@ head_faults_same c flags (Some k) page e = kind_faults_same c k page e
 faults_same : (c : StreamProgress) (d : Due) (item : List ℕ) → c.mode ≡ MainBySection → faults (to_flush c) d item ≡ faults c d item
 faults_same c FileHeader item e = refl
 faults_same c (TypeByte before) item e =
-    ap (λ (t : Bool). (not (is_allowed before (slice_index item 0) || is_passed c.frame before (slice_index item 0)), fault.SectionType) ∷ (t, fault.Tail) ∷ [])
+    ap (λ (t : Bool). (not (is_allowed before (slice_index item 0) || is_passed c.frame c.section before (slice_index item 0)), fault.SectionType)
+    ∷ (t, fault.Tail) ∷ [])
     (tail_same (slice_index item 0 == end_byte) c e)
 faults_same c ConfigLength item e = refl
 faults_same c (ConfigName n) item e = refl
@@ -93,8 +94,8 @@ after_type_same c b = sym (simp (choice to_flush))
 
 after_type_byte_same : (c : StreamProgress) (before : Before) (b : ℕ) → after_type_byte (to_flush c) before b ≡ to_flush (after_type_byte c before b)
 after_type_byte_same c before b =
-    ap (λ (x : StreamProgress). cond (is_passed c.frame before b) (to_flush (record c { due = Passed (passed_by before b) })) x) (after_type_same c b)
-    ∙ sym (choice to_flush (is_passed c.frame before b) (record c { due = Passed (passed_by before b) }) (after_type c b))
+    ap (λ (x : StreamProgress). cond (is_passed c.frame c.section before b) (to_flush (record c { due = Passed (passed_by before b) })) x) (after_type_same c b)
+    ∙ sym (choice to_flush (is_passed c.frame c.section before b) (record c { due = Passed (passed_by before b) }) (after_type c b))
 
 room_same : (waiting room : Option ℕ) → open_room Main waiting room ≡ open_room MainBySection waiting room
 room_same None room = refl

@@ -30,9 +30,10 @@ use Rattle.mig_stream.specs.Items.{is_single, is_machine, is_part, is_addressed,
 use Rattle.mig_stream.specs.Reading.{Settings, IsOver, Ends, StreamReading, IsReading}
 use Rattle.mig_stream.specs.Text.{Record, HasNoFlush, page_records, file_header, configuration, start_head, size_list, total_bytes, Follow}
 use Rattle.mig_stream.specs.Text.{all_records, body, section, IsText, AreRounds}
-use Rattle.mig_stream.specs.Machine.{Command, command, IsCommand, is_advise, names_shared, ignores_shared, form_of, IsTail, entries, tailed_list}
-use Rattle.mig_stream.specs.Machine.{SubsectionBody, subsection, Configuration, configured, IsConfiguration, PartOrCommand, PartOf, CommandOf, part_or_command}
-use Rattle.mig_stream.specs.Machine.{IsPartOrCommand, parts_of, IsMachineText, IsSnapshotText}
+use Rattle.mig_stream.specs.Machine.{PassedSection, passed_section, IsPassedSection, has_advise, names_shared, ignores_shared, form_of, IsTail, entries}
+use Rattle.mig_stream.specs.Machine.{tailed_list}
+use Rattle.mig_stream.specs.Machine.{SubsectionBody, subsection, Configuration, configured, IsConfiguration, PartOrPassed, PartOf, PassedOf, part_or_passed}
+use Rattle.mig_stream.specs.Machine.{AreBetween, parts_of, IsMachineText, IsSnapshotText}
 use Rattle.mig_stream.specs.Law.{ReadIsSpelled, HasMachineText, HasSnapshot, HasMachineRam, MachineReadIsSpelled}
 use Rattle.mig_stream.proofs.Stopping.{over_is}
 use Rattle.mig_stream.proofs.Plain.{plain_due, single_from}
@@ -42,7 +43,7 @@ use Rattle.mig_stream.proofs.Modes.{single_kept}
 use Rattle.mig_stream.proofs.SectionRounds.{rounds_spelled}
 use Rattle.mig_stream.proofs.FoundFields.{IsBytes, bytes_from_all, bytes_of_front}
 use Rattle.mig_stream.proofs.Tails.{plain_list}
-use Rattle.mig_stream.proofs.FoundTail.{ends_of, last_records, end_bytes, StandsAfter, HasNoCommand, Follow-append, FlushesFit-cons}
+use Rattle.mig_stream.proofs.FoundTail.{ends_of, last_records, end_bytes, StandsAfter, HasNoPassed, Follow-append, FlushesFit-cons}
 use Rattle.mig_stream.proofs.FoundOpening.{RestOfFile}
 use Rattle.mig_stream.proofs.FoundItems.{MayStop, items_back}
 
@@ -63,27 +64,28 @@ regroup f c x s l b p e = simp append_assoc
 pub record IsFramedText (frame : Frame) (mode : Mode) (limit : ℕ) (text : List ℕ) (table : RamTable) (rounds : List (List PageRecord)) : Type 0 where
   pub id : ℕ
   pub machine : Option Configuration
-  pub commands : List Command
+  pub opening : List PassedSection
   pub tails : List (List ℕ)
   pub first : List Record
-  pub others : List PartOrCommand
+  pub others : List PartOrPassed
   pub last : Option (List Record)
-  pub is_spelled : text ≡ file_header ++ configured machine ++ flat_map command commands ++ start_head id ++ tailed_list table tails ++ body table id first
-      ++ flat_map (part_or_command table id) others ++ end_bytes table id (is_machine frame) last
+  pub is_spelled : text ≡ file_header ++ configured machine ++ flat_map passed_section opening ++ start_head id ++ tailed_list table tails
+      ++ body table id first
+      ++ flat_map (part_or_passed table id) others ++ end_bytes table id (is_machine frame) last
   pub has_table : IsTable table
   pub has_limit : total_bytes table ≤ limit
   pub has_id : id < 2 ^ 32
   pub has_machine : IfSome machine (IsConfiguration table.page_size)
-  pub are_commands : AllByRecursion IsCommand commands
-  pub is_one_form : ignores_shared machine ≡ true → list_any is_advise commands ≡ false
+  pub is_opening : AllByRecursion (IsPassedSection true) opening
+  pub is_one_form : ignores_shared machine ≡ true → list_any has_advise opening ≡ false
   pub has_tails : length tails ≡ length table.blocks
-  pub are_tails : AllByRecursion (IsTail (form_of machine commands)) tails
-  pub are_others : AllByRecursion IsPartOrCommand others
+  pub are_tails : AllByRecursion (IsTail (form_of machine opening)) tails
+  pub are_others : AreBetween true others
   pub follow : Follow table None (first ++ all_records (parts_of others) ++ last_records last)
   pub has_rounds : AreRounds mode (first ∷ parts_of others ++ ends_of last) rounds
   pub no_subsections : is_machine frame ≡ false → IfSome machine (λ x. x.subsections ≡ [])
-  pub no_commands : is_machine frame ≡ false → commands ≡ []
-  pub no_others : is_machine frame ≡ false → HasNoCommand others
+  pub no_opening : is_machine frame ≡ false → opening ≡ []
+  pub no_others : is_machine frame ≡ false → HasNoPassed others
 
 -- A complete stream that is left from the first byte on is a stream of its table and its rounds.
 pub record IsFound (frame : Frame) (mode : Mode) (page_size limit : ℕ) (to : StreamProgress) (text : List ℕ) : Type 0 where
@@ -106,21 +108,21 @@ text_found frame mode page_size limit waiting to text size small file =
     let tail = records.others in
     let id = begun.id in
     let table : RamTable = record { page_size = page_size; blocks = list.blocks } in
-    let others = flat_map (part_or_command table id) tail.others ++ end_bytes table id (is_machine frame) tail.last in
+    let others = flat_map (part_or_passed table id) tail.others ++ end_bytes table id (is_machine frame) tail.last in
     let six : list.tail ≡ body table id records.records ++ others = records.has_bytes
     ∙ ap (λ (x : List ℕ). body table id records.records ++ x) tail.has_bytes in
     let five : begun.tail ≡ tailed_list table list.tails ++ (body table id records.records ++ others) =
     list.has_bytes ∙ list_spelled table list.tails list.tail ∙ ap (λ (x : List ℕ). tailed_list table list.tails ++ x) six in
     let four : before.tail ≡ start_head id ++ (tailed_list table list.tails ++ (body table id records.records ++ others)) =
     begun.has_bytes ∙ ap (λ (x : List ℕ). start_head id ++ x) five in
-    let commands : opening.tail ≡ flat_map command before.commands
+    let commands : opening.tail ≡ flat_map passed_section before.opening
     ++ (start_head id ++ (tailed_list table list.tails ++ (body table id records.records ++ others))) =
-    before.has_bytes ∙ ap (λ (x : List ℕ). flat_map command before.commands ++ x) four in
+    before.has_bytes ∙ ap (λ (x : List ℕ). flat_map passed_section before.opening ++ x) four in
     let three : file.tail ≡ configured opening.machine
-    ++ (flat_map command before.commands ++ (start_head id ++ (tailed_list table list.tails ++ (body table id records.records ++ others)))) =
+    ++ (flat_map passed_section before.opening ++ (start_head id ++ (tailed_list table list.tails ++ (body table id records.records ++ others)))) =
     opening.has_bytes ∙ ap (λ (x : List ℕ). configured opening.machine ++ x) commands in
     let spelled : text ≡ file_header ++ (configured opening.machine
-    ++ (flat_map command before.commands ++ (start_head id ++ (tailed_list table list.tails ++ (body table id records.records ++ others))))) =
+    ++ (flat_map passed_section before.opening ++ (start_head id ++ (tailed_list table list.tails ++ (body table id records.records ++ others))))) =
     file.has_bytes ∙ ap (λ (x : List ℕ). file_header ++ x) three in
     let sum : total_bytes table ≡ sum_of page_size list.blocks = total_is_sum table in
     let behind : List (List Record) = parts_of tail.others ++ ends_of tail.last in
@@ -134,19 +136,19 @@ text_found frame mode page_size limit waiting to text size small file =
       has_text = record {
         id = id;
         machine = opening.machine;
-        commands = before.commands;
+        opening = before.opening;
         tails = list.tails;
         first = records.records;
         others = tail.others;
         last = tail.last;
-        is_spelled = spelled ∙ regroup file_header (configured opening.machine) (flat_map command before.commands) (start_head id)
-            (tailed_list table list.tails) (body table id records.records) (flat_map (part_or_command table id) tail.others)
+        is_spelled = spelled ∙ regroup file_header (configured opening.machine) (flat_map passed_section before.opening) (start_head id)
+            (tailed_list table list.tails) (body table id records.records) (flat_map (part_or_passed table id) tail.others)
             (end_bytes table id (is_machine frame) tail.last);
         has_table = table_from_blocks table size list.has_some (omega (arith, list.has_few)) list.are_blocks (omega (arith, sum, list.has_limit));
         has_limit = omega (arith, sum, list.has_limit);
         has_id = begun.has_id;
         has_machine = opening.has_machine;
-        are_commands = before.are_commands;
+        is_opening = before.is_opening;
         is_one_form = λ shared. before.is_one_form (ap (λ (b : Bool). is_addressed (cond b Addressed Plain)) shared);
         has_tails = list.has_tails;
         are_tails = list.are_tails;
@@ -155,7 +157,7 @@ text_found frame mode page_size limit waiting to text size small file =
             (Follow-append table None records.records (all_records (parts_of tail.others) ++ last_records tail.last) records.follow tail.follow);
         has_rounds = subst (AreRounds mode (records.records ∷ parts_of tail.others ++ ends_of tail.last)) (sym tail.has_rounds) rounds;
         no_subsections = opening.in_frame;
-        no_commands = before.in_frame;
+        no_opening = before.in_frame;
         no_others = tail.in_frame;
       };
       stands = tail.stands;
@@ -202,7 +204,7 @@ read_as given bytes reading size small all is stop =
     }
 
 -- where no item is due after it, there is END
-last_is : (to : StreamProgress) (kind : Section) (others : List PartOrCommand) (last : Option (List Record)) → StandsAfter to kind others last
+last_is : (to : StreamProgress) (kind : Section) (others : List PartOrPassed) (last : Option (List Record)) → StandsAfter to kind others last
     → to.due ≡ Nothing → (records : List Record) × (last ≡ Some records)
 last_is to kind others None stands due = absurd (let clash : Nothing ≡ TypeByte before.Footer = sym due ∙ stands.0 in cc)
 last_is to kind others (Some records) stands due = (records, refl)
@@ -222,11 +224,11 @@ plain_name : (p : ℕ) (o : Option Configuration) → IfSome o (IsConfiguration 
 plain_name p None is = tt
 plain_name p (Some x) is = is.has_name
 
-plain_parts : (table : RamTable) (id : ℕ) (others : List PartOrCommand) → HasNoCommand others
-    → flat_map (part_or_command table id) others ≡ flat_map (section table Part id) (parts_of others)
+plain_parts : (table : RamTable) (id : ℕ) (others : List PartOrPassed) → HasNoPassed others
+    → flat_map (part_or_passed table id) others ≡ flat_map (section table Part id) (parts_of others)
 plain_parts table id [] none = refl
 plain_parts table id (PartOf records ∷ others) none = ap (λ (x : List ℕ). section table Part id records ++ x) (plain_parts table id others none)
-plain_parts table id (CommandOf x ∷ others) none = absurd none
+plain_parts table id (PassedOf x ∷ others) none = absurd none
 
 -- and nothing follows the entries
 plain_machine : (o : Option Configuration) → IfSome o (λ x. x.subsections ≡ []) → form_of o [] ≡ Plain
@@ -238,22 +240,23 @@ ram_text : (mode : Mode) (limit : ℕ) (text : List ℕ) (table : RamTable) (rou
 ram_text mode limit text table rounds t last is_last =
     let c = plain_configuration t.machine (t.no_subsections refl) in
     let p = plain_parts table t.id t.others (t.no_others refl) in
-    let form : form_of t.machine t.commands ≡ Plain = ap (form_of t.machine) (t.no_commands refl) ∙ plain_machine t.machine (t.no_subsections refl) in
+    let form : form_of t.machine t.opening ≡ Plain = ap (form_of t.machine) (t.no_opening refl) ∙ plain_machine t.machine (t.no_subsections refl) in
     let l : tailed_list table t.tails ≡ size_list table =
     plain_list table t.tails t.has_tails (subst (λ (f : EntryForm). AllByRecursion (IsTail f) t.tails) form t.are_tails) in
-    let parts : List ℕ = flat_map (part_or_command table t.id) t.others in
+    let parts : List ℕ = flat_map (part_or_passed table t.id) t.others in
     let before_end : List ℕ → List ℕ → List ℕ → List ℕ → List ℕ =
     λ c x l p. file_header ++ c ++ x ++ start_head t.id ++ l ++ body table t.id t.first ++ p in
     let behind : List ℕ → List ℕ → List ℕ → List ℕ → List ℕ = λ c x l p. before_end c x l p ++ section table End t.id last ++ end_byte ∷ [] in
-    let spelled : text ≡ behind (configured t.machine) (flat_map command t.commands) (tailed_list table t.tails) parts =
-    t.is_spelled ∙ ap (λ (o : Option (List Record)). before_end (configured t.machine) (flat_map command t.commands) (tailed_list table t.tails) parts
+    let spelled : text ≡ behind (configured t.machine) (flat_map passed_section t.opening) (tailed_list table t.tails) parts =
+    t.is_spelled ∙ ap (λ (o : Option (List Record)). before_end (configured t.machine) (flat_map passed_section t.opening) (tailed_list table t.tails) parts
     ++ end_bytes table t.id false o) is_last
-    ∙ sym (append_assoc (before_end (configured t.machine) (flat_map command t.commands) (tailed_list table t.tails) parts)
+    ∙ sym (append_assoc (before_end (configured t.machine) (flat_map passed_section t.opening) (tailed_list table t.tails) parts)
     (section table End t.id last) (end_byte ∷ [])) in
-    let one : text ≡ behind (configuration (name_of t.machine)) (flat_map command t.commands) (tailed_list table t.tails) parts =
-    spelled ∙ ap (λ (x : List ℕ). behind x (flat_map command t.commands) (tailed_list table t.tails) parts) c in
+    let one : text ≡ behind (configuration (name_of t.machine)) (flat_map passed_section t.opening) (tailed_list table t.tails) parts =
+    spelled ∙ ap (λ (x : List ℕ). behind x (flat_map passed_section t.opening) (tailed_list table t.tails) parts) c in
     let two : text ≡ behind (configuration (name_of t.machine)) [] (tailed_list table t.tails) parts = one
-    ∙ ap (λ (x : List Command). behind (configuration (name_of t.machine)) (flat_map command x) (tailed_list table t.tails) parts) (t.no_commands refl) in
+    ∙ ap (λ (x : List PassedSection). behind (configuration (name_of t.machine)) (flat_map passed_section x) (tailed_list table t.tails) parts)
+    (t.no_opening refl) in
     let listed : text ≡ behind (configuration (name_of t.machine)) [] (size_list table) parts = two
     ∙ ap (λ (x : List ℕ). behind (configuration (name_of t.machine)) [] x parts) l in
     let three : text ≡ behind (configuration (name_of t.machine)) [] (size_list table)
@@ -302,12 +305,12 @@ read_law given bytes reading ram size small all is closed =
 machine_text : (mode : Mode) (limit : ℕ) (text : List ℕ) (table : RamTable) (rounds : List (List PageRecord))
     → (t : IsFramedText Machine mode limit text table rounds) (last : List Record) → t.last ≡ Some last → IsMachineText mode limit text table rounds
 machine_text mode limit text table rounds t last is_last =
-    let front : List ℕ = file_header ++ configured t.machine ++ flat_map command t.commands ++ start_head t.id ++ tailed_list table t.tails
-    ++ body table t.id t.first ++ flat_map (part_or_command table t.id) t.others in
+    let front : List ℕ = file_header ++ configured t.machine ++ flat_map passed_section t.opening ++ start_head t.id ++ tailed_list table t.tails
+    ++ body table t.id t.first ++ flat_map (part_or_passed table t.id) t.others in
     record {
       id = t.id;
       machine = t.machine;
-      commands = t.commands;
+      opening = t.opening;
       tails = t.tails;
       first = t.first;
       others = t.others;
@@ -318,7 +321,7 @@ machine_text mode limit text table rounds t last is_last =
       has_limit = t.has_limit;
       has_id = t.has_id;
       has_machine = t.has_machine;
-      are_commands = t.are_commands;
+      is_opening = t.is_opening;
       is_one_form = t.is_one_form;
       has_tails = t.has_tails;
       are_tails = t.are_tails;
@@ -354,8 +357,8 @@ sections_are mode sections rounds single are =
 snapshot_text : (mode : Mode) (limit : ℕ) (text : List ℕ) (table : RamTable) (rounds : List (List PageRecord)) → mode ≡ Single
     → (t : IsFramedText Machine mode limit text table rounds) → t.last ≡ None → 0 < length (parts_of t.others) → IsSnapshotText mode limit text table rounds
 snapshot_text mode limit text table rounds single t none some =
-    let front : List ℕ = file_header ++ configured t.machine ++ flat_map command t.commands ++ start_head t.id ++ tailed_list table t.tails
-    ++ body table t.id t.first ++ flat_map (part_or_command table t.id) t.others in
+    let front : List ℕ = file_header ++ configured t.machine ++ flat_map passed_section t.opening ++ start_head t.id ++ tailed_list table t.tails
+    ++ body table t.id t.first ++ flat_map (part_or_passed table t.id) t.others in
     let sections : List (List Record) = t.first ∷ parts_of t.others in
     let spelled : text ≡ front = t.is_spelled ∙ ap (λ (o : Option (List Record)). front ++ end_bytes table t.id true o) none ∙ append-nil front in
     let rounds_are : AreRounds mode sections rounds = subst (λ (x : List (List Record)). AreRounds mode x rounds) (append-nil sections)
@@ -366,7 +369,7 @@ snapshot_text mode limit text table rounds single t none some =
       with_end = record {
         id = t.id;
         machine = t.machine;
-        commands = t.commands;
+        opening = t.opening;
         tails = t.tails;
         first = t.first;
         others = t.others;
@@ -376,7 +379,7 @@ snapshot_text mode limit text table rounds single t none some =
         has_limit = t.has_limit;
         has_id = t.has_id;
         has_machine = t.has_machine;
-        are_commands = t.are_commands;
+        is_opening = t.is_opening;
         is_one_form = t.is_one_form;
         has_tails = t.has_tails;
         are_tails = t.are_tails;
@@ -388,7 +391,7 @@ snapshot_text mode limit text table rounds single t none some =
     }
 
 -- where RAM is over without END, there is no END, and a PART
-none_last : (to : StreamProgress) (others : List PartOrCommand) (last : Option (List Record)) → StandsAfter to Start others last
+none_last : (to : StreamProgress) (others : List PartOrPassed) (last : Option (List Record)) → StandsAfter to Start others last
     → to.due ≡ TypeByte before.Footer → is_part to.section ≡ true → (last ≡ None) × (0 < length (parts_of others))
 none_last to others (Some records) stands due part = absurd (let clash : Nothing ≡ TypeByte before.Footer = sym stands ∙ due in cc)
 none_last to others None stands due part = (refl, some_part (parts_of others) refl)

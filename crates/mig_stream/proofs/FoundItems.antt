@@ -49,6 +49,7 @@ use Rattle.mig_stream.proofs.Steps.{not_size, passed}
 use Rattle.mig_stream.proofs.FoundPassed.{command_found, head_found as head_found_of, bits_found, capability_found}
 use Rattle.mig_stream.proofs.FoundRest.{RestAt, RestAtPassed, RestFrom}
 use Rattle.mig_stream.proofs.FoundHeads.{head_back}
+use Rattle.mig_stream.proofs.FoundEarly.{early_back}
 use Rattle.mig_stream.proofs.FoundTypes.{type_back}
 
 -- after the length of a configuration's name stands the name, or no byte of it
@@ -318,6 +319,7 @@ passed_back to c (pass.Address last) item bytes len all free r = record {
   is_tail = len;
   rest = listed_at to c last bytes r;
 }
+passed_back to c (pass.Early b part) item bytes len all free r = early_back to c b part item bytes len all free r
 
 -- The item of each kind in front of what is left after it.
 pub item_back : (to c : StreamProgress) (d : Due) (item bytes : List ℕ) → c.due ≡ d → IsItem c.page_size d item → IsBytes item

@@ -17,12 +17,12 @@ use Rattle.mig_stream.specs.declared.item.Due.{Due}
 use Rattle.mig_stream.specs.declared.item.Due.TheVariants.{FileHeader, TypeByte, ConfigLength, ConfigName, StartHead, RecordHead}
 use Rattle.mig_stream.specs.declared.fault.StreamFault.TheVariants as fault
 use Rattle.mig_stream.specs.Fields.{be32, counted, be32_at}
-use Rattle.mig_stream.specs.Format.{magic, version, section_type, command_type, subsection_type, configuration_type, ram_name, ram_instance, ram_version}
+use Rattle.mig_stream.specs.Format.{magic, version, section_type, subsection_type, configuration_type, ram_name, ram_instance, ram_version}
 use Rattle.mig_stream.specs.Format.{most_name_bytes}
 use Rattle.mig_stream.specs.Progress.{StreamProgress}
 use Rattle.mig_mem.specs.First.{first_of}
 use Rattle.mig_stream.specs.Items.{faults, is_machine, is_addressed}
-use Rattle.mig_stream.specs.Machine.{Command, command_bytes, command, IsCommand, is_advise, ignore_shared_in, names_shared, ignores_shared, SubsectionBody}
+use Rattle.mig_stream.specs.Machine.{PassedSection, passed_section, IsPassedSection, has_advise, ignore_shared_in, names_shared, ignores_shared, SubsectionBody}
 use Rattle.mig_stream.specs.Machine.{kind_of, body_bytes, IsCapability, IsSubsectionBody, subsection_head, subsection, Configuration, configured}
 use Rattle.mig_stream.specs.Machine.{IsConfiguration}
 use Rattle.mig_stream.specs.Text.{file_header, start_head}
@@ -42,24 +42,24 @@ pub record RestOfStart (front : List ℕ) (to c : StreamProgress) (bytes : List 
   pub has_id : id < 2 ^ 32
   pub rest : RestOfList (Behind to) (record c { due = RecordHead; section = Start; section_id = id }) tail
 
--- COMMANDs are left, and then START.
-pub record RestOfCommands (to c : StreamProgress) (bytes : List ℕ) : Type 0 where
-  pub commands : List Command
+-- What is passed over is left, and then START.
+pub record RestOfPassed (to c : StreamProgress) (bytes : List ℕ) : Type 0 where
+  pub opening : List PassedSection
   pub tail : List ℕ
-  pub has_bytes : bytes ≡ flat_map command commands ++ tail
-  pub are_commands : AllByRecursion IsCommand commands
-  pub in_frame : is_machine c.frame ≡ false → commands ≡ []
-  pub is_one_form : is_addressed c.form ≡ true → list_any is_advise commands ≡ false
-  pub rest : RestOfStart [] to (record c { form = cond (list_any is_advise commands) Sized c.form }) tail
+  pub has_bytes : bytes ≡ flat_map passed_section opening ++ tail
+  pub is_opening : AllByRecursion (IsPassedSection true) opening
+  pub in_frame : is_machine c.frame ≡ false → opening ≡ []
+  pub is_one_form : is_addressed c.form ≡ true → list_any has_advise opening ≡ false
+  pub rest : RestOfStart [] to (record c { form = cond (list_any has_advise opening) Sized c.form }) tail
 
--- Subsections of the configuration are left, then COMMANDs, and START.
+-- Subsections of the configuration are left, then what is passed over, and START.
 pub record RestOfConfigured (to c : StreamProgress) (bytes : List ℕ) : Type 0 where
   pub subsections : List SubsectionBody
   pub tail : List ℕ
   pub has_bytes : bytes ≡ flat_map subsection subsections ++ tail
   pub are_bodies : AllByRecursion (IsSubsectionBody c.page_size) subsections
   pub in_frame : is_machine c.frame ≡ false → subsections ≡ []
-  pub rest : RestOfCommands to (record c { form = cond (list_any names_shared subsections) Addressed c.form }) tail
+  pub rest : RestOfPassed to (record c { form = cond (list_any names_shared subsections) Addressed c.form }) tail
 
 -- The name of a configuration is left, and then START.
 pub record RestOfConfigName (to c : StreamProgress) (len : ℕ) (bytes : List ℕ) : Type 0 where
@@ -84,7 +84,7 @@ pub record RestOfOpening (to c : StreamProgress) (bytes : List ℕ) : Type 0 whe
   pub has_bytes : bytes ≡ configured machine ++ tail
   pub has_machine : IfSome machine (IsConfiguration c.page_size)
   pub in_frame : is_machine c.frame ≡ false → IfSome machine (λ x. x.subsections ≡ [])
-  pub rest : RestOfCommands to (record c { form = cond (ignores_shared machine) Addressed c.form }) tail
+  pub rest : RestOfPassed to (record c { form = cond (ignores_shared machine) Addressed c.form }) tail
 
 -- The complete stream is left.
 pub record RestOfFile (to c : StreamProgress) (bytes : List ℕ) : Type 0 where
@@ -122,13 +122,13 @@ pub start_type_back : (to c : StreamProgress) (bytes : List ℕ) → RestOfStart
     → RestOfStart [] to c (section_type Start ∷ bytes)
 start_type_back to c bytes r = record { id = r.id; tail = r.tail; has_bytes = r.has_bytes; has_id = r.has_id; rest = r.rest }
 
--- START may stand where COMMANDs may
-pub no_commands_back : (to c : StreamProgress) (bytes : List ℕ) → RestOfStart [] to c bytes → RestOfCommands to c bytes
-no_commands_back to c bytes r = record {
-  commands = [];
+-- START may stand where something is passed over
+pub no_passed_back : (to c : StreamProgress) (bytes : List ℕ) → RestOfStart [] to c bytes → RestOfPassed to c bytes
+no_passed_back to c bytes r = record {
+  opening = [];
   tail = bytes;
   has_bytes = refl;
-  are_commands = tt;
+  is_opening = tt;
   in_frame = λ ram. refl;
   is_one_form = λ addressed. refl;
   rest = r;
@@ -139,41 +139,41 @@ pub start_at : (front : List ℕ) (to c : StreamProgress) (d : Due) (bytes : Lis
     → RestOfStart front to (record c { due = d }) bytes → RestOfStart front to c bytes
 start_at front to c d bytes r = record { id = r.id; tail = r.tail; has_bytes = r.has_bytes; has_id = r.has_id; rest = r.rest }
 
--- what is left from COMMANDs on doesn't depend on the item that was due
-pub commands_at : (to c : StreamProgress) (d : Due) (bytes : List ℕ) → RestOfCommands to (record c { due = d }) bytes → RestOfCommands to c bytes
-commands_at to c d bytes r = record {
-  commands = r.commands;
+-- what is left from what is passed over on doesn't depend on the item that was due
+pub passed_at : (to c : StreamProgress) (d : Due) (bytes : List ℕ) → RestOfPassed to (record c { due = d }) bytes → RestOfPassed to c bytes
+passed_at to c d bytes r = record {
+  opening = r.opening;
   tail = r.tail;
   has_bytes = r.has_bytes;
-  are_commands = r.are_commands;
+  is_opening = r.is_opening;
   in_frame = r.in_frame;
   is_one_form = r.is_one_form;
-  rest = start_at [] to (record c { form = cond (list_any is_advise r.commands) Sized c.form }) d r.tail r.rest;
+  rest = start_at [] to (record c { form = cond (list_any has_advise r.opening) Sized c.form }) d r.tail r.rest;
 }
 
--- a COMMAND in front of others
-pub command_back : (to c : StreamProgress) (x : Command) (tail bytes : List ℕ) → is_machine c.frame ≡ true → IsCommand x
-    → (is_addressed c.form && is_advise x) ≡ false → bytes ≡ command_bytes x ++ tail
-    → RestOfCommands to (record c { form = cond (is_advise x) Sized c.form }) tail → RestOfCommands to c (command_type ∷ bytes)
-command_back to c x tail bytes machine is fits e q =
-    let others : Bool = list_any is_advise q.commands in
+-- what is passed over, in front of others
+pub passed_back : (to c : StreamProgress) (x : PassedSection) (tail bytes : List ℕ) → is_machine c.frame ≡ true → IsPassedSection true x
+    → (is_addressed c.form && has_advise x) ≡ false → bytes ≡ passed_section x ++ tail
+    → RestOfPassed to (record c { form = cond (has_advise x) Sized c.form }) tail → RestOfPassed to c bytes
+passed_back to c x tail bytes machine is fits e q =
+    let others : Bool = list_any has_advise q.opening in
     record {
-      commands = x ∷ q.commands;
+      opening = x ∷ q.opening;
       tail = q.tail;
-      has_bytes = ap (λ (y : List ℕ). command_type ∷ y) (e ∙ ap (λ (y : List ℕ). command_bytes x ++ y) q.has_bytes)
-          ∙ sym (append_assoc (command x) (flat_map command q.commands) q.tail);
-      are_commands = (is, q.are_commands);
+      has_bytes = e ∙ ap (λ (y : List ℕ). passed_section x ++ y) q.has_bytes
+          ∙ sym (append_assoc (passed_section x) (flat_map passed_section q.opening) q.tail);
+      is_opening = (is, q.is_opening);
       in_frame = λ ram. absurd (let clash : true ≡ false = sym machine ∙ ram in cc);
       is_one_form = λ addressed.
-          let isnt : is_advise x ≡ false = fits_apart (is_addressed c.form) (is_advise x) fits addressed in
+          let isnt : has_advise x ≡ false = fits_apart (is_addressed c.form) (has_advise x) fits addressed in
           ap (λ (b : Bool). b || others) isnt ∙ q.is_one_form (ap (λ (b : Bool). is_addressed (cond b Sized c.form)) isnt ∙ addressed);
-      rest = subst (λ (form : EntryForm). RestOfStart [] to (record c { form = form }) q.tail) (twice (is_advise x) others Sized c.form) q.rest;
+      rest = subst (λ (form : EntryForm). RestOfStart [] to (record c { form = form }) q.tail) (twice (has_advise x) others Sized c.form) q.rest;
     }
 
 -- ---- configurations
 
 -- a configuration may have no subsection
-pub no_subsections_back : (to c : StreamProgress) (bytes : List ℕ) → RestOfCommands to c bytes → RestOfConfigured to c bytes
+pub no_subsections_back : (to c : StreamProgress) (bytes : List ℕ) → RestOfPassed to c bytes → RestOfConfigured to c bytes
 no_subsections_back to c bytes r = record { subsections = []; tail = bytes; has_bytes = refl; are_bodies = tt; in_frame = λ ram. refl; rest = r }
 
 -- what is left of a configuration doesn't depend on the item that was due
@@ -184,7 +184,7 @@ configured_at to c d bytes r = record {
   has_bytes = r.has_bytes;
   are_bodies = r.are_bodies;
   in_frame = r.in_frame;
-  rest = commands_at to (record c { form = cond (list_any names_shared r.subsections) Addressed c.form }) d r.tail r.rest;
+  rest = passed_at to (record c { form = cond (list_any names_shared r.subsections) Addressed c.form }) d r.tail r.rest;
 }
 
 -- what a subsection holds, in front of others
@@ -236,7 +236,7 @@ subsection_back to c bytes machine r =
           ∙ regroup_subsection (subsection_head (kind_of h)) (body_bytes h) (flat_map subsection q.subsections) q.tail subsection_type;
       are_bodies = (r.is_body, q.are_bodies);
       in_frame = λ ram. absurd (let clash : true ≡ false = sym machine ∙ ram in cc);
-      rest = subst (λ (form : EntryForm). RestOfCommands to (record c { form = form }) q.tail)
+      rest = subst (λ (form : EntryForm). RestOfPassed to (record c { form = form }) q.tail)
           (twice (names_shared h) (list_any names_shared q.subsections) Addressed c.form) q.rest;
     }
   where
@@ -279,14 +279,14 @@ configuration_back to c bytes r =
           ∙ regroup_configuration (be32 (length r.name)) r.name (flat_map subsection q.subsections) q.tail configuration_type;
       has_machine = record { has_name = r.has_length; are_bodies = q.are_bodies };
       in_frame = q.in_frame;
-      rest = commands_at to (record c { form = cond (list_any names_shared q.subsections) Addressed c.form }) (TypeByte before.Configuration) q.tail q.rest;
+      rest = passed_at to (record c { form = cond (list_any names_shared q.subsections) Addressed c.form }) (TypeByte before.Configuration) q.tail q.rest;
     }
   where
     regroup_configuration : (len name others tail : List ℕ) (kind : ℕ) → kind ∷ (len ++ (name ++ (others ++ tail))) ≡ ((kind ∷ (len ++ name)) ++ others) ++ tail
     regroup_configuration len name others tail kind = simp append_assoc
 
 -- there may be no configuration
-pub no_configuration_back : (to c : StreamProgress) (bytes : List ℕ) → RestOfCommands to c bytes → RestOfOpening to c bytes
+pub no_configuration_back : (to c : StreamProgress) (bytes : List ℕ) → RestOfPassed to c bytes → RestOfOpening to c bytes
 no_configuration_back to c bytes r = record { machine = None; tail = bytes; has_bytes = refl; has_machine = tt; in_frame = λ ram. tt; rest = r }
 
 -- ---- the file header

@@ -60,6 +60,15 @@ be64_small item len all none =
     let small : from_be_bytes w64 item < 2 ^ 56 = small_rest item all none in
     omega (arith, is, small)
 
+-- a number of eight bytes is below 2^64
+long_number : (bytes : List ℕ) → IsBytes bytes → from_be_bytes w64 bytes < 2 ^ 64
+long_number bytes all = omega (arith, all 0, all 1, all 2, all 3, all 4, all 5, all 6, all 7)
+
+-- and so is the one at a place
+pub be64_fits : (item : List ℕ) (at : ℕ) → at + 8 ≤ length item → IsBytes item → be64_at at item < 2 ^ 64
+unfolding be64_at
+be64_fits item at le all = long_number (slice_range item at (at + 8)) (bytes_of_slice item at 8 le all)
+
 -- what is left of an item from a place on, before and after a number
 be32_next : (item : List ℕ) (at : ℕ) → at + 4 ≤ length item → IsBytes item → drop at item ≡ be32 (be32_at at item) ++ drop (at + 4) item
 be32_next item at le all = drop_split item at (at + 4) (omega arith) ∙ ap (λ (x : List ℕ). x ++ drop (at + 4) item) (be32_part item at le all)
@@ -109,6 +118,33 @@ head_named item len all =
     let number : drop (1 + n) item ≡ be32 (be32_at (1 + n) item) = be32_last item (1 + n) (omega arith) all in
     let long : n ≡ length (id_in item) = sym (length_slice item 1 n (omega arith)) in
     first ∙ ap (λ (x : List ℕ). n ∷ x) (id ∙ ap (λ (x : List ℕ). id_in item ++ x) number) ∙ ap (λ (x : ℕ). x ∷ (id_in item ++ be32 (be32_at (1 + n) item))) long
+
+-- the head of a section after its type byte: an id, a name, and two numbers
+pub section_found : (item : List ℕ) (n : ℕ) → get_or item 4 0 ≡ n → length item ≡ 13 + n → IsBytes item
+    → item ≡ be32 (be32_at 0 item) ++ (counted (slice_range item 5 (5 + n)) ++ (be32 (be32_at (5 + n) item) ++ be32 (be32_at (9 + n) item)))
+section_found item n is len all =
+    let name : List ℕ = slice_range item 5 (5 + n) in
+    let long : n ≡ length name = sym (length_slice item 5 n (omega arith)) in
+    let id : item ≡ be32 (be32_at 0 item) ++ drop 4 item = be32_next item 0 (omega arith) all in
+    let count : drop 4 item ≡ length name ∷ drop 5 item = drop_more item 4 0 (omega arith) ∙ ap (λ (x : ℕ). x ∷ drop 5 item) (is ∙ long) in
+    let named : drop 5 item ≡ name ++ drop (5 + n) item = drop_split item 5 (5 + n) (omega arith) in
+    let one : drop (5 + n) item ≡ be32 (be32_at (5 + n) item) ++ drop (9 + n) item =
+    be32_next item (5 + n) (omega arith) all ∙ ap (λ (x : ℕ). be32 (be32_at (5 + n) item) ++ drop x item) (omega arith) in
+    let two : drop (9 + n) item ≡ be32 (be32_at (9 + n) item) = be32_last item (9 + n) (omega arith) all in
+    id ∙ ap (λ (x : List ℕ). be32 (be32_at 0 item) ++ x)
+    (count ∙ ap (λ (x : List ℕ). length name ∷ x) (named ∙ ap (λ (x : List ℕ). name ++ x) (one ∙ ap (λ (x : List ℕ). be32 (be32_at (5 + n) item) ++ x) two)))
+
+-- five numbers, the fourth of four bytes
+pub numbers_found : (item : List ℕ) → length item ≡ 36 → IsBytes item
+    → item ≡ be64 (be64_at 0 item) ++ (be64 (be64_at 8 item) ++ (be64 (be64_at 16 item) ++ (be32 (be32_at 24 item) ++ be64 (be64_at 28 item))))
+numbers_found item len all =
+    let first : item ≡ be64 (be64_at 0 item) ++ drop 8 item = be64_next item 0 (omega arith) all in
+    let second : drop 8 item ≡ be64 (be64_at 8 item) ++ drop 16 item = be64_next item 8 (omega arith) all in
+    let third : drop 16 item ≡ be64 (be64_at 16 item) ++ drop 24 item = be64_next item 16 (omega arith) all in
+    let fourth : drop 24 item ≡ be32 (be32_at 24 item) ++ drop 28 item = be32_next item 24 (omega arith) all in
+    let fifth : drop 28 item ≡ be64 (be64_at 28 item) = be64_last item 28 (omega arith) all in
+    first ∙ ap (λ (x : List ℕ). be64 (be64_at 0 item) ++ x) (second ∙ ap (λ (x : List ℕ). be64 (be64_at 8 item) ++ x)
+    (third ∙ ap (λ (x : List ℕ). be64 (be64_at 16 item) ++ x) (fourth ∙ ap (λ (x : List ℕ). be32 (be32_at 24 item) ++ x) fifth)))
 
 -- START's head after its type byte
 pub start_found : (item : List ℕ) (n : ℕ) → get_or item 4 0 ≡ n → length item ≡ 13 + n → IsBytes item

@@ -3,7 +3,7 @@ use Rattle.std.proofs.Common.{◌≡◌, ◌⊎◌, ℕ, Bool, true, false, not,
 use Rattle.std.proofs.Common.{None, refl, sym, ap, subst, ◌∙◌, append_assoc, inl}
 use Rattle.std.proofs.Common.{inr, arith}
 use Rattle.std.specs.Prelude.{◌&&◌, ⊤}
-use Rattle.std.specs.List.{flat_map, AllByRecursion}
+use Rattle.std.specs.List.{flat_map}
 use Rattle.std.proofs.lemmas.Bool.{not-false, eqb-true}
 use Rattle.mig_mem.specs.RamTable.{RamTable}
 use Rattle.mig_stream.specs.declared.item.Mode.{Mode}
@@ -14,11 +14,11 @@ use Rattle.mig_stream.specs.declared.item.Due.{Due}
 use Rattle.mig_stream.specs.declared.item.Due.TheVariants.{TypeByte, SectionHead, Nothing}
 use Rattle.mig_stream.specs.declared.item.Before.TheVariants as before
 use Rattle.mig_stream.specs.Fields.{be32}
-use Rattle.mig_stream.specs.Format.{end_byte, section_type, command_type}
+use Rattle.mig_stream.specs.Format.{end_byte, section_type}
 use Rattle.mig_stream.specs.PageRecord.{PageRecord}
 use Rattle.mig_stream.specs.Progress.{StreamProgress, table_of, whole_table}
-use Rattle.mig_stream.specs.Items.{is_single, is_machine, open_records}
-use Rattle.mig_stream.specs.Machine.{Command, command_bytes, command, IsCommand, PartOrCommand, PartOf, CommandOf, part_or_command, IsPartOrCommand, parts_of}
+use Rattle.mig_stream.specs.Items.{is_single, is_machine, is_start, open_records}
+use Rattle.mig_stream.specs.Machine.{PassedSection, passed_section, IsPassedSection, PartOrPassed, PartOf, PassedOf, part_or_passed, AreBetween, parts_of}
 use Rattle.mig_stream.specs.Text.{named_after, Record, PageOf, FlushMark, Follow, HasNoFlush, all_records, body, section}
 use Rattle.mig_stream.proofs.After.{mode_behind, records_behind, rounds_behind, FlushesFit, HasNoTail}
 use Rattle.mig_stream.proofs.Modes.{single_kept}
@@ -29,11 +29,11 @@ abbrev pub ending : Bool → List ℕ
 ending true = []
 ending false = end_byte ∷ []
 
--- outside of a machine's stream there is no COMMAND
-abbrev pub HasNoCommand : List PartOrCommand → Type 0
-HasNoCommand [] = ⊤
-HasNoCommand (PartOf records ∷ others) = HasNoCommand others
-HasNoCommand (CommandOf c ∷ others) = ⊥
+-- outside of a machine's stream nothing is passed over
+abbrev pub HasNoPassed : List PartOrPassed → Type 0
+HasNoPassed [] = ⊤
+HasNoPassed (PartOf records ∷ others) = HasNoPassed others
+HasNoPassed (PassedOf x ∷ others) = ⊥
 
 -- END as a list of sections, and its records: none of them in a background snapshot
 abbrev pub ends_of : Option (List Record) → List (List Record)
@@ -51,19 +51,19 @@ end_bytes table id machine (Some records) = section table End id records ++ endi
 
 -- Where the reading stands after these: at no item after END; without END at a type byte, after the
 -- last PART if there is one.
-abbrev pub StandsAfter : StreamProgress → Section → List PartOrCommand → Option (List Record) → Type 0
+abbrev pub StandsAfter : StreamProgress → Section → List PartOrPassed → Option (List Record) → Type 0
 StandsAfter to kind others None = (to.due ≡ TypeByte before.Footer) × (parts_of others ≡ [] → to.section ≡ kind)
 StandsAfter to kind others (Some records) = to.due ≡ Nothing
 
-stands_part : (to : StreamProgress) (kind before_it : Section) (records : List Record) (others : List PartOrCommand) (last : Option (List Record))
+stands_part : (to : StreamProgress) (kind before_it : Section) (records : List Record) (others : List PartOrPassed) (last : Option (List Record))
     → StandsAfter to kind others last → StandsAfter to before_it (PartOf records ∷ others) last
 stands_part to kind before_it records others None s = (s.0, λ none. absurd cc)
 stands_part to kind before_it records others (Some l) s = s
 
-stands_command : (to : StreamProgress) (kind : Section) (x : Command) (others : List PartOrCommand) (last : Option (List Record))
-    → StandsAfter to kind others last → StandsAfter to kind (CommandOf x ∷ others) last
-stands_command to kind x others None s = s
-stands_command to kind x others (Some l) s = s
+stands_passed : (to : StreamProgress) (kind : Section) (x : PassedSection) (others : List PartOrPassed) (last : Option (List Record))
+    → StandsAfter to kind others last → StandsAfter to kind (PassedOf x ∷ others) last
+stands_passed to kind x others None s = s
+stands_passed to kind x others (Some l) s = s
 
 -- The ending is left, and after it the reading stands at `to`.
 pub record RestOfEnd (to c : StreamProgress) (bytes : List ℕ) : Type 0 where
@@ -73,15 +73,15 @@ pub record RestOfEnd (to c : StreamProgress) (bytes : List ℕ) : Type 0 where
   pub has_rounds : to.rounds ≡ c.rounds
   pub has_table : whole_table to ≡ whole_table c
 
--- PARTs and COMMANDs, END and the ending are left, and after them the reading stands at `to`. A
--- background snapshot has no END.
+-- PARTs and what is passed over, END and the ending are left, and after them the reading stands at
+-- `to`. A background snapshot has no END.
 pub record RestOfParts (to c : StreamProgress) (bytes : List ℕ) : Type 0 where
-  pub others : List PartOrCommand
+  pub others : List PartOrPassed
   pub last : Option (List Record)
   pub stands : StandsAfter to c.section others last
-  pub has_bytes : bytes ≡ flat_map (part_or_command (table_of c) c.section_id) others ++ end_bytes (table_of c) c.section_id (is_machine c.frame) last
-  pub are_others : AllByRecursion IsPartOrCommand others
-  pub in_frame : is_machine c.frame ≡ false → HasNoCommand others
+  pub has_bytes : bytes ≡ flat_map (part_or_passed (table_of c) c.section_id) others ++ end_bytes (table_of c) c.section_id (is_machine c.frame) last
+  pub are_others : AreBetween (is_start c.section) others
+  pub in_frame : is_machine c.frame ≡ false → HasNoPassed others
   pub follow : Follow (table_of c) c.named (all_records (parts_of others) ++ last_records last)
   pub flushes : FlushesFit (is_single c.mode) (parts_of others ++ ends_of last)
   pub no_tail : HasNoTail (mode_behind c.mode false c.records (parts_of others ++ ends_of last))
@@ -127,7 +127,7 @@ pub part_back : (to c : StreamProgress) (bytes : List ℕ)
 part_back to c bytes r =
     let s = r.rest in
     let q = s.others in
-    let parts = flat_map (part_or_command (table_of c) c.section_id) q.others in
+    let parts = flat_map (part_or_passed (table_of c) c.section_id) q.others in
     let end = end_bytes (table_of c) c.section_id (is_machine c.frame) q.last in
     let items = body (table_of c) c.section_id s.records in
     let spelled : bytes ≡ be32 c.section_id ++ (items ++ (parts ++ end)) =
@@ -137,7 +137,7 @@ part_back to c bytes r =
       last = q.last;
       stands = stands_part to Part c.section s.records q.others q.last q.stands;
       has_bytes = ap (λ (x : List ℕ). section_type Part ∷ x) spelled ∙ regroup_part (be32 c.section_id) items parts end (section_type Part);
-      are_others = (tt, q.are_others);
+      are_others = q.are_others;
       in_frame = q.in_frame;
       follow = subst (Follow (table_of c) c.named) (sym (append_assoc s.records (all_records (parts_of q.others)) (last_records q.last)))
           (Follow-append (table_of c) c.named s.records (all_records (parts_of q.others) ++ last_records q.last) s.follow q.follow);
@@ -192,15 +192,15 @@ parts_at to c d bytes r = record {
   has_table = r.has_table;
 }
 
--- a COMMAND in front of the PARTs and END after it
-pub command_back : (to c : StreamProgress) (x : Command) (tail bytes : List ℕ) → is_machine c.frame ≡ true → IsCommand x
-    → bytes ≡ command_bytes x ++ tail → RestOfParts to c tail → RestOfParts to c (command_type ∷ bytes)
-command_back to c x tail bytes machine is e q = record {
-  others = CommandOf x ∷ q.others;
+-- what is passed over, in front of the PARTs and END after it
+pub passed_back : (to c : StreamProgress) (x : PassedSection) (tail bytes : List ℕ) → is_machine c.frame ≡ true
+    → IsPassedSection (is_start c.section) x → bytes ≡ passed_section x ++ tail → RestOfParts to c tail → RestOfParts to c bytes
+passed_back to c x tail bytes machine is e q = record {
+  others = PassedOf x ∷ q.others;
   last = q.last;
-  stands = stands_command to c.section x q.others q.last q.stands;
-  has_bytes = ap (λ (y : List ℕ). command_type ∷ y) (e ∙ ap (λ (y : List ℕ). command_bytes x ++ y) q.has_bytes)
-      ∙ sym (append_assoc (command x) (flat_map (part_or_command (table_of c) c.section_id) q.others)
+  stands = stands_passed to c.section x q.others q.last q.stands;
+  has_bytes = e ∙ ap (λ (y : List ℕ). passed_section x ++ y) q.has_bytes
+      ∙ sym (append_assoc (passed_section x) (flat_map (part_or_passed (table_of c) c.section_id) q.others)
       (end_bytes (table_of c) c.section_id (is_machine c.frame) q.last));
   are_others = (is, q.are_others);
   in_frame = λ ram. absurd (let clash : true ≡ false = sym machine ∙ ram in cc);

@@ -7,7 +7,8 @@ use Rattle.std.proofs.lemmas.List.Folds.{concat-append}
 use Rattle.std.proofs.lemmas.Bool.{cond_both}
 use Rattle.mig_stream.specs.declared.item.Filling.TheVariants.{Zero, Normal}
 use Rattle.mig_stream.specs.declared.item.PassedItem.{PassedItem}
-use Rattle.mig_stream.specs.declared.item.PassedItem.TheVariants.{Command, SubsectionHead, SubsectionBody, Capability, Address}
+use Rattle.mig_stream.specs.declared.item.PassedItem.TheVariants.{Command, SubsectionHead, SubsectionBody, Capability, Address, Early}
+use Rattle.mig_stream.specs.declared.item.EarlyPart.TheVariants as early
 use Rattle.mig_stream.specs.declared.item.Subsection.TheVariants.{PageBits, Uuid, Capabilities}
 use Rattle.mig_stream.specs.declared.item.Due.{Due}
 use Rattle.mig_stream.specs.declared.item.Due.TheVariants.{FileHeader, TypeByte, ConfigLength, ConfigName, StartHead, SectionHead, RecordHead, ListEntry}
@@ -29,6 +30,10 @@ passed-take (SubsectionBody Uuid) bytes le = refl
 passed-take (SubsectionBody Capabilities) bytes le = refl
 passed-take (Capability others) bytes le = ap (λ (n : ℕ). 1 + n) (get_or-take (1 + get_or bytes 0 0) bytes 0 0 (omega arith))
 passed-take (Address last) bytes le = refl
+passed-take (Early before early.Head) bytes le = ap (λ (n : ℕ). 13 + n) (get_or-take (13 + get_or bytes 4 0) bytes 4 0 (omega arith))
+passed-take (Early before (early.Numbers id)) bytes le = refl
+passed-take (Early before (early.Plugged id others)) bytes le = refl
+passed-take (Early before (early.Footer id)) bytes le = refl
 
 passed-append : (passed : PassedItem) (item more : List ℕ) → length item ≡ passed_size passed item → passed_size passed (item ++ more) ≡ length item
 passed-append (Command before) item more w = omega (arith, w, get_or_append_left item more 0 2 (omega arith), get_or_append_left item more 0 3 (omega arith))
@@ -38,6 +43,10 @@ passed-append (SubsectionBody Uuid) item more w = sym w
 passed-append (SubsectionBody Capabilities) item more w = sym w
 passed-append (Capability others) item more w = ap (λ (n : ℕ). 1 + n) (get_or_append_left item more 0 0 (omega arith)) ∙ sym w
 passed-append (Address last) item more w = sym w
+passed-append (Early before early.Head) item more w = ap (λ (n : ℕ). 13 + n) (get_or_append_left item more 0 4 (omega arith)) ∙ sym w
+passed-append (Early before (early.Numbers id)) item more w = sym w
+passed-append (Early before (early.Plugged id others)) item more w = sym w
+passed-append (Early before (early.Footer id)) item more w = sym w
 
 -- the length of a page size, or of the entry that is there, by its first byte
 abbrev pub sized : ℕ → ℕ

@@ -72,7 +72,8 @@ no_tail false m x y single = refl
 type_faults-open : (b : List PageRecord) (c : StreamProgress) (before : Before) (item : List ℕ) → c.mode ≡ Single
     → faults (with_open b c) (TypeByte before) item ≡ faults c (TypeByte before) item
 type_faults-open b c before item single =
-    ap (λ (t : Bool). (not (is_allowed before (slice_index item 0) || is_passed c.frame before (slice_index item 0)), fault.SectionType) ∷ (t, fault.Tail) ∷ [])
+    ap (λ (t : Bool). (not (is_allowed before (slice_index item 0) || is_passed c.frame c.section before (slice_index item 0)), fault.SectionType)
+    ∷ (t, fault.Tail) ∷ [])
     (no_tail (slice_index item 0 == end_byte) c.mode (not (length (with_open b c).records == 0)) (not (length c.records == 0)) single)
 
 footer_faults-open : (b : List PageRecord) (c : StreamProgress) (item : List ℕ) → c.mode ≡ Single → faults (with_open b c) Footer item ≡ faults c Footer item
@@ -190,9 +191,9 @@ after_type-open b c byte = sym (simp (choice (with_open b)))
 after_type_byte-open : (b : List PageRecord) (c : StreamProgress) (before : Before) (byte : ℕ)
     → after_type_byte (with_open b c) before byte ≡ with_open b (after_type_byte c before byte)
 after_type_byte-open b c before byte =
-    ap (λ (x : StreamProgress). cond (is_passed c.frame before byte)
+    ap (λ (x : StreamProgress). cond (is_passed c.frame c.section before byte)
     (with_open b (record c { due = Passed (passed_by before byte) })) x) (after_type-open b c byte)
-    ∙ sym (choice (with_open b) (is_passed c.frame before byte) (record c { due = Passed (passed_by before byte) }) (after_type c byte))
+    ∙ sym (choice (with_open b) (is_passed c.frame c.section before byte) (record c { due = Passed (passed_by before byte) }) (after_type c byte))
 
 with_record-open : (b : List PageRecord) (c : StreamProgress) (r : PageRecord)
     → record (with_open b c) {

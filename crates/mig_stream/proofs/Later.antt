@@ -97,8 +97,9 @@ after_type-taken g c b = sym (simp (choice (with_taken g)))
 after_type_byte-taken : (g : List (List PageRecord)) (c : StreamProgress) (before : Before) (b : ℕ)
     → after_type_byte (with_taken g c) before b ≡ with_taken g (after_type_byte c before b)
 after_type_byte-taken g c before b =
-    ap (λ (x : StreamProgress). cond (is_passed c.frame before b) (with_taken g (record c { due = Passed (passed_by before b) })) x) (after_type-taken g c b)
-    ∙ sym (choice (with_taken g) (is_passed c.frame before b) (record c { due = Passed (passed_by before b) }) (after_type c b))
+    ap (λ (x : StreamProgress). cond (is_passed c.frame c.section before b) (with_taken g (record c { due = Passed (passed_by before b) })) x)
+    (after_type-taken g c b)
+    ∙ sym (choice (with_taken g) (is_passed c.frame c.section before b) (record c { due = Passed (passed_by before b) }) (after_type c b))
 
 whole_rounds-taken : (g : List (List PageRecord)) (m : Mode) (rounds : List (List PageRecord)) (records : List PageRecord)
     → whole_rounds m (g ++ rounds) records ≡ g ++ whole_rounds m rounds records

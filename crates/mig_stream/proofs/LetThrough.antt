@@ -141,7 +141,7 @@ over_head limit c (Some kind) page none over = over_kind limit c kind page none 
 over_item : (limit : ℕ) (c : StreamProgress) (d : Due) (item : List ℕ) → c.due ≡ d → IsOverAt limit c → IsOverAt limit (after_item c d item)
 over_item limit c FileHeader item here over = over_due limit c.rounds c.records c.due (after_item c FileHeader item).due (ap is_coming here) over
 over_item limit c (TypeByte b) item here over =
-    cond_both (is_passed c.frame b (slice_index item 0)) _ _ (IsOverAt limit)
+    cond_both (is_passed c.frame c.section b (slice_index item 0)) _ _ (IsOverAt limit)
     (λ _. over_due limit c.rounds c.records c.due (record c { due = Passed (passed_by b (slice_index item 0)) }).due (ap is_coming here) over)
     (λ _. over_type limit c (slice_index item 0) (ap is_coming here) over)
 over_item limit c ConfigLength item here over = over_due limit c.rounds c.records c.due (after_item c ConfigLength item).due (ap is_coming here) over

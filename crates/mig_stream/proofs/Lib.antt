@@ -1,4 +1,5 @@
 pub mod Fronts
+pub mod Growing
 pub mod Stopping
 pub mod Unique
 pub mod After
@@ -15,6 +16,7 @@ pub mod SpelledRecords
 pub mod SpelledList
 pub mod SpelledSections
 pub mod SpelledText
+pub mod SpelledEarly
 pub mod SpelledPassed
 pub mod SpelledMachine
 pub mod FoundFields
@@ -26,6 +28,7 @@ pub mod FoundTail
 pub mod FoundOpening
 pub mod FoundPassed
 pub mod FoundRest
+pub mod FoundEarly
 pub mod FoundHeads
 pub mod FoundTypes
 pub mod FoundItems

@@ -15,7 +15,8 @@ use Rattle.mig_stream.specs.declared.item.Filling.{Filling}
 use Rattle.mig_stream.specs.declared.item.Filling.TheVariants.{Zero, Normal}
 use Rattle.mig_stream.specs.declared.item.Before.{Before}
 use Rattle.mig_stream.specs.declared.item.PassedItem.{PassedItem}
-use Rattle.mig_stream.specs.declared.item.PassedItem.TheVariants.{Command, SubsectionHead, SubsectionBody, Capability, Address}
+use Rattle.mig_stream.specs.declared.item.PassedItem.TheVariants.{Command, SubsectionHead, SubsectionBody, Capability, Address, Early}
+use Rattle.mig_stream.specs.declared.item.EarlyPart.TheVariants as early
 use Rattle.mig_stream.specs.declared.item.Subsection.{Subsection}
 use Rattle.mig_stream.specs.declared.item.Subsection.TheVariants.{PageBits, Uuid, Capabilities}
 use Rattle.mig_stream.specs.declared.item.EntryForm.{EntryForm}
@@ -51,7 +52,7 @@ few_type c byte n =
     cond_both (eqb byte 3) _ _ (HasFew c.rounds n) (λ _. omega arith) (λ _. omega arith))))
 
 few_type_byte : (c : StreamProgress) (before : Before) (byte n : ℕ) → HasFew c.rounds n (after_type_byte c before byte)
-few_type_byte c before byte n = cond_both (is_passed c.frame before byte) _ _ (HasFew c.rounds n) (λ _. omega arith) (λ _. few_type c byte n)
+few_type_byte c before byte n = cond_both (is_passed c.frame c.section before byte) _ _ (HasFew c.rounds n) (λ _. omega arith) (λ _. few_type c byte n)
 
 few_eos : (mode : Mode) (rounds : List (List PageRecord)) (records : List PageRecord) → length (eos_rounds mode rounds records) ≤ length rounds + 1
 few_eos Single rounds records = omega arith
@@ -148,7 +149,8 @@ waits_type c d byte other w =
 
 waits_type_byte : (c : StreamProgress) (d : Due) (before : Before) (byte : ℕ) → (IsEntry d → ⊥) → Waits c d → IsWaiting (after_type_byte c before byte)
 waits_type_byte c d before byte other w =
-    cond_both (is_passed c.frame before byte) _ _ IsWaiting (λ _. waits_on c d (Passed (passed_by before byte)) other tt w) (λ _. waits_type c d byte other w)
+    cond_both (is_passed c.frame c.section before byte) _ _ IsWaiting (λ _. waits_on c d (Passed (passed_by before byte)) other tt w)
+    (λ _. waits_type c d byte other w)
 
 -- nothing that is passed over stands before a footer
 capabilities_no_footer : (others : ℕ) → IsNoFooter (capabilities_due others)
@@ -167,6 +169,10 @@ passed_no_footer (SubsectionBody Capabilities) item = capabilities_no_footer (be
 passed_no_footer (Capability others) item = capabilities_no_footer others
 passed_no_footer (Address true) item = tt
 passed_no_footer (Address false) item = tt
+passed_no_footer (Early before early.Head) item = tt
+passed_no_footer (Early before (early.Numbers id)) item = tt
+passed_no_footer (Early before (early.Plugged id others)) item = tt
+passed_no_footer (Early before (early.Footer id)) item = tt
 
 -- after the size list's head no record head is due before the list is used up
 no_head : (left : Option ℕ) → is_none left ≡ false → MayBeDue left RecordHead → ⊥
@@ -269,6 +275,8 @@ waits_item c (Passed (SubsectionBody kind)) item v w free = waits_on c (Passed (
 waits_item c (Passed (Capability others)) item v w free = waits_on c (Passed (Capability others)) _ (λ h. h) (passed_no_footer (Capability others) item) w
 waits_item c (Passed (Address true)) item v w free = waits_on c (Passed (Address true)) _ (λ h. h) tt w
 waits_item c (Passed (Address false)) item v w free = λ open_. ((w open_).0, (w open_).1, may_list c.left)
+waits_item c (Passed (Early before part)) item v w free =
+    waits_on c (Passed (Early before part)) _ (λ h. h) (passed_no_footer (Early before part) item) w
 waits_item c Nothing item v w free = v
 
 waits_all : (c : StreamProgress) (items : List (List ℕ)) → IsWaiting c → AreFaultless c items → IsWaiting (after_all c items)

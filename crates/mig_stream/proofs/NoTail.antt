@@ -10,7 +10,8 @@ use Rattle.mig_stream.specs.declared.item.Filling.TheVariants.{Zero, Normal}
 use Rattle.mig_stream.specs.declared.item.Before.{Before}
 use Rattle.mig_stream.specs.declared.item.Subsection.TheVariants.{PageBits, Uuid, Capabilities}
 use Rattle.mig_stream.specs.declared.item.PassedItem.{PassedItem}
-use Rattle.mig_stream.specs.declared.item.PassedItem.TheVariants.{Command, SubsectionHead, SubsectionBody, Capability, Address}
+use Rattle.mig_stream.specs.declared.item.PassedItem.TheVariants.{Command, SubsectionHead, SubsectionBody, Capability, Address, Early}
+use Rattle.mig_stream.specs.declared.item.EarlyPart.TheVariants as early
 use Rattle.mig_stream.specs.declared.item.EntryForm.{EntryForm}
 use Rattle.mig_stream.specs.declared.item.EntryForm.TheVariants.{Plain, Addressed, Sized}
 use Rattle.mig_stream.specs.declared.item.Due.{Due}
@@ -64,6 +65,7 @@ no_records (Passed SubsectionHead) = refl
 no_records (Passed (SubsectionBody kind)) = refl
 no_records (Passed (Capability others)) = refl
 no_records (Passed (Address last)) = tt
+no_records (Passed (Early before part)) = refl
 no_records Nothing = refl
 
 empty_due : (d : Due) (records : List PageRecord) → records ≡ [] → IsEmpty d records
@@ -80,7 +82,7 @@ type_empty c b e =
     cond_both (eqb b 3) _ _ StaysEmpty (λ _. e) (λ _. e))))
 
 type_byte_empty : (c : StreamProgress) (before : Before) (b : ℕ) → c.records ≡ [] → StaysEmpty (after_type_byte c before b)
-type_byte_empty c before b e = cond_both (is_passed c.frame before b) _ _ StaysEmpty
+type_byte_empty c before b e = cond_both (is_passed c.frame c.section before b) _ _ StaysEmpty
     (λ _. empty_due (Passed (passed_by before b)) c.records e) (λ _. type_empty c b e)
 
 -- after the guest address of a block stands another entry, or a record
@@ -91,6 +93,7 @@ passed_empty c (SubsectionBody kind) item h = empty_due (behind_passed (Subsecti
 passed_empty c (Capability others) item h = empty_due (behind_passed (Capability others) item) c.records h
 passed_empty c (Address true) item h = tt
 passed_empty c (Address false) item h = tt
+passed_empty c (Early before part) item h = empty_due (behind_passed (Early before part) item) c.records h
 
 entry_empty : (form : EntryForm) (last : Bool) (records : List PageRecord) → IsEmpty (entry_due form last) records
 entry_empty Plain true records = tt
@@ -178,6 +181,10 @@ passed_others p form (SubsectionBody Uuid) item = tt
 passed_others p form (SubsectionBody Capabilities) item = tt
 passed_others p form (Capability others) item = ((λ e. absurd cc), tt)
 passed_others p form (Address last) item = tt
+passed_others p form (Early before early.Head) item = ((λ e. absurd cc), tt)
+passed_others p form (Early before (early.Numbers id)) item = ((λ e. absurd cc), tt)
+passed_others p form (Early before (early.Plugged id others)) item = tt
+passed_others p form (Early before (early.Footer id)) item = ((λ e. absurd cc), tt)
 
 item_fault : (c : StreamProgress) (d : Due) (item : List ℕ) → IsEmpty d c.records → first_of (faults c d item) ≡ Some fault.Tail → ⊥
 item_fault c FileHeader item h e = other_fault (faults c FileHeader item) ((λ e. absurd cc), ((λ e. absurd cc), tt)) e

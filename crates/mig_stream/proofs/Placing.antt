@@ -16,7 +16,8 @@ use Rattle.mig_stream.specs.declared.item.Mode.TheVariants.{Single, Main, MainBy
 use Rattle.mig_stream.specs.declared.item.Filling.TheVariants.{Zero, Normal}
 use Rattle.mig_stream.specs.declared.item.Before.{Before}
 use Rattle.mig_stream.specs.declared.item.PassedItem.{PassedItem}
-use Rattle.mig_stream.specs.declared.item.PassedItem.TheVariants.{Command, SubsectionHead, SubsectionBody, Capability, Address}
+use Rattle.mig_stream.specs.declared.item.PassedItem.TheVariants.{Command, SubsectionHead, SubsectionBody, Capability, Address, Early}
+use Rattle.mig_stream.specs.declared.item.EarlyPart.TheVariants as early
 use Rattle.mig_stream.specs.declared.item.Subsection.{Subsection}
 use Rattle.mig_stream.specs.declared.item.Subsection.TheVariants.{PageBits, Uuid, Capabilities}
 use Rattle.mig_stream.specs.declared.item.EntryForm.{EntryForm}
@@ -91,7 +92,7 @@ placed_type c b v =
     record { due = tt; records = v.records; rounds = v.rounds }))))
 
 placed_type_byte : (c : StreamProgress) (before : Before) (b : ℕ) → Placed c → Placed (after_type_byte c before b)
-placed_type_byte c before b v = cond_both (is_passed c.frame before b) _ _ Placed
+placed_type_byte c before b v = cond_both (is_passed c.frame c.section before b) _ _ Placed
     (λ _. record { due = tt; records = v.records; rounds = v.rounds }) (λ _. placed_type c b v)
 
 -- no page is due after what is passed over, or after a footer
@@ -111,6 +112,10 @@ passed_in blocks (SubsectionBody Capabilities) item = capabilities_in blocks (be
 passed_in blocks (Capability others) item = capabilities_in blocks others
 passed_in blocks (Address true) item = tt
 passed_in blocks (Address false) item = tt
+passed_in blocks (Early before early.Head) item = tt
+passed_in blocks (Early before (early.Numbers id)) item = tt
+passed_in blocks (Early before (early.Plugged id others)) item = tt
+passed_in blocks (Early before (early.Footer id)) item = tt
 
 entry_in : (blocks : List Block) (form : EntryForm) (last : Bool) → DueIn blocks (entry_due form last)
 entry_in blocks Plain true = tt

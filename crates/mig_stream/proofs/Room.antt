@@ -21,7 +21,8 @@ use Rattle.mig_stream.specs.declared.item.Section.{Section}
 use Rattle.mig_stream.specs.declared.item.Subsection.{Subsection}
 use Rattle.mig_stream.specs.declared.item.Subsection.TheVariants.{PageBits, Uuid, Capabilities}
 use Rattle.mig_stream.specs.declared.item.PassedItem.{PassedItem}
-use Rattle.mig_stream.specs.declared.item.PassedItem.TheVariants.{Command, SubsectionHead, SubsectionBody, Capability, Address}
+use Rattle.mig_stream.specs.declared.item.PassedItem.TheVariants.{Command, SubsectionHead, SubsectionBody, Capability, Address, Early}
+use Rattle.mig_stream.specs.declared.item.EarlyPart.TheVariants as early
 use Rattle.mig_stream.specs.declared.item.Due.{Due}
 use Rattle.mig_stream.specs.declared.item.Due.TheVariants.{FileHeader, TypeByte, ConfigLength, ConfigName, StartHead, SectionHead, RecordHead, ListEntry}
 use Rattle.mig_stream.specs.declared.item.Due.TheVariants.{PageSize, BlockName, Content, Footer, Passed, Nothing}
@@ -144,7 +145,7 @@ fits_type limit c byte f =
 
 fits_type_byte : (limit : ℕ) (c : StreamProgress) (b : Before) (byte : ℕ) → FitsAt limit c → FitsAt limit (after_type_byte c b byte)
 fits_type_byte limit c b byte f =
-    cond_both (is_passed c.frame b byte) _ _ (FitsAt limit)
+    cond_both (is_passed c.frame c.section b byte) _ _ (FitsAt limit)
     (λ _. fits_due limit c.waiting c.room c.records c.rounds c.due _ f refl) (λ _. fits_type limit c byte f)
 
 body_none : (o : Option Subsection) → is_coming (body_of o) ≡ false
@@ -171,6 +172,10 @@ passed_none (SubsectionBody Uuid) item = refl
 passed_none (SubsectionBody Capabilities) item = capabilities_none (be32_at 0 item)
 passed_none (Capability others) item = capabilities_none others
 passed_none (Address last) item = list_none last
+passed_none (Early b early.Head) item = refl
+passed_none (Early b (early.Numbers id)) item = refl
+passed_none (Early b (early.Plugged id others)) item = refl
+passed_none (Early b (early.Footer id)) item = refl
 
 -- a record's head without a fault has room
 some_room : (limit : ℕ) (c : StreamProgress) (f : FitsAt limit c) → is_full c.room ≡ false → 1 ≤ f.left
@@ -345,6 +350,10 @@ passed_unwaiting p form (SubsectionBody Uuid) item = refl
 passed_unwaiting p form (SubsectionBody Capabilities) item = refl
 passed_unwaiting p form (Capability others) item = refl
 passed_unwaiting p form (Address last) item = refl
+passed_unwaiting p form (Early b early.Head) item = refl
+passed_unwaiting p form (Early b (early.Numbers id)) item = refl
+passed_unwaiting p form (Early b (early.Plugged id others)) item = refl
+passed_unwaiting p form (Early b (early.Footer id)) item = refl
 
 -- none after a page size
 pub sized : (b : Bool) (tests : List (Bool × StreamFault)) → first_of (cond b [] tests) ≡ Some Waiting → first_of tests ≡ Some Waiting

@@ -33,7 +33,7 @@ pub machine_in_mode : (m n : Mode) (limit : ℕ) (text : List ℕ) (table : RamT
 machine_in_mode m n limit text table old rounds is are = record {
   id = is.id;
   machine = is.machine;
-  commands = is.commands;
+  opening = is.opening;
   tails = is.tails;
   first = is.first;
   others = is.others;
@@ -43,7 +43,7 @@ machine_in_mode m n limit text table old rounds is are = record {
   has_limit = is.has_limit;
   has_id = is.has_id;
   has_machine = is.has_machine;
-  are_commands = is.are_commands;
+  is_opening = is.is_opening;
   is_one_form = is.is_one_form;
   has_tails = is.has_tails;
   are_tails = is.are_tails;

@@ -2,13 +2,14 @@
 use Rattle.std.proofs.Common.{◌≡◌, ◌≢◌, ◌⊎◌, ℕ, ◌+◌, ◌*◌, ◌/◌, ◌%◌, ◌^◌, ◌<◌, ◌≤◌, Bool, true, false, cond, eqb, ltb, List, [], ◌∷◌, ◌++◌, length, Option, Some}
 use Rattle.std.proofs.Common.{None, refl, sym, ap, subst, ◌∙◌, inl, inr, arith}
 use Rattle.std.specs.Prelude.{not, ◌&&◌, IfSome}
-use Rattle.std.specs.Int.{w64, to_be_bytes}
+use Rattle.std.specs.Int.{w32, w64, to_be_bytes}
 use Rattle.std.proofs.lemmas.List.{drop_at}
 use Rattle.std.proofs.Math.Nat.{add-sub_cancel_left}
 use Rattle.std.proofs.lemmas.Nat.{from_be_bytes-to_be_bytes_4, from_be_bytes-to_be_bytes_8, div-mul-add, mod-mul-add}
 use Rattle.std.proofs.lemmas.Bool.{eq-eqb, ne_eqb, le-ltb}
 use Rattle.mig_mem.specs.PageSize.{IsPageSize}
 use Rattle.mig_stream.specs.declared.item.Mode.{Mode}
+use Rattle.mig_stream.specs.declared.item.Section.{Section}
 use Rattle.mig_stream.specs.declared.item.Section.TheVariants as sections
 use Rattle.mig_stream.specs.declared.item.Before.{Before}
 use Rattle.mig_stream.specs.declared.item.Before.TheVariants as before
@@ -43,12 +44,12 @@ unfolding be32_at
 be32_back n small = from_be_bytes-to_be_bytes_4 n small
 
 -- and in front of others
-be32_front : (n : ℕ) (more : List ℕ) → n < 2 ^ 32 → be32_at 0 (be32 n ++ more) ≡ n
+pub be32_front : (n : ℕ) (more : List ℕ) → n < 2 ^ 32 → be32_at 0 (be32 n ++ more) ≡ n
 unfolding be32_at
 be32_front n more small = from_be_bytes-to_be_bytes_4 n small
 
 -- and in a footer, after its type
-be32_footer : (n : ℕ) → n < 2 ^ 32 → be32_at 1 (footer n) ≡ n
+pub be32_footer : (n : ℕ) → n < 2 ^ 32 → be32_at 1 (footer n) ≡ n
 unfolding be32_at
 be32_footer n small = from_be_bytes-to_be_bytes_4 n small
 
@@ -56,6 +57,12 @@ be32_footer n small = from_be_bytes-to_be_bytes_4 n small
 pub be64_back : (n : ℕ) → n < 2 ^ 64 → be64_at 0 (be64 n) ≡ n
 unfolding be64_at
 be64_back n small = from_be_bytes-to_be_bytes_8 n small
+
+-- a number of four bytes after other bytes
+pub be32_behind : (front : List ℕ) (at n : ℕ) → length front ≡ at → n < 2 ^ 32 → be32_at at (front ++ be32 n) ≡ n
+unfolding be32_at
+be32_behind front at n len small =
+    rw (drop_at front (to_be_bytes w32 n) at len, add-sub_cancel_left at 4) (from_be_bytes-to_be_bytes_4 n small)
 
 -- a number after other bytes
 pub be64_behind : (front : List ℕ) (at n : ℕ) → length front ≡ at → n < 2 ^ 64 → be64_at at (front ++ be64 n) ≡ n
@@ -119,11 +126,11 @@ bare_front c kind is none =
 -- ---- type bytes, heads of sections, and footers
 
 -- a type byte that is allowed there, but the end byte
-pub type_front : (c : StreamProgress) (b : Before) (byte : ℕ) → is_allowed b byte ≡ true → may_pass b byte ≡ false → eqb byte end_byte ≡ false
+pub type_front : (c : StreamProgress) (b : Before) (byte : ℕ) → is_allowed b byte ≡ true → may_pass c.section b byte ≡ false → eqb byte end_byte ≡ false
     → Front (record c { due = TypeByte b }) (byte ∷ []) (after_type (record c { due = TypeByte b }) byte)
 type_front c b byte allowed own other =
     let d : StreamProgress = record c { due = TypeByte b } in
-    let passed : is_passed c.frame b byte ≡ false = ap (λ (x : Bool). x && is_machine c.frame) own in
+    let passed : is_passed c.frame c.section b byte ≡ false = ap (λ (x : Bool). x && is_machine c.frame) own in
     let new : after d (byte ∷ []) ≡ after_type d byte = ap (λ (x : Bool). cond x (record d { due = Passed (passed_by b byte) }) (after_type d byte)) passed in
     subst (λ (x : StreamProgress). Front d (byte ∷ []) x) new (item_front d (byte ∷ []) (λ e. absurd cc) refl (rw (allowed, other) refl))
 
@@ -226,10 +233,10 @@ start_front c id small =
     subst (λ (x : StreamProgress). Front d item x) new (item_front d item (λ e. absurd cc) refl (start_free c id))
 
 -- START's type byte may stand after a configuration, and where there is none
-start_allowed : (name : Option (List ℕ))
-    → (is_allowed (before_start name) (section_type sections.Start) ≡ true) × (may_pass (before_start name) (section_type sections.Start) ≡ false)
-start_allowed None = (refl, refl)
-start_allowed (Some name) = (refl, refl)
+start_allowed : (kind : Section) (name : Option (List ℕ))
+    → (is_allowed (before_start name) (section_type sections.Start) ≡ true) × (may_pass kind (before_start name) (section_type sections.Start) ≡ false)
+start_allowed kind None = (refl, refl)
+start_allowed kind (Some name) = (refl, refl)
 
 -- all that stands before the size list
 pub opening_front : (c : StreamProgress) (name : Option (List ℕ)) (id : ℕ) → IfSome name (λ bytes. length bytes ≤ most_name_bytes) → id < 2 ^ 32
@@ -238,5 +245,5 @@ pub opening_front : (c : StreamProgress) (name : Option (List ℕ)) (id : ℕ) �
 opening_front c name id short small =
     let d : StreamProgress = record c { section = sections.Start } in
     let first : Front (record c { due = TypeByte (before_start name) }) (section_type sections.Start ∷ []) (record d { due = StartHead }) =
-    type_front c (before_start name) (section_type sections.Start) (start_allowed name).0 (start_allowed name).1 refl in
+    type_front c (before_start name) (section_type sections.Start) (start_allowed c.section name).0 (start_allowed c.section name).1 refl in
     Front-append _ _ _ _ _ (Front-append _ _ _ _ _ (header_front c) (configuration_front c name short)) (Front-append _ _ _ _ _ first (start_front d id small))

@@ -1,4 +1,5 @@
--- What is passed over is read as it is spelled: COMMANDs, and the subsections of the configuration.
+-- What is passed over is read as it is spelled: COMMANDs, a device's section, and the subsections
+-- of the configuration.
 use Rattle.std.proofs.Common.{◌≡◌, ℕ, ◌+◌, ◌-◌, ◌^◌, Bool, true, false, cond, eqb, List, [], ◌∷◌, length, take, Option, Some, None, refl, sym, ap, subst, ◌∙◌}
 use Rattle.std.proofs.Common.{arith}
 use Rattle.std.specs.Prelude.{not, ◌&&◌, ◌||◌}
@@ -8,6 +9,7 @@ use Rattle.std.proofs.lemmas.List.{append-nil, take_at}
 use Rattle.std.proofs.lemmas.Bool.{eq-eqb, ne_eqb, and_right}
 use Rattle.mig_stream.specs.declared.item.Before.{Before}
 use Rattle.mig_stream.specs.declared.item.Before.TheVariants as before
+use Rattle.mig_stream.specs.declared.item.Section.{Section}
 use Rattle.mig_stream.specs.declared.item.Subsection.{Subsection}
 use Rattle.mig_stream.specs.declared.item.Subsection.TheVariants as kind
 use Rattle.mig_stream.specs.declared.item.EntryForm.{EntryForm}
@@ -18,16 +20,18 @@ use Rattle.mig_stream.specs.declared.item.Due.TheVariants.{TypeByte, Passed}
 use Rattle.mig_stream.specs.declared.fault.StreamFault.{StreamFault}
 use Rattle.mig_stream.specs.declared.fault.StreamFault.TheVariants as fault
 use Rattle.mig_stream.specs.Fields.{be32, counted, be16_at, be32_at}
-use Rattle.mig_stream.specs.Format.{command_type, subsection_type, subsection_name, subsection_version, ignore_shared}
+use Rattle.mig_stream.specs.Format.{command_type, full_type, subsection_type, subsection_name, subsection_version, ignore_shared}
 use Rattle.mig_stream.specs.Progress.{StreamProgress}
 use Rattle.mig_mem.specs.First.{first_of}
-use Rattle.mig_stream.specs.Items.{is_allowed, has_tail, id_in, subsection_of, is_machine, may_pass, is_passed, is_passed_command, allows_postcopy}
+use Rattle.mig_stream.specs.Items.{is_allowed, has_tail, id_in, subsection_of, is_machine, is_start, may_pass, is_passed, is_passed_command, allows_postcopy}
 use Rattle.mig_stream.specs.Items.{is_before_start, advises, is_addressed, passed_by, after_command, body_of, capabilities_due, after_type, first_fault, after}
 use Rattle.mig_stream.specs.Reading.{Front}
+use Rattle.mig_stream.specs.Machine.{PassedSection, CommandOf, EarlyOf, passed_section, IsPassedSection, has_advise}
 use Rattle.mig_stream.specs.Machine.{Command, command_bytes, command, IsCommand, is_advise, SubsectionBody, PageBits, Uuid, Capabilities, kind_of, body_bytes}
 use Rattle.mig_stream.specs.Machine.{IsCapability, IsSubsectionBody, subsection_head, subsection, ignore_shared_in, names_shared}
 use Rattle.mig_stream.proofs.Fronts.{Front-none, Front-append}
 use Rattle.mig_stream.proofs.SpelledItems.{item_front, be32_back}
+use Rattle.mig_stream.proofs.SpelledEarly.{early_front}
 use Rattle.mig_stream.proofs.Tails.{twice, first_fits, others_fit}
 
 two_free : (a b : Bool) (f g : StreamFault) → a ≡ false → b ≡ false → first_of ((a, f) ∷ (b, g) ∷ []) ≡ None
@@ -37,17 +41,18 @@ or_passed : (x y : Bool) → y ≡ true → not (x || y) ≡ false
 or_passed true y e = refl
 or_passed false y e = ap not e
 
--- the type byte of a COMMAND or of a subsection
-passed_type_front : (c : StreamProgress) (b : Before) (byte : ℕ) → is_machine c.frame ≡ true → may_pass b byte ≡ true → eqb byte 0 ≡ false
+-- the type byte of a COMMAND, a device's section or a subsection
+pub passed_type_front : (c : StreamProgress) (b : Before) (byte : ℕ) → is_machine c.frame ≡ true → may_pass c.section b byte ≡ true
+    → eqb byte 0 ≡ false
     → Front (record c { due = TypeByte b }) (byte ∷ []) (record c { due = Passed (passed_by b byte) })
 passed_type_front c b byte machine may other =
     let d : StreamProgress = record c { due = TypeByte b } in
-    let passed : is_passed c.frame b byte ≡ true = ap (λ (x : Bool). x && is_machine c.frame) may ∙ machine in
+    let passed : is_passed c.frame c.section b byte ≡ true = ap (λ (x : Bool). x && is_machine c.frame) may ∙ machine in
     let new : after d (byte ∷ []) ≡ record c { due = Passed (passed_by b byte) } =
     ap (λ (x : Bool). cond x (record d { due = Passed (passed_by b byte) }) (after_type d byte)) passed in
     let free : first_fault d (byte ∷ []) ≡ None =
-    two_free (not (is_allowed b byte || is_passed c.frame b byte)) (has_tail (eqb byte 0) c) fault.SectionType fault.Tail
-    (or_passed (is_allowed b byte) (is_passed c.frame b byte) passed) (ap (λ (x : Bool). has_tail x c) other) in
+    two_free (not (is_allowed b byte || is_passed c.frame c.section b byte)) (has_tail (eqb byte 0) c) fault.SectionType fault.Tail
+    (or_passed (is_allowed b byte) (is_passed c.frame c.section b byte) passed) (ap (λ (x : Bool). has_tail x c) other) in
     subst (λ (x : StreamProgress). Front d (byte ∷ []) x) new (item_front d (byte ∷ []) (λ e. absurd cc) refl free)
 
 -- a COMMAND after its type byte
@@ -72,7 +77,7 @@ command_bytes_front c b x is fits =
     subst (λ (y : StreamProgress). Front d bytes y) new (item_front d bytes (λ e. absurd cc) whole free)
 
 -- a COMMAND, if one may stand
-command_front : (c : StreamProgress) (b : Before) (x : Command) → is_machine c.frame ≡ true → may_pass b command_type ≡ true → IsCommand x
+command_front : (c : StreamProgress) (b : Before) (x : Command) → is_machine c.frame ≡ true → may_pass c.section b command_type ≡ true → IsCommand x
     → (is_addressed c.form && (is_before_start (after_command b) && is_advise x)) ≡ false
     → Front (record c { due = TypeByte b }) (command x)
     (record c { due = TypeByte (after_command b); form = cond (is_before_start (after_command b) && is_advise x) Sized c.form })
@@ -80,21 +85,21 @@ command_front c b x machine may is fits =
     Front-append _ _ _ _ _ (passed_type_front c b command_type machine may refl) (command_bytes_front c (after_command b) x is fits)
 
 -- a COMMAND after a footer
-pub late_command_front : (c : StreamProgress) (x : Command) → is_machine c.frame ≡ true → IsCommand x
+late_command_front : (c : StreamProgress) (x : Command) → is_machine c.frame ≡ true → IsCommand x
     → Front (record c { due = TypeByte before.Footer }) (command x) (record c { due = TypeByte before.Footer })
 late_command_front c x machine is = command_front c before.Footer x machine refl is (and_right (is_addressed c.form) false refl)
 
--- where the next type byte stands after COMMANDs
-abbrev pub behind_commands : Before → List Command → Before
-behind_commands b [] = b
-behind_commands b (x ∷ xs) = behind_commands (after_command b) xs
+-- what is passed over, after a footer
+pub late_passed_front : (c : StreamProgress) (x : PassedSection) → is_machine c.frame ≡ true → IsPassedSection (is_start c.section) x
+    → Front (record c { due = TypeByte before.Footer }) (passed_section x) (record c { due = TypeByte before.Footer })
+late_passed_front c (CommandOf x) machine is = late_command_front c x machine is
+late_passed_front c (EarlyOf e) machine is =
+    Front-append _ _ _ _ _ (passed_type_front c before.Footer full_type machine is.0 refl) (early_front c before.Footer e is.1)
 
-may_command : (b : Before) → may_pass b command_type ≡ true → may_pass (after_command b) command_type ≡ true
-may_command before.FileHeader may = refl
-may_command before.Configuration may = refl
-may_command before.Command may = refl
-may_command before.Footer may = refl
-may_command before.LastFooter may = may
+-- where the next type byte stands after what is passed over
+abbrev pub behind_passed : Before → List PassedSection → Before
+behind_passed b [] = b
+behind_passed b (x ∷ xs) = behind_passed (after_command b) xs
 
 -- START is still to come
 abbrev pub IsOpening : Before → Type 0
@@ -107,24 +112,47 @@ opening_stays before.Command is = refl
 opening_stays before.Footer is = absurd cc
 opening_stays before.LastFooter is = absurd cc
 
--- COMMANDs in front of START are read without a fault
-pub commands_front : (c : StreamProgress) (b : Before) (xs : List Command) → is_machine c.frame ≡ true
-    → may_pass b command_type ≡ true → IsOpening b → AllByRecursion IsCommand xs
-    → (is_addressed c.form ≡ true → list_any is_advise xs ≡ false)
-    → Front (record c { due = TypeByte b }) (flat_map command xs)
-    (record c { due = TypeByte (behind_commands b xs); form = cond (list_any is_advise xs) Sized c.form })
-commands_front c b [] machine may opening is one = Front-none (record c { due = TypeByte b })
-commands_front c b (x ∷ xs) machine may opening is one =
-    let a : Bool = is_advise x in
-    let others : Bool = list_any is_advise xs in
-    let d : StreamProgress = record c { form = cond a Sized c.form } in
-    let first : Front (record c { due = TypeByte b }) (command x) (record d { due = TypeByte (after_command b) }) =
+-- a COMMAND may stand there, and a device's section
+record MayOpen (kind : Section) (b : Before) : Type 0 where
+  has_command : may_pass kind b command_type ≡ true
+  has_device : may_pass kind b full_type ≡ true
+
+may_open : (kind : Section) (b : Before) → IsOpening b → MayOpen kind b
+may_open kind before.FileHeader is = record { has_command = refl; has_device = refl }
+may_open kind before.Configuration is = record { has_command = refl; has_device = refl }
+may_open kind before.Command is = record { has_command = refl; has_device = refl }
+may_open kind before.Footer is = absurd cc
+may_open kind before.LastFooter is = absurd cc
+
+-- one of them in front of START
+opening_front : (c : StreamProgress) (b : Before) (x : PassedSection) → is_machine c.frame ≡ true → IsOpening b → IsPassedSection true x
+    → (is_addressed c.form && (is_before_start (after_command b) && has_advise x)) ≡ false
+    → Front (record c { due = TypeByte b }) (passed_section x)
+    (record c { due = TypeByte (after_command b); form = cond (has_advise x) Sized c.form })
+opening_front c b (CommandOf x) machine opening is fits =
     subst (λ (early : Bool). Front (record c { due = TypeByte b }) (command x)
-    (record c { due = TypeByte (after_command b); form = cond (early && a) Sized c.form })) opening
-    (command_front c b x machine may is.0 (first_fits (is_addressed c.form) a others (is_before_start (after_command b)) one)) in
-    let rest = commands_front d (after_command b) xs machine (may_command b may) (opening_stays b opening) is.1 (others_fit c.form a others one) in
-    subst (λ (form : EntryForm). Front (record c { due = TypeByte b }) (flat_map command (x ∷ xs))
-    (record c { due = TypeByte (behind_commands b (x ∷ xs)); form = form })) (twice a others Sized c.form)
+    (record c { due = TypeByte (after_command b); form = cond (early && is_advise x) Sized c.form })) opening
+    (command_front c b x machine (may_open c.section b opening).has_command is fits)
+opening_front c b (EarlyOf e) machine opening is fits =
+    Front-append _ _ _ _ _ (passed_type_front c b full_type machine (may_open c.section b opening).has_device refl)
+    (early_front c (after_command b) e is.1)
+
+-- what is passed over in front of START is read without a fault
+pub openings_front : (c : StreamProgress) (b : Before) (xs : List PassedSection) → is_machine c.frame ≡ true
+    → IsOpening b → AllByRecursion (IsPassedSection true) xs
+    → (is_addressed c.form ≡ true → list_any has_advise xs ≡ false)
+    → Front (record c { due = TypeByte b }) (flat_map passed_section xs)
+    (record c { due = TypeByte (behind_passed b xs); form = cond (list_any has_advise xs) Sized c.form })
+openings_front c b [] machine opening is one = Front-none (record c { due = TypeByte b })
+openings_front c b (x ∷ xs) machine opening is one =
+    let a : Bool = has_advise x in
+    let others : Bool = list_any has_advise xs in
+    let d : StreamProgress = record c { form = cond a Sized c.form } in
+    let first : Front (record c { due = TypeByte b }) (passed_section x) (record d { due = TypeByte (after_command b) }) =
+    opening_front c b x machine opening is.0 (first_fits (is_addressed c.form) a others (is_before_start (after_command b)) one) in
+    let rest = openings_front d (after_command b) xs machine (opening_stays b opening) is.1 (others_fit c.form a others one) in
+    subst (λ (form : EntryForm). Front (record c { due = TypeByte b }) (flat_map passed_section (x ∷ xs))
+    (record c { due = TypeByte (behind_passed b (x ∷ xs)); form = form })) (twice a others Sized c.form)
     (Front-append _ _ _ _ _ first rest)
 
 -- ---- subsections

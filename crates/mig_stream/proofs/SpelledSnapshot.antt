@@ -3,7 +3,7 @@ use Rattle.std.proofs.Common.{◌≡◌, ℕ, ◌^◌, ◌<◌, Bool, true, fals
 use Rattle.std.proofs.Common.{append_assoc, arith, inr}
 use Rattle.std.specs.Prelude.{is_none, All, map}
 use Rattle.std.specs.Bool.{then_some}
-use Rattle.std.specs.List.{flat_map, AllByRecursion}
+use Rattle.std.specs.List.{flat_map}
 use Rattle.std.proofs.lemmas.List.{append-nil, map-append, length-append, take_at, drop_at}
 use Rattle.std.proofs.lemmas.List.Elements.{All-head, All-tail, All-cons, All-nil}
 use Rattle.mig_mem.specs.RamTable.{Block, RamTable, IsTable}
@@ -17,11 +17,11 @@ use Rattle.mig_stream.specs.declared.item.Due.TheVariants.{TypeByte, RecordHead,
 use Rattle.mig_stream.specs.Format.{full_type}
 use Rattle.mig_stream.specs.PageRecord.{PageRecord}
 use Rattle.mig_stream.specs.Progress.{StreamProgress, start, table_of, is_used_up, whole_table}
-use Rattle.mig_stream.specs.Items.{size, is_single, is_machine, is_part, ends_before, is_over}
+use Rattle.mig_stream.specs.Items.{size, is_single, is_machine, is_start, is_part, ends_before, is_over}
 use Rattle.mig_stream.specs.Reading.{IsItem, Front}
 use Rattle.mig_stream.specs.Text.{Record, PageOf, FlushMark, Follow, HasNoFlush, page_records, all_records, body, section, file_header, start_head, AreRounds}
-use Rattle.mig_stream.specs.Machine.{command, configured, form_of, tailed_list, ignores_shared}
-use Rattle.mig_stream.specs.Machine.{PartOrCommand, PartOf, CommandOf, part_or_command, IsPartOrCommand, parts_of}
+use Rattle.mig_stream.specs.Machine.{passed_section, configured, form_of, tailed_list, ignores_shared}
+use Rattle.mig_stream.specs.Machine.{PartOrPassed, PartOf, PassedOf, part_or_passed, AreBetween, parts_of}
 use Rattle.mig_stream.specs.Law.{SnapshotIsRead}
 use Rattle.mig_stream.proofs.Fronts.{Front-none, Front-append}
 use Rattle.mig_stream.proofs.After.{unlimited, after_body, rounds_behind, FlushesFit}
@@ -31,29 +31,29 @@ use Rattle.mig_stream.proofs.SpelledRecords.{body_front}
 use Rattle.mig_stream.proofs.NoPageSize.{IsElsewhere, type_elsewhere}
 use Rattle.mig_stream.proofs.SpelledList.{tailed_front}
 use Rattle.mig_stream.proofs.SpelledSections.{FlushesFit-first, FlushesFit-rest, Follow-first, Follow-rest, part_front}
-use Rattle.mig_stream.proofs.SpelledPassed.{late_command_front}
+use Rattle.mig_stream.proofs.SpelledPassed.{late_passed_front}
 use Rattle.mig_stream.proofs.SpelledMachine.{opening_front}
 use Rattle.mig_stream.proofs.Tails.{addressed_told}
 use Rattle.mig_stream.proofs.Steps.{IsLater-front}
 use Rattle.mig_stream.proofs.Found.{sections_are}
 
--- ---- PARTs and COMMANDs
+-- ---- PARTs and what is passed over
 
 -- how far a stream has been read after these
-abbrev behind : StreamProgress → List PartOrCommand → StreamProgress
+abbrev behind : StreamProgress → List PartOrPassed → StreamProgress
 behind c [] = record c { due = TypeByte before.Footer }
-behind c (CommandOf x ∷ others) = behind c others
+behind c (PassedOf x ∷ others) = behind c others
 behind c (PartOf records ∷ others) = behind (after_body (record c { section = sections.Part }) records) others
 
-parts_front : (c : StreamProgress) (others : List PartOrCommand) → is_machine c.frame ≡ true
-    → AllByRecursion IsPartOrCommand others → IsTable (table_of c) → c.section_id < 2 ^ 32 → is_none c.left ≡ false
+parts_front : (c : StreamProgress) (others : List PartOrPassed) → is_machine c.frame ≡ true
+    → AreBetween (is_start c.section) others → IsTable (table_of c) → c.section_id < 2 ^ 32 → is_none c.left ≡ false
     → FlushesFit (is_single c.mode) (parts_of others) → Follow (table_of c) c.named (all_records (parts_of others))
-    → Front (record (unlimited c) { due = TypeByte before.Footer }) (flat_map (part_or_command (table_of c) c.section_id) others)
+    → Front (record (unlimited c) { due = TypeByte before.Footer }) (flat_map (part_or_passed (table_of c) c.section_id) others)
     (behind (unlimited c) others)
 parts_front c [] machine may is small begun flushes follow = Front-none (record (unlimited c) { due = TypeByte before.Footer })
-parts_front c (CommandOf x ∷ others) machine may is small begun flushes follow =
+parts_front c (PassedOf x ∷ others) machine may is small begun flushes follow =
     let u : StreamProgress = unlimited c in
-    Front-append _ _ _ _ _ (late_command_front u x machine may.0) (parts_front u others machine may.1 is small begun flushes follow)
+    Front-append _ _ _ _ _ (late_passed_front u x machine may.0) (parts_front u others machine may.1 is small begun flushes follow)
 parts_front c (PartOf records ∷ others) machine may is small begun flushes follow =
     let u : StreamProgress = unlimited c in
     let d : StreamProgress = after_body (record u { section = sections.Part }) records in
@@ -63,35 +63,35 @@ parts_front c (PartOf records ∷ others) machine may is small begun flushes fol
     subst (λ (single : Bool). FlushesFit single (parts_of others)) (sym (single_kept u.mode false u.records records))
     (FlushesFit-rest (is_single u.mode) records (parts_of others) flushes) in
     Front-append _ _ _ _ _ one
-    (parts_front d others machine may.1 is small begun fit (Follow-rest (table_of u) u.named records (all_records (parts_of others)) follow))
+    (parts_front d others machine may is small begun fit (Follow-rest (table_of u) u.named records (all_records (parts_of others)) follow))
 
 -- the rounds after them
-behind_rounds : (c : StreamProgress) (others : List PartOrCommand)
+behind_rounds : (c : StreamProgress) (others : List PartOrPassed)
     → (behind c others).rounds ≡ rounds_behind c.mode false c.records c.rounds (parts_of others)
 behind_rounds c [] = refl
-behind_rounds c (CommandOf x ∷ others) = behind_rounds c others
+behind_rounds c (PassedOf x ∷ others) = behind_rounds c others
 behind_rounds c (PartOf records ∷ others) = behind_rounds (after_body (record c { section = sections.Part }) records) others
 
 -- the item that is due after them, and what was read before
-behind_due : (c : StreamProgress) (others : List PartOrCommand) → (behind c others).due ≡ TypeByte before.Footer
+behind_due : (c : StreamProgress) (others : List PartOrPassed) → (behind c others).due ≡ TypeByte before.Footer
 behind_due c [] = refl
-behind_due c (CommandOf x ∷ others) = behind_due c others
+behind_due c (PassedOf x ∷ others) = behind_due c others
 behind_due c (PartOf records ∷ others) = behind_due (after_body (record c { section = sections.Part }) records) others
 
-after_parts : (c : StreamProgress) (others : List PartOrCommand) → c.section ≡ sections.Part → (behind c others).section ≡ sections.Part
+after_parts : (c : StreamProgress) (others : List PartOrPassed) → c.section ≡ sections.Part → (behind c others).section ≡ sections.Part
 after_parts c [] e = e
-after_parts c (CommandOf x ∷ others) e = after_parts c others e
+after_parts c (PassedOf x ∷ others) e = after_parts c others e
 after_parts c (PartOf records ∷ others) e = after_parts (after_body (record c { section = sections.Part }) records) others refl
 
-behind_part : (c : StreamProgress) (others : List PartOrCommand) → 0 < length (parts_of others) → (behind c others).section ≡ sections.Part
+behind_part : (c : StreamProgress) (others : List PartOrPassed) → 0 < length (parts_of others) → (behind c others).section ≡ sections.Part
 behind_part c [] some = absurd (omega arith)
-behind_part c (CommandOf x ∷ others) some = behind_part c others some
+behind_part c (PassedOf x ∷ others) some = behind_part c others some
 behind_part c (PartOf records ∷ others) some = after_parts (after_body (record c { section = sections.Part }) records) others refl
 
-same_list : (c : StreamProgress) (others : List PartOrCommand)
+same_list : (c : StreamProgress) (others : List PartOrPassed)
     → ((behind c others).page_size ≡ c.page_size) × ((behind c others).left ≡ c.left) × ((behind c others).blocks ≡ c.blocks)
 same_list c [] = (refl, refl, refl)
-same_list c (CommandOf x ∷ others) = same_list c others
+same_list c (PassedOf x ∷ others) = same_list c others
 same_list c (PartOf records ∷ others) = same_list (after_body (record c { section = sections.Part }) records) others
 
 -- ---- without the END that was put behind it
@@ -181,10 +181,10 @@ snapshot_is_read = λ mode limit text rest table rounds snap.
     subst (Follow table None) (append-nil (is.first ++ behind_first))
     (subst (λ (l : List Record). Follow table None (is.first ++ behind_first ++ l)) cut.has_none is.follow) in
     let from : StreamProgress = start Machine mode table.page_size limit None in
-    let begun : StreamProgress = record from { due = RecordHead; section_id = is.id; form = form_of is.machine is.commands } in
+    let begun : StreamProgress = record from { due = RecordHead; section_id = is.id; form = form_of is.machine is.opening } in
     let listed : StreamProgress = record begun { left = Some 0; blocks = table.blocks } in
     let first : StreamProgress = after_body listed is.first in
-    let opening = opening_front from is.machine is.commands is.id refl is.has_machine is.are_commands
+    let opening = opening_front from is.machine is.opening is.id refl is.has_machine is.is_opening
     (λ e. is.is_one_form (addressed_told (ignores_shared is.machine) e)) is.has_id in
     let fit : FlushesFit (is_single first.mode) (parts_of is.others) =
     subst (λ (single : Bool). FlushesFit single (parts_of is.others)) (sym (single_kept mode true [] is.first))
@@ -192,8 +192,8 @@ snapshot_is_read = λ mode limit text rest table rounds snap.
     let start_body = body_front listed is.first is.has_table is.has_id refl
     (FlushesFit-first (is_single mode) is.first (parts_of is.others) told.0) (Follow-first table None is.first behind_first follow) refl in
     let parts = parts_front first is.others refl is.are_others is.has_table is.has_id refl fit (Follow-rest table None is.first behind_first follow) in
-    let front : List ℕ = file_header ++ configured is.machine ++ flat_map command is.commands ++ start_head is.id ++ tailed_list table is.tails
-    ++ body table is.id is.first ++ flat_map (part_or_command table is.id) is.others in
+    let front : List ℕ = file_header ++ configured is.machine ++ flat_map passed_section is.opening ++ start_head is.id ++ tailed_list table is.tails
+    ++ body table is.id is.first ++ flat_map (part_or_passed table is.id) is.others in
     let whole : text ++ section table sections.End snap.id [] ≡ front ++ section table sections.End is.id [] =
     is.is_spelled ∙ ap (λ (l : List Record). front ++ section table sections.End is.id l) cut.has_none in
     let spelled : text ≡ front = cut_end table text front snap.id is.id whole in
@@ -201,8 +201,8 @@ snapshot_is_read = λ mode limit text rest table rounds snap.
     let list = tailed_front begun to table is.tails _ is.has_table is.has_limit is.has_tails is.are_tails
     (subst IsElsewhere (sym (behind_due first is.others)) (type_elsewhere before.Footer)) (Front-append _ _ _ _ _ start_body parts) in
     let leads : Front from text to = subst (λ (x : List ℕ). Front from x to)
-    (sym (spelled ∙ regroup file_header (configured is.machine) (flat_map command is.commands) (start_head is.id) (tailed_list table is.tails)
-    (body table is.id is.first) (flat_map (part_or_command table is.id) is.others))) (Front-append _ _ _ _ _ opening list) in
+    (sym (spelled ∙ regroup file_header (configured is.machine) (flat_map passed_section is.opening) (start_head is.id) (tailed_list table is.tails)
+    (body table is.id is.first) (flat_map (part_or_passed table is.id) is.others))) (Front-append _ _ _ _ _ opening list) in
     let later = IsLater-front from to text leads in
     let some : 0 < length (parts_of is.others) =
     omega (arith, snap.has_part, sections_are mode before_it rounds snap.is_single cut.has_rounds) in

@@ -134,7 +134,7 @@ type_step c b =
     record { frame = refl; mode = same refl; page_size = refl; limit = refl; waiting = refl; change = none refl refl refl }))))
 
 type_byte_step : (c : StreamProgress) (before : Before) (b : ℕ) → Step c (after_type_byte c before b)
-type_byte_step c before b = cond_both (is_passed c.frame before b) _ _ (Step c)
+type_byte_step c before b = cond_both (is_passed c.frame c.section before b) _ _ (Step c)
     (λ _. record { frame = refl; mode = same refl; page_size = refl; limit = refl; waiting = refl; change = none refl refl refl }) (λ _. type_step c b)
 
 eos_change : (c new : StreamProgress) (m : Mode) → new.blocks ≡ c.blocks → new.records ≡ eos_records m c.records
@@ -266,7 +266,7 @@ type_entries c b =
     cond_both (eqb b 3) _ _ (SameEntries c) (λ _. (refl, refl)) (λ _. (refl, refl)))))
 
 type_byte_entries : (c : StreamProgress) (before : Before) (b : ℕ) → SameEntries c (after_type_byte c before b)
-type_byte_entries c before b = cond_both (is_passed c.frame before b) _ _ (SameEntries c) (λ _. (refl, refl)) (λ _. type_entries c b)
+type_byte_entries c before b = cond_both (is_passed c.frame c.section before b) _ _ (SameEntries c) (λ _. (refl, refl)) (λ _. type_entries c b)
 
 -- a size list that was whole doesn't begin again
 no_list : (o : Option ℕ) (more : List (Bool × StreamFault)) → o ≡ Some 0 → first_of ((is_some o, fault.SizePlace) ∷ more) ≡ None → ⊥

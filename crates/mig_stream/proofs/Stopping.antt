@@ -7,6 +7,7 @@ use Rattle.std.proofs.lemmas.Bool.{and_parts, eqb-true}
 use Rattle.mig_stream.specs.declared.item.Frame.{Frame}
 use Rattle.mig_stream.specs.declared.item.Mode.{Mode}
 use Rattle.mig_stream.specs.declared.item.Section.{Section}
+use Rattle.mig_stream.specs.declared.item.Section.TheVariants as section
 use Rattle.mig_stream.specs.declared.item.Before.TheVariants as before
 use Rattle.mig_stream.specs.declared.item.Due.{Due}
 use Rattle.mig_stream.specs.declared.item.Due.TheVariants.{FileHeader, TypeByte, ConfigLength, ConfigName, StartHead, SectionHead, RecordHead, ListEntry}
@@ -17,7 +18,7 @@ use Rattle.mig_stream.specs.declared.fault.StreamFault.TheVariants as fault
 use Rattle.mig_stream.specs.Format.{end_byte, full_type}
 use Rattle.mig_stream.specs.Progress.{StreamProgress}
 use Rattle.mig_mem.specs.First.{first_of}
-use Rattle.mig_stream.specs.Items.{size, is_single, is_machine, is_part, ends_before, is_over, is_allowed, is_passed, has_tail, faults, first_fault}
+use Rattle.mig_stream.specs.Items.{size, is_single, is_machine, is_start, is_part, ends_before, is_over, is_allowed, is_passed, has_tail, faults, first_fault}
 use Rattle.mig_stream.specs.Reading.{IsItem, Ends, stopped}
 use Rattle.mig_stream.specs.Reader.{IsUnfinished}
 
@@ -88,13 +89,20 @@ some_bytes b (suc n) len is isnt same = omega (arith, same)
 pub over_is : (c : StreamProgress) (item : List ℕ) → is_over c item ≡ true → OverAt c.frame c.mode c.section c.due item
 over_is c item over = over_at c.frame c.mode c.section c.due item over
 
+-- after a PART the section isn't START
+part_no_start : (kind : Section) → is_part kind ≡ true → is_start kind ≡ false
+part_no_start section.Start e = absurd cc
+part_no_start section.Part e = refl
+part_no_start section.End e = refl
+
 -- an item before which RAM is over isn't read
 pub over_fault : (c : StreamProgress) (item : List ℕ) → is_over c item ≡ true → first_fault c item ≡ Some fault.SectionType
 over_fault c item over =
     let at = over_is c item over in
     ap (λ (d : Due). first_of (faults c d item)) at.is_type
-    ∙ ap (λ (x : ℕ). first_of ((not (is_allowed before.Footer x || is_passed c.frame before.Footer x), fault.SectionType)
+    ∙ ap (λ (x : ℕ). first_of ((not (is_allowed before.Footer x || is_passed c.frame c.section before.Footer x), fault.SectionType)
     ∷ (has_tail (eqb x end_byte) c, fault.Tail) ∷ [])) at.is_full
+    ∙ ap (λ (x : Bool). first_of ((not (x && is_machine c.frame), fault.SectionType) ∷ (false, fault.Tail) ∷ [])) (part_no_start c.section at.behind_part)
 
 -- a stream that isn't a machine's single one is closed by an item alone
 pub closed_due : (c : StreamProgress) (rest : List ℕ) → (is_machine c.frame && is_single c.mode) ≡ false → Ends c rest Closed → c.due ≡ Nothing

@@ -61,7 +61,7 @@ freed_record c item = freed_head c (record_kind (be64_at 0 item % c.page_size)) 
 -- an item changes the progress without a limit as it does with one
 pub freed_item : (c : StreamProgress) (d : Due) (item : List ℕ) → after_item (freed c) d item ≡ freed (after_item c d item)
 freed_item c FileHeader item = refl
-freed_item c (TypeByte b) item = freed_cond (is_passed c.frame b (slice_index item 0)) _ _ _ _ refl (freed_type c (slice_index item 0))
+freed_item c (TypeByte b) item = freed_cond (is_passed c.frame c.section b (slice_index item 0)) _ _ _ _ refl (freed_type c (slice_index item 0))
 freed_item c ConfigLength item = refl
 freed_item c (ConfigName n) item = refl
 freed_item c StartHead item = refl

@@ -36,7 +36,7 @@ few_type c byte n =
     cond_both (eqb byte 3) _ _ (HasFew (waiting_in c) n) (λ _. omega arith) (λ _. omega arith))))
 
 few_type_byte : (c : StreamProgress) (before : Before) (byte n : ℕ) → HasFew (waiting_in c) n (after_type_byte c before byte)
-few_type_byte c before byte n = cond_both (is_passed c.frame before byte) _ _ (HasFew (waiting_in c) n) (λ _. omega arith) (λ _. few_type c byte n)
+few_type_byte c before byte n = cond_both (is_passed c.frame c.section before byte) _ _ (HasFew (waiting_in c) n) (λ _. omega arith) (λ _. few_type c byte n)
 
 few_eos : (mode : Mode) (rounds : List (List PageRecord)) (records : List PageRecord)
     → length (eos_rounds mode rounds records) + length (eos_records mode records) ≤ length rounds + length records + 1

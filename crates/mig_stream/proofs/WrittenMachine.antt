@@ -1,6 +1,6 @@
 -- What a writer makes of RAM in a machine's stream is such a stream.
-use Rattle.std.proofs.Common.{ℕ, ◌≡◌, ◌≤◌, ◌<◌, ◌^◌, IfSome, List, [], ◌∷◌, ◌++◌, length, map, replicate, flat_map, Option, Some, None, refl, sym, ap, subst}
-use Rattle.std.proofs.Common.{◌∙◌, append_assoc, append-nil, arith}
+use Rattle.std.proofs.Common.{ℕ, ◌≡◌, ◌≤◌, ◌<◌, ◌^◌, IfSome, Bool, true, false, List, [], ◌∷◌, ◌++◌, length, map, replicate, flat_map, Option, Some, None, refl}
+use Rattle.std.proofs.Common.{sym, ap, subst, ◌∙◌, append_assoc, append-nil, arith}
 use Rattle.std.specs.List.{AllByRecursion}
 use Rattle.mig_mem.specs.RamTable.{RamTable, IsTable}
 use Rattle.mig_stream.specs.declared.item.Mode.{Mode}
@@ -11,7 +11,7 @@ use Rattle.mig_stream.specs.declared.item.EntryForm.TheVariants.{Plain}
 use Rattle.mig_stream.specs.Format.{most_name_bytes}
 use Rattle.mig_stream.specs.PageRecord.{PageRecord}
 use Rattle.mig_stream.specs.Text.{Record, Follow, all_records, AreRounds, section, body, file_header, configuration, start_head, size_list, total_bytes}
-use Rattle.mig_stream.specs.Machine.{Configuration, configured, IsConfiguration, form_of, IsTail, PartOf, part_or_command, IsPartOrCommand, parts_of}
+use Rattle.mig_stream.specs.Machine.{Configuration, configured, IsConfiguration, form_of, IsTail, PartOf, part_or_passed, AreBetween, parts_of}
 use Rattle.mig_stream.specs.Machine.{IsMachineText}
 use Rattle.mig_stream.specs.Written.{Part, RoundPart, FlushPart, written_id, written_record, written_parts, opening}
 use Rattle.mig_stream.specs.MachineWritten.{machine_written, MachineSinglesAreTexts, MachineMainsAreTexts}
@@ -21,7 +21,7 @@ use Rattle.mig_stream.proofs.WrittenText.{parts_records, parts_spelled, single_p
 
 -- PARTs alone
 each_part : (table : RamTable) (id : ℕ) (sections_are : List (List Record))
-    → flat_map (section table sections.Part id) sections_are ≡ flat_map (part_or_command table id) (map PartOf sections_are)
+    → flat_map (section table sections.Part id) sections_are ≡ flat_map (part_or_passed table id) (map PartOf sections_are)
 each_part table id [] = refl
 each_part table id (records ∷ others) = ap (λ (x : List ℕ). section table sections.Part id records ++ x) (each_part table id others)
 
@@ -29,9 +29,9 @@ parts_alone : (sections_are : List (List Record)) → parts_of (map PartOf secti
 parts_alone [] = refl
 parts_alone (records ∷ others) = ap (λ (x : List (List Record)). records ∷ x) (parts_alone others)
 
-parts_stand : (sections_are : List (List Record)) → AllByRecursion IsPartOrCommand (map PartOf sections_are)
-parts_stand [] = tt
-parts_stand (records ∷ others) = (tt, parts_stand others)
+parts_stand : (before_parts : Bool) (sections_are : List (List Record)) → AreBetween before_parts (map PartOf sections_are)
+parts_stand before_parts [] = tt
+parts_stand before_parts (records ∷ others) = parts_stand false others
 
 -- a name with no subsection
 abbrev named : Option (List ℕ) → Option Configuration
@@ -61,17 +61,17 @@ from_text mode limit name table parts rounds short is most follow are =
     let records : List (List Record) = parts_records None parts in
     let back : List ℕ → List ℕ → List ℕ = λ c p. file_header ++ c ++ start_head written_id ++ size_list table
     ++ body table written_id [] ++ p ++ section table sections.End written_id [] in
-    let parts_are : written_parts table None parts ≡ flat_map (part_or_command table written_id) (map PartOf records) =
+    let parts_are : written_parts table None parts ≡ flat_map (part_or_passed table written_id) (map PartOf records) =
     parts_spelled table None parts ∙ each_part table written_id records in
-    let spelled : machine_written name table parts ≡ back (configured (named name)) (flat_map (part_or_command table written_id) (map PartOf records)) =
+    let spelled : machine_written name table parts ≡ back (configured (named name)) (flat_map (part_or_passed table written_id) (map PartOf records)) =
     ap (λ (c : List ℕ). back c (written_parts table None parts)) (named_spelled name) ∙ ap (back (configured (named name))) parts_are in
     let with_list : List ℕ → List ℕ → List ℕ =
-    λ c l. c ++ start_head written_id ++ l ++ body table written_id [] ++ flat_map (part_or_command table written_id)
+    λ c l. c ++ start_head written_id ++ l ++ body table written_id [] ++ flat_map (part_or_passed table written_id)
     (map PartOf records) ++ section table sections.End written_id [] in
     record {
       id = written_id;
       machine = named name;
-      commands = [];
+      opening = [];
       tails = no_tails table.blocks;
       first = [];
       others = map PartOf records;
@@ -82,11 +82,11 @@ from_text mode limit name table parts rounds short is most follow are =
       has_limit = most;
       has_id = small;
       has_machine = named_is table.page_size name short;
-      are_commands = tt;
+      is_opening = tt;
       is_one_form = λ shared. refl;
       has_tails = no_tails_length table.blocks;
       are_tails = subst (λ (form : EntryForm). AllByRecursion (IsTail form) (no_tails table.blocks)) (named_form name) (no_tails_plain table.blocks);
-      are_others = parts_stand records;
+      are_others = parts_stand true records;
       follow = subst (λ (x : List (List Record)). Follow table None (all_records x ++ [])) (sym (parts_alone records)) follow;
       has_rounds = subst (λ (x : List (List Record)). AreRounds mode ([] ∷ x ++ [] ∷ []) rounds) (sym (parts_alone records)) are;
     }

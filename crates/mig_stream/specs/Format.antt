@@ -94,6 +94,15 @@ least_page_size = 4096
 abbrev pub passed_commands : List ℕ
 passed_commands = 1 ∷ 2 ∷ advise_command ∷ 8 ∷ 11 ∷ []
 
+-- A device's section that QEMU writes whole before RAM's pages: what virtio-mem says of its memory
+-- (`vmstate_virtio_mem_device_early` in `hw/virtio/virtio-mem.c`). Its name is the device's path,
+-- and then "/virtio-mem-device-early".
+unfoldable pub early_name : List ℕ
+early_name = 0x2F ∷ 0x76 ∷ 0x69 ∷ 0x72 ∷ 0x74 ∷ 0x69 ∷ 0x6F ∷ 0x2D ∷ 0x6D ∷ 0x65 ∷ 0x6D ∷ 0x2D ∷ 0x64 ∷ 0x65 ∷ 0x76 ∷ 0x69 ∷ 0x63 ∷ 0x65 ∷ 0x2D ∷ 0x65 ∷ 0x61 ∷ 0x72 ∷ 0x6C ∷ 0x79 ∷ []
+
+abbrev pub early_version : ℕ
+early_version = 1
+
 -- RAM's section: "ram", its instance, and its version
 abbrev pub ram_name : List ℕ
 ram_name = 0x72 ∷ 0x61 ∷ 0x6D ∷ []

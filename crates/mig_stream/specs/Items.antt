@@ -1,8 +1,9 @@
 -- The items of a stream: how long each is, which faults it may have, and how far the stream has
 -- been read after it.
-use Rattle.std.specs.Prelude.{ℕ, ◌+◌, ◌-◌, ◌*◌, ◌/◌, ◌%◌, ◌^◌, Bool, true, false, not, ◌&&◌, ◌||◌, nat_lt, nat_le, ◌==◌, if◌then◌else◌, List, [], ◌∷◌, ◌++◌, length, slice_index, slice_range, find, Option, Some, None, is_none, is_some}
+use Rattle.std.specs.Prelude.{ℕ, ◌+◌, ◌-◌, ◌*◌, ◌/◌, ◌%◌, ◌^◌, Bool, true, false, not, ◌&&◌, ◌||◌, nat_lt, nat_le, ◌==◌, if◌then◌else◌, List, [], ◌∷◌, ◌++◌, length, slice_index, slice_range, find, nat_eq, Option, Some, None, is_none, is_some}
 use Rattle.std.specs.Option.{unwrap_or}
-use Rattle.std.specs.List.{list_any}
+use Rattle.std.specs.List.{list_any, ends_with}
+use Rattle.std.specs.Int.{div_ceil}
 use Rattle.std.specs.Str.{bytes_eq}
 use Rattle.mig_mem.specs.declared.place.Place.{Place}
 use Rattle.mig_mem.specs.Place.{place_at}
@@ -26,15 +27,24 @@ use Rattle.mig_stream.specs.declared.item.Subsection.TheVariants.{PageBits, Uuid
 use Rattle.mig_stream.specs.declared.item.EntryForm.{EntryForm}
 use Rattle.mig_stream.specs.declared.item.EntryForm.TheVariants.{Plain, Addressed, Sized}
 use Rattle.mig_stream.specs.declared.item.PassedItem.{PassedItem}
-use Rattle.mig_stream.specs.declared.item.PassedItem.TheVariants.{Command, SubsectionHead, SubsectionBody, Capability, Address}
+use Rattle.mig_stream.specs.declared.item.PassedItem.TheVariants.{Command, SubsectionHead, SubsectionBody, Capability, Address, Early}
+use Rattle.mig_stream.specs.declared.item.EarlyPart.{EarlyPart}
+use Rattle.mig_stream.specs.declared.item.EarlyPart.TheVariants as early
 use Rattle.mig_stream.specs.declared.item.Due.{Due}
 use Rattle.mig_stream.specs.declared.item.Due.TheVariants.{FileHeader, TypeByte, ConfigLength, ConfigName, StartHead, SectionHead, RecordHead, ListEntry, PageSize, BlockName, Content, Footer, Passed, Nothing}
 use Rattle.mig_stream.specs.Fields.{be16_at, be32_at, be64_at}
-use Rattle.mig_stream.specs.Format.{magic, version, end_byte, section_type, full_type, subsection_type, command_type, configuration_type, footer_type, subsection_name, subsections, subsection_version, ignore_shared, mapped_ram, advise_command, advise_bytes, least_page_size, passed_commands, ram_name, ram_instance, ram_version, flags_of, record_kinds, most_name_bytes}
+use Rattle.mig_stream.specs.Format.{magic, version, end_byte, section_type, full_type, subsection_type, command_type, configuration_type, footer_type, early_name, early_version, subsection_name, subsections, subsection_version, ignore_shared, mapped_ram, advise_command, advise_bytes, least_page_size, passed_commands, ram_name, ram_instance, ram_version, flags_of, record_kinds, most_name_bytes}
 use Rattle.mig_stream.specs.PageRecord.{PageRecord}
 use Rattle.mig_stream.specs.Progress.{StreamProgress}
 
 -- ---- the length of an item, by its first bytes
+
+-- the length of a part of virtio-mem's early state
+abbrev pub early_size : EarlyPart → List ℕ → ℕ
+early_size early.Head bytes = 13 + slice_index bytes 4
+early_size (early.Numbers id) bytes = 36
+early_size (early.Plugged id others) bytes = 8
+early_size (early.Footer id) bytes = 5
 
 -- the length of an item that is passed over
 abbrev pub passed_size : PassedItem → List ℕ → ℕ
@@ -45,6 +55,7 @@ passed_size (SubsectionBody Uuid) bytes = 16
 passed_size (SubsectionBody Capabilities) bytes = 4
 passed_size (Capability others) bytes = 1 + slice_index bytes 0
 passed_size (Address last) bytes = 8
+passed_size (Early before part) bytes = early_size part bytes
 
 abbrev pub size : ℕ → Due → List ℕ → ℕ
 size page_size FileHeader bytes = 8
@@ -111,16 +122,22 @@ abbrev pub is_machine : Frame → Bool
 is_machine Ram = false
 is_machine Machine = true
 
--- In a machine's stream a COMMAND is accepted there too, and after the configuration a subsection.
-abbrev pub may_pass : Before → ℕ → Bool
-may_pass before.FileHeader byte = byte == command_type
-may_pass before.Configuration byte = byte == command_type || byte == subsection_type
-may_pass before.Command byte = byte == command_type
-may_pass before.Footer byte = byte == command_type
-may_pass before.LastFooter byte = false
+abbrev pub is_start : Section → Bool
+is_start section.Start = true
+is_start section.Part = false
+is_start section.End = false
 
-abbrev pub is_passed : Frame → Before → ℕ → Bool
-is_passed frame before byte = may_pass before byte && is_machine frame
+-- In a machine's stream a COMMAND is accepted there too, after the configuration a subsection, and
+-- up to the first PART a device's section. The last section of RAM so far is of this kind.
+abbrev pub may_pass : Section → Before → ℕ → Bool
+may_pass kind before.FileHeader byte = byte == command_type || byte == full_type
+may_pass kind before.Configuration byte = byte == command_type || byte == full_type || byte == subsection_type
+may_pass kind before.Command byte = byte == command_type || byte == full_type
+may_pass kind before.Footer byte = byte == command_type || (byte == full_type && is_start kind)
+may_pass kind before.LastFooter byte = false
+
+abbrev pub is_passed : Frame → Section → Before → ℕ → Bool
+is_passed frame kind before byte = may_pass kind before byte && is_machine frame
 
 abbrev pub is_part : Section → Bool
 is_part section.Start = false
@@ -172,6 +189,21 @@ is_addressed Plain = false
 is_addressed Addressed = true
 is_addressed Sized = false
 
+-- the name of a device's section, after its type byte
+abbrev pub name_of_section : List ℕ → List ℕ
+name_of_section item = slice_range item 5 (5 + slice_index item 4)
+
+-- The device's section is virtio-mem's early state: no other's length can be told.
+abbrev pub is_early : List ℕ → Bool
+is_early item = ends_with nat_eq (name_of_section item) early_name && be32_at (9 + slice_index item 4) item == early_version
+
+-- The tests of a part of it. Its third number is the size of a block.
+abbrev pub early_faults : EarlyPart → List ℕ → List (Bool × StreamFault)
+early_faults early.Head item = (not (is_early item), fault.SectionName) ∷ []
+early_faults (early.Numbers id) item = (be64_at 16 item == 0, fault.Length) ∷ []
+early_faults (early.Plugged id others) item = []
+early_faults (early.Footer id) item = (not (slice_index item 0 == footer_type && be32_at 1 item == id), fault.Footer) ∷ []
+
 -- the test of a subsection's name and version
 abbrev pub subsection_faults : List ℕ → List (Bool × StreamFault)
 subsection_faults item =
@@ -188,6 +220,7 @@ passed_faults page_size form (SubsectionBody Uuid) item = []
 passed_faults page_size form (SubsectionBody Capabilities) item = []
 passed_faults page_size form (Capability others) item = (bytes_eq (id_in item) mapped_ram, fault.Capability) ∷ []
 passed_faults page_size form (Address last) item = []
+passed_faults page_size form (Early before part) item = early_faults part item
 
 -- the open round takes no more page records
 abbrev pub is_full : Option ℕ → Bool
@@ -241,7 +274,7 @@ faults c FileHeader item =
     (not (be32_at 4 item == version), fault.Version) ∷ []
 faults c (TypeByte before) item =
     let byte = slice_index item 0 in
-    (not (is_allowed before byte || is_passed c.frame before byte), fault.SectionType) ∷
+    (not (is_allowed before byte || is_passed c.frame c.section before byte), fault.SectionType) ∷
     (has_tail (byte == end_byte) c, fault.Tail) ∷ []
 faults c ConfigLength item = (nat_lt most_name_bytes (be32_at 0 item), fault.ConfigLength) ∷ []
 faults c (ConfigName len) item = []
@@ -281,7 +314,7 @@ after_type c byte =
     if byte == section_type section.End then record c { due = SectionHead; section = section.End } else
     record c { due = Nothing }
 
--- what the type byte after a COMMAND follows
+-- what the type byte after a COMMAND, or after a device's section, follows
 abbrev pub after_command : Before → Before
 after_command before.FileHeader = before.Command
 after_command before.Configuration = before.Command
@@ -291,11 +324,13 @@ after_command before.LastFooter = before.LastFooter
 
 -- the item after the type byte of one that is passed over
 abbrev pub passed_by : Before → ℕ → PassedItem
-passed_by before byte = if byte == command_type then Command (after_command before) else SubsectionHead
+passed_by before byte =
+    if byte == command_type then Command (after_command before) else
+    if byte == full_type then Early (after_command before) early.Head else SubsectionHead
 
 abbrev pub after_type_byte : StreamProgress → Before → ℕ → StreamProgress
 after_type_byte c before byte =
-    if is_passed c.frame before byte then record c { due = Passed (passed_by before byte) } else after_type c byte
+    if is_passed c.frame c.section before byte then record c { due = Passed (passed_by before byte) } else after_type c byte
 
 -- what a subsection holds, after its name and version
 abbrev pub body_of : Option Subsection → Due
@@ -317,6 +352,24 @@ entry_due Plain last = list_due last
 entry_due Addressed last = Passed (Address last)
 entry_due Sized last = PageSize last
 
+-- Of a virtio-mem with a region and blocks of these sizes: the words of 64 bits that have a bit for
+-- each block.
+abbrev pub plugged_words : ℕ → ℕ → ℕ
+plugged_words region block_size = div_ceil (region / block_size) 64
+
+-- the item after the numbers of virtio-mem's early state, or after one of its words, with this many
+-- words after it
+abbrev pub plugged_due : Before → ℕ → ℕ → Due
+plugged_due before id others = Passed (Early before (if others == 0 then early.Footer id else early.Plugged id (others - 1)))
+
+-- the item after a part of virtio-mem's early state: its second and third numbers are the sizes of
+-- its region and of a block
+abbrev pub behind_early : Before → EarlyPart → List ℕ → Due
+behind_early before early.Head item = Passed (Early before (early.Numbers (be32_at 0 item)))
+behind_early before (early.Numbers id) item = plugged_due before id (plugged_words (be64_at 8 item) (be64_at 16 item))
+behind_early before (early.Plugged id others) item = plugged_due before id others
+behind_early before (early.Footer id) item = TypeByte before
+
 -- the item after one that is passed over
 abbrev pub behind_passed : PassedItem → List ℕ → Due
 behind_passed (Command before) item = TypeByte before
@@ -326,6 +379,7 @@ behind_passed (SubsectionBody Uuid) item = TypeByte before.Configuration
 behind_passed (SubsectionBody Capabilities) item = capabilities_due (be32_at 0 item)
 behind_passed (Capability others) item = capabilities_due others
 behind_passed (Address last) item = list_due last
+behind_passed (Early before part) item = behind_early before part item
 
 -- the form of the size list after an item that is passed over
 abbrev pub passed_form : EntryForm → PassedItem → List ℕ → EntryForm
@@ -334,15 +388,11 @@ passed_form form SubsectionHead item = form
 passed_form form (SubsectionBody kind) item = form
 passed_form form (Capability others) item = if bytes_eq (id_in item) ignore_shared then Addressed else form
 passed_form form (Address last) item = form
+passed_form form (Early before part) item = form
 
 -- the records so far are a complete round
 abbrev pub end_round : StreamProgress → StreamProgress
 end_round c = record c { room = c.waiting; records = []; rounds = c.rounds ++ c.records ∷ [] }
-
-abbrev pub is_start : Section → Bool
-is_start section.Start = true
-is_start section.Part = false
-is_start section.End = false
 
 abbrev pub has_none : List PageRecord → Bool
 has_none [] = true

@@ -1,7 +1,7 @@
 -- Machines' streams, as QEMU writes them, up to the footer of RAM's END
--- (`qemu_savevm_state_header`, `vmstate_configuration` and `qemu_savevm_command_send` in
--- `migration/savevm.c`). A background snapshot (`bg_migration_thread` in `migration/migration.c`)
--- has no END: RAM is over where the first device's section begins.
+-- (`qemu_savevm_state_header`, `vmstate_configuration`, `qemu_savevm_command_send` and
+-- `qemu_savevm_state_setup` in `migration/savevm.c`). A background snapshot (`bg_migration_thread`
+-- in `migration/migration.c`) has no END: RAM is over where the first device's section begins.
 use Rattle.std.specs.Prelude.{◌≡◌, ◌⊎◌, ℕ, ◌+◌, ◌%◌, ◌<◌, ◌≤◌, ◌^◌, Bool, true, false, if◌then◌else◌, List, [], ◌∷◌, ◌++◌, length, Option, None, Some, IfSome, ⊤}
 use Rattle.std.specs.List.{flat_map, list_any, AllByRecursion}
 use Rattle.std.specs.Str.{bytes_eq}
@@ -15,10 +15,10 @@ use Rattle.mig_stream.specs.declared.item.EntryForm.{EntryForm}
 use Rattle.mig_stream.specs.declared.item.EntryForm.TheVariants.{Plain, Addressed, Sized}
 use Rattle.mig_stream.specs.declared.item.RecordKind.TheVariants.{SizeList}
 use Rattle.mig_stream.specs.Fields.{be16, be32, be64, counted}
-use Rattle.mig_stream.specs.Format.{command_type, subsection_type, subsection_name, subsection_version, ignore_shared, mapped_ram, least_page_size, flags_of, most_name_bytes}
-use Rattle.mig_stream.specs.Items.{is_passed_command, allows_postcopy}
+use Rattle.mig_stream.specs.Format.{command_type, full_type, early_name, early_version, subsection_type, subsection_name, subsection_version, ignore_shared, mapped_ram, least_page_size, flags_of, most_name_bytes}
+use Rattle.mig_stream.specs.Items.{is_passed_command, allows_postcopy, plugged_words}
 use Rattle.mig_stream.specs.PageRecord.{PageRecord}
-use Rattle.mig_stream.specs.Text.{Record, Follow, all_records, body, section, AreRounds, entry, total_bytes, file_header, configuration, start_head}
+use Rattle.mig_stream.specs.Text.{Record, Follow, all_records, body, footer, section, AreRounds, entry, total_bytes, file_header, configuration, start_head}
 
 -- ---- COMMANDs
 
@@ -41,6 +41,63 @@ pub record IsCommand (c : Command) : Type 0 where
 -- it allows postcopy of RAM
 abbrev pub is_advise : Command → Bool
 is_advise c = allows_postcopy c.number (length c.carried)
+
+-- ---- a device's section before RAM's pages
+
+-- What virtio-mem writes whole before RAM's pages (`vmstate_virtio_mem_device_early` in
+-- `hw/virtio/virtio-mem.c`): the path of the device; the address and the size of its region, the
+-- size of its blocks, its NUMA node, and how many bytes are plugged; and a bit for each block, in
+-- words of 64 bits (`put_bitmap` in `migration/vmstate-types.c`): whether the block is plugged.
+pub record EarlyState : Type 0 where
+  pub id : ℕ
+  pub path : List ℕ
+  pub instance_id : ℕ
+  pub address : ℕ
+  pub region : ℕ
+  pub block_size : ℕ
+  pub node : ℕ
+  pub plugged : ℕ
+  pub words : List ℕ
+
+abbrev pub early_head : EarlyState → List ℕ
+early_head e = be32 e.id ++ counted (e.path ++ early_name) ++ be32 e.instance_id ++ be32 early_version
+
+abbrev pub early_numbers : EarlyState → List ℕ
+early_numbers e = be64 e.address ++ be64 e.region ++ be64 e.block_size ++ be32 e.node ++ be64 e.plugged
+
+abbrev pub early_bytes : EarlyState → List ℕ
+early_bytes e = early_head e ++ early_numbers e ++ flat_map be64 e.words ++ footer e.id
+
+abbrev pub early_state : EarlyState → List ℕ
+early_state e = full_type ∷ early_bytes e
+
+-- Its region has a word for each 64 blocks. Its other numbers may be any, and so may each word.
+pub record IsEarlyState (e : EarlyState) : Type 0 where
+  pub has_id : e.id < 2 ^ 32
+  pub has_name : length (e.path ++ early_name) < 2 ^ 8
+  pub has_region : e.region < 2 ^ 64
+  pub has_blocks : 0 < e.block_size
+  pub has_block_size : e.block_size < 2 ^ 64
+  pub has_words : length e.words ≡ plugged_words e.region e.block_size
+
+-- ---- what is passed over: COMMANDs, and that device's section
+
+pub data PassedSection : Type 0 where
+  CommandOf : Command → PassedSection
+  EarlyOf : EarlyState → PassedSection
+
+abbrev pub passed_section : PassedSection → List ℕ
+passed_section (CommandOf c) = command c
+passed_section (EarlyOf e) = early_state e
+
+-- The device's section stands there only if no PART has come yet.
+abbrev pub IsPassedSection : Bool → PassedSection → Type 0
+IsPassedSection before_parts (CommandOf c) = IsCommand c
+IsPassedSection before_parts (EarlyOf e) = (before_parts ≡ true) × IsEarlyState e
+
+abbrev pub has_advise : PassedSection → Bool
+has_advise (CommandOf c) = is_advise c
+has_advise (EarlyOf e) = false
 
 -- ---- the configuration
 
@@ -107,10 +164,10 @@ abbrev pub ignores_shared : Option Configuration → Bool
 ignores_shared None = false
 ignores_shared (Some c) = list_any names_shared c.subsections
 
--- The form of the size list, by the configuration and the COMMANDs before START.
-abbrev pub form_of : Option Configuration → List Command → EntryForm
-form_of machine commands =
-    if list_any is_advise commands then Sized else
+-- The form of the size list, by the configuration and what is passed over before START.
+abbrev pub form_of : Option Configuration → List PassedSection → EntryForm
+form_of machine opening =
+    if list_any has_advise opening then Sized else
     if ignores_shared machine then Addressed else Plain
 
 -- the page size of a block, in a number of 8 bytes whose first byte is 0
@@ -136,54 +193,56 @@ entries page_size (b ∷ blocks) (tail ∷ tails) = entry page_size b ++ (tail +
 unfoldable pub tailed_list : RamTable → List (List ℕ) → List ℕ
 tailed_list table tails = be64 (total_bytes table + flags_of SizeList) ++ entries table.page_size table.blocks tails
 
--- ---- between START and END: PARTs and COMMANDs
+-- ---- between START and END: PARTs, and what is passed over
 
-pub data PartOrCommand : Type 0 where
-  PartOf : List Record → PartOrCommand
-  CommandOf : Command → PartOrCommand
+pub data PartOrPassed : Type 0 where
+  PartOf : List Record → PartOrPassed
+  PassedOf : PassedSection → PartOrPassed
 
-abbrev pub part_or_command : RamTable → ℕ → PartOrCommand → List ℕ
-part_or_command table id (PartOf records) = section table Part id records
-part_or_command table id (CommandOf c) = command c
+abbrev pub part_or_passed : RamTable → ℕ → PartOrPassed → List ℕ
+part_or_passed table id (PartOf records) = section table Part id records
+part_or_passed table id (PassedOf x) = passed_section x
 
-abbrev pub IsPartOrCommand : PartOrCommand → Type 0
-IsPartOrCommand (PartOf records) = ⊤
-IsPartOrCommand (CommandOf c) = IsCommand c
+-- These may stand there, before the first PART or after it.
+abbrev pub AreBetween : Bool → List PartOrPassed → Type 0
+AreBetween before_parts [] = ⊤
+AreBetween before_parts (PartOf records ∷ others) = AreBetween false others
+AreBetween before_parts (PassedOf x ∷ others) = IsPassedSection before_parts x × AreBetween before_parts others
 
 -- the records of the PARTs alone
-abbrev pub parts_of : List PartOrCommand → List (List Record)
+abbrev pub parts_of : List PartOrPassed → List (List Record)
 parts_of [] = []
 parts_of (PartOf records ∷ others) = records ∷ parts_of others
-parts_of (CommandOf c ∷ others) = parts_of others
+parts_of (PassedOf x ∷ others) = parts_of others
 
 -- ---- the complete stream
 
 -- The bytes are a machine's stream up to the footer of RAM's END: file header, configuration with
--- subsections or none, COMMANDs, START with the size list, PARTs and COMMANDs, and END, each
--- section with any records. What stands before START says what follows the entries of the size
--- list.
+-- subsections or none, what is passed over, START with the size list, PARTs and what is passed
+-- over, and END, each section of RAM with any records. What stands before START says what follows
+-- the entries of the size list.
 pub record IsMachineText (mode : Mode) (limit : ℕ) (text : List ℕ) (table : RamTable) (rounds : List (List PageRecord)) : Type 0 where
   pub id : ℕ
   pub machine : Option Configuration
-  pub commands : List Command
+  pub opening : List PassedSection
   pub tails : List (List ℕ)
   pub first : List Record
-  pub others : List PartOrCommand
+  pub others : List PartOrPassed
   pub last : List Record
-  pub is_spelled : text ≡ file_header ++ configured machine ++ flat_map command commands
+  pub is_spelled : text ≡ file_header ++ configured machine ++ flat_map passed_section opening
       ++ start_head id ++ tailed_list table tails ++ body table id first
-      ++ flat_map (part_or_command table id) others
+      ++ flat_map (part_or_passed table id) others
       ++ section table End id last
   pub has_table : IsTable table
   pub has_limit : total_bytes table ≤ limit
   pub has_id : id < 2 ^ 32
   pub has_machine : IfSome machine (IsConfiguration table.page_size)
-  pub are_commands : AllByRecursion IsCommand commands
+  pub is_opening : AllByRecursion (IsPassedSection true) opening
   -- QEMU doesn't allow both at once
-  pub is_one_form : ignores_shared machine ≡ true → list_any is_advise commands ≡ false
+  pub is_one_form : ignores_shared machine ≡ true → list_any has_advise opening ≡ false
   pub has_tails : length tails ≡ length table.blocks
-  pub are_tails : AllByRecursion (IsTail (form_of machine commands)) tails
-  pub are_others : AllByRecursion IsPartOrCommand others
+  pub are_tails : AllByRecursion (IsTail (form_of machine opening)) tails
+  pub are_others : AreBetween true others
   pub follow : Follow table None (first ++ all_records (parts_of others) ++ last)
   pub has_rounds : AreRounds mode (first ∷ parts_of others ++ last ∷ []) rounds
 

@@ -7,6 +7,8 @@ use Rattle.mig_stream.specs.declared.item.Section.TheVariants as section
 use Rattle.mig_stream.specs.declared.item.RecordKind.{RecordKind}
 use Rattle.mig_stream.specs.declared.item.RecordKind.TheVariants as record_kinds
 use Rattle.mig_stream.specs.declared.item.Subsection.TheVariants as subsection
+use Rattle.mig_stream.specs.declared.item.EarlyPart.{EarlyPart}
+use Rattle.mig_stream.specs.declared.item.EarlyPart.TheVariants as early
 use Rattle.mig_stream.specs.declared.item.PassedItem.{PassedItem}
 use Rattle.mig_stream.specs.declared.item.PassedItem.TheVariants as passed
 use Rattle.mig_stream.specs.declared.item.Due.{Due}
@@ -18,7 +20,7 @@ use Rattle.mig_stream.specs.declared.report.ItemKind.TheVariants as kind
 use Rattle.mig_stream.specs.declared.record_reader.RecordEvent.{RecordEvent}
 use Rattle.mig_stream.specs.declared.record_reader.RecordEvent.TheVariants.{End}
 use Rattle.mig_stream.specs.Fields.{be64_at}
-use Rattle.mig_stream.specs.Format.{section_type, subsection_type, command_type, configuration_type}
+use Rattle.mig_stream.specs.Format.{section_type, full_type, subsection_type, command_type, configuration_type}
 use Rattle.mig_stream.specs.Progress.{StreamProgress, start}
 use Rattle.mig_stream.specs.Items.{record_kind, is_page_size, after}
 use Rattle.mig_stream.specs.Reading.{Settings, Front, Ends}
@@ -35,7 +37,8 @@ begun_by byte =
     if byte == section_type section.Part then kind.Part else
     if byte == section_type section.End then kind.End else
     if byte == subsection_type then kind.Subsection else
-    if byte == command_type then kind.Command else kind.EndByte
+    if byte == command_type then kind.Command else
+    if byte == full_type then kind.Device else kind.EndByte
 
 -- a record's head of this kind; None is that of a page record
 abbrev pub kind_of_head : Option RecordKind → Option ItemKind
@@ -49,6 +52,12 @@ kind_of_head (Some record_kinds.Flush) = Some kind.Flush
 abbrev pub kind_of_record : ℕ → List ℕ → Option ItemKind
 kind_of_record page_size item = kind_of_head (record_kind (be64_at 0 item % page_size))
 
+abbrev pub kind_of_early : EarlyPart → ItemKind
+kind_of_early early.Head = kind.DeviceHead
+kind_of_early (early.Numbers id) = kind.VirtioMem
+kind_of_early (early.Plugged id others) = kind.PluggedBlocks
+kind_of_early (early.Footer id) = kind.DeviceFooter
+
 abbrev pub kind_of_passed : PassedItem → ItemKind
 kind_of_passed (passed.Command before) = kind.CommandBody
 kind_of_passed passed.SubsectionHead = kind.SubsectionName
@@ -57,6 +66,7 @@ kind_of_passed (passed.SubsectionBody subsection.Uuid) = kind.Uuid
 kind_of_passed (passed.SubsectionBody subsection.Capabilities) = kind.CapabilityCount
 kind_of_passed (passed.Capability others) = kind.Capability
 kind_of_passed (passed.Address last) = kind.BlockAddress
+kind_of_passed (passed.Early before part) = kind_of_early part
 
 -- What an item is, in a stream of this page size. None is a part of a page record: its head, the id
 -- of its block, or its content.

@@ -7,8 +7,10 @@ use Rattle.mig_stream.specs.declared.stop.Stop.{Stop}
 use Rattle.mig_stream.specs.declared.stop.Stop.TheVariants as stop
 use Rattle.mig_stream.specs.Progress.{StreamProgress}
 use Rattle.mig_mem.specs.First.{first_of}
+use Rattle.mig_stream.specs.declared.item.Before.{Before}
+use Rattle.mig_stream.specs.declared.item.EarlyPart.{EarlyPart}
 use Rattle.mig_stream.specs.declared.item.PassedItem.TheVariants.{SubsectionHead}
-use Rattle.mig_stream.specs.Items.{faults, kind_faults, after_kind, after_item, subsection_faults, behind_passed}
+use Rattle.mig_stream.specs.Items.{faults, kind_faults, after_kind, after_item, subsection_faults, behind_passed, early_faults, behind_early}
 use Rattle.mig_stream.specs.Reading.{Front}
 use Rattle.mig_stream.specs.Report.{items_at}
 
@@ -30,6 +32,12 @@ abbrev pub TellsBody : List ℕ → Result Due Stop → Type 0
 TellsBody item (Ok due) = (first_of (subsection_faults item) ≡ None) × (due ≡ behind_passed SubsectionHead item)
 TellsBody item (Err (stop.Fault fault)) = first_of (subsection_faults item) ≡ Some fault
 TellsBody item (Err stop.Memory) = ⊥
+
+-- a part of virtio-mem's early state gives the item after it, or its fault
+abbrev pub TellsEarly : Before → EarlyPart → List ℕ → Result Due Stop → Type 0
+TellsEarly before part item (Ok due) = (first_of (early_faults part item) ≡ None) × (due ≡ behind_early before part item)
+TellsEarly before part item (Err (stop.Fault fault)) = first_of (early_faults part item) ≡ Some fault
+TellsEarly before part item (Err stop.Memory) = ⊥
 
 -- some of these bytes, complete items without a fault, were taken
 pub record HasTaken (old : StreamProgress) (bytes : List ℕ) (new : StreamProgress) : Type 0 where

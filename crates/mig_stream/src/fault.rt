@@ -16,7 +16,8 @@ pub enum StreamFault {
     Version,
     /// Unexpected section type.
     SectionType,
-    /// The section's name isn't `ram`.
+    /// The section's name isn't `ram`; or a device's section that stands before RAM's pages isn't
+    /// virtio-mem's early state, version 1.
     SectionName,
     /// The section's instance isn't 0.
     Instance,
@@ -34,7 +35,8 @@ pub enum StreamFault {
     Id,
     /// An earlier entry has the id.
     IdTwice,
-    /// The length of an entry is 0, or no multiple of the page size.
+    /// The length of an entry is 0, or no multiple of the page size; or the blocks of a virtio-mem
+    /// have 0 bytes.
     Length,
     /// The size list has a 257th entry.
     TooManyBlocks,

@@ -61,6 +61,14 @@ pub(crate) const MIG_CMD_ENABLE_COLO: u16 = 8;
 
 pub(crate) const MIG_CMD_SWITCHOVER_START: u16 = 11;
 
+// ---- a device's section before RAM's pages (`vmstate_virtio_mem_device_early` in
+// `hw/virtio/virtio-mem.c`)
+
+/// How its name ends, after the path of the device.
+pub(crate) const EARLY_NAME: &[u8] = b"/virtio-mem-device-early";
+
+pub(crate) const EARLY_VERSION: u32 = 1;
+
 // ---- RAM's section (`ram_mig_init` in `migration/ram.c`)
 
 pub(crate) const RAM_SECTION_NAME: &[u8] = b"ram";

@@ -30,11 +30,12 @@ pub enum Frame {
     /// None: the stream is RAM's sections between the file header and the end byte.
     Ram,
     /// Those of a machine's stream, as QEMU writes it (`migration/savevm.c`). COMMANDs and the
-    /// configuration's subsections are checked and passed over. The capability `x-ignore-shared`
-    /// and a COMMAND that allows postcopy of RAM add to the entries of the size list what is passed
-    /// over, too. A capability or a COMMAND with which RAM's sections aren't read is a fault. The
-    /// stream is closed by the footer of RAM's END, and the bytes after it, the devices' sections,
-    /// are left to the caller.
+    /// configuration's subsections are checked and passed over. Before RAM's first PART so is the
+    /// section of a virtio-mem with its early state. The capability `x-ignore-shared` and a COMMAND
+    /// that allows postcopy of RAM add to the entries of the size list what is passed over, too. A
+    /// capability or a COMMAND with which RAM's sections aren't read is a fault. The stream is
+    /// closed by the footer of RAM's END, and the bytes after it, the devices' sections, are left
+    /// to the caller.
     ///
     /// A background snapshot has no END. So a single stream with at least one PART is closed, too,
     /// where the type byte of a device's section stands in place of a PART's or END's
@@ -72,7 +73,7 @@ pub enum Before {
     FileHeader,
     /// The configuration, or a subsection of it.
     Configuration,
-    /// A COMMAND before START.
+    /// A COMMAND or a device's section before START.
     Command,
     /// The footer of START or of a PART.
     Footer,
@@ -129,6 +130,23 @@ pub enum EntryForm {
     Sized,
 }
 
+/// The parts of a device's section that QEMU writes whole before RAM's pages, after its type byte:
+/// what virtio-mem says of its memory (`vmstate_virtio_mem_device_early` in
+/// `hw/virtio/virtio-mem.c`).
+#[derive(Clone, Copy)]
+pub enum EarlyPart {
+    /// The section's id, name, instance and version.
+    Head,
+    /// The address and the size of its region, the size of its blocks, its node, and how many bytes
+    /// are plugged. The value is the section's id.
+    Numbers(u32),
+    /// 64 bits, one for each block: whether it is plugged. The values are the section's id, and how
+    /// many such words follow.
+    Plugged(u32, u64),
+    /// The footer. The value is the section's id.
+    Footer(u32),
+}
+
 /// An item of a machine's stream that is checked and passed over, since it has nothing on pages.
 #[derive(Clone, Copy)]
 pub enum PassedItem {
@@ -142,6 +160,8 @@ pub enum PassedItem {
     Capability(u32),
     /// The guest address of a block, after its entry, and whether that is the last entry.
     Address(bool),
+    /// A part of virtio-mem's early state, and what the next type byte follows.
+    Early(Before, EarlyPart),
 }
 
 /// The next item of a stream.

@@ -3,32 +3,33 @@
 //! Each function takes one complete item of one kind: it tests it, in the order of the item's
 //! faults, and notes its values.
 
-ghost use Rattle.std.specs.Prelude.{◌≡◌, ◌+◌, ◌/◌, ◌%◌, ◌^◌, ◌≤◌, ◌==◌, true, false, length, slice_index, OnOk, OnErr, Some};
+ghost use Rattle.std.specs.Prelude.{◌≡◌, ◌≢◌, ◌+◌, ◌/◌, ◌%◌, ◌^◌, ◌≤◌, ◌==◌, true, false, length, slice_index, OnOk, OnErr, Some};
 ghost use Rattle.mig_mem.specs.PageSize.{IsPageSize};
 ghost use Rattle.mig_mem.specs.First.{first_of};
 ghost use Rattle.mig_stream.specs.declared.item.Due.TheVariants as due;
 ghost use Rattle.mig_stream.specs.declared.item.RecordKind.TheVariants as kind;
 ghost use Rattle.mig_stream.specs.declared.item.Filling.TheVariants as filling;
-ghost use Rattle.mig_stream.specs.Items.{size, is_page_size, entry_faults, is_allowed, is_passed, closes, passed_size, passed_by, is_passed_command, advises, after_command, subsection_of, capabilities_due, list_due, entry_due, passed_form, after_footer, record_kind, end_round, is_start, flush_mode, flush_ends, flush_records, eos_mode, is_full, less_room, open_room};
+ghost use Rattle.mig_stream.specs.Items.{size, is_page_size, entry_faults, is_allowed, is_passed, closes, early_size, is_early, plugged_words, plugged_due, passed_size, passed_by, is_passed_command, advises, after_command, subsection_of, capabilities_due, list_due, entry_due, passed_form, after_footer, record_kind, end_round, is_start, flush_mode, flush_ends, flush_records, eos_mode, is_full, less_room, open_room};
 ghost use Rattle.std.specs.Str.{bytes_eq};
 ghost use Rattle.mig_stream.specs.Format.{ignore_shared, mapped_ram};
-ghost use Rattle.mig_stream.specs.Taking.{TakesAs, TakesHead, TellsBody};
+ghost use Rattle.mig_stream.specs.Taking.{TakesAs, TakesHead, TellsBody, TellsEarly};
 ghost use Rattle.mig_stream.specs.Kept.{bytes_of, IsShort};
 
 use crate::StreamFault;
 use crate::fields::{be16, be32, be64};
 use crate::format::{
-    CAPABILITIES_NAME, CONTINUED_PAGE, CONTINUED_ZERO, IGNORE_SHARED, MAPPED_RAM, MAX_NAME_LEN,
-    MIG_CMD_ENABLE_COLO, MIG_CMD_OPEN_RETURN_PATH, MIG_CMD_PING, MIG_CMD_POSTCOPY_ADVISE,
-    MIG_CMD_SWITCHOVER_START, PAGE_BITS_NAME, POSTCOPY_ADVISE_LEN, QEMU_VM_COMMAND,
-    QEMU_VM_CONFIGURATION, QEMU_VM_EOF, QEMU_VM_FILE_MAGIC, QEMU_VM_FILE_VERSION,
-    QEMU_VM_SECTION_END, QEMU_VM_SECTION_FOOTER, QEMU_VM_SECTION_PART, QEMU_VM_SECTION_START,
-    QEMU_VM_SUBSECTION, RAM_INSTANCE, RAM_SAVE_FLAG_EOS, RAM_SAVE_FLAG_MEM_SIZE,
-    RAM_SAVE_FLAG_MULTIFD_FLUSH, RAM_SAVE_FLAG_PAGE, RAM_SAVE_FLAG_ZERO, RAM_SECTION_NAME,
-    RAM_VERSION, SUBSECTION_VERSION, UUID_NAME,
+    CAPABILITIES_NAME, CONTINUED_PAGE, CONTINUED_ZERO, EARLY_NAME, EARLY_VERSION, IGNORE_SHARED,
+    MAPPED_RAM, MAX_NAME_LEN, MIG_CMD_ENABLE_COLO, MIG_CMD_OPEN_RETURN_PATH, MIG_CMD_PING,
+    MIG_CMD_POSTCOPY_ADVISE, MIG_CMD_SWITCHOVER_START, PAGE_BITS_NAME, POSTCOPY_ADVISE_LEN,
+    QEMU_VM_COMMAND, QEMU_VM_CONFIGURATION, QEMU_VM_EOF, QEMU_VM_FILE_MAGIC, QEMU_VM_FILE_VERSION,
+    QEMU_VM_SECTION_END, QEMU_VM_SECTION_FOOTER, QEMU_VM_SECTION_FULL, QEMU_VM_SECTION_PART,
+    QEMU_VM_SECTION_START, QEMU_VM_SUBSECTION, RAM_INSTANCE, RAM_SAVE_FLAG_EOS,
+    RAM_SAVE_FLAG_MEM_SIZE, RAM_SAVE_FLAG_MULTIFD_FLUSH, RAM_SAVE_FLAG_PAGE, RAM_SAVE_FLAG_ZERO,
+    RAM_SECTION_NAME, RAM_VERSION, SUBSECTION_VERSION, UUID_NAME,
 };
 use crate::item::{
-    Before, Due, EntryForm, Filling, Frame, Mode, PassedItem, RecordKind, Section, Subsection,
+    Before, Due, EarlyPart, EntryForm, Filling, Frame, Mode, PassedItem, RecordKind, Section,
+    Subsection,
 };
 use crate::piece::Piece;
 use crate::progress::Progress;
@@ -58,7 +59,7 @@ impl<'a, A: Allocator> Progress<'a, A> {
         ensures { TakesAs self.old (due.TypeByte before) item.now self.new result }
     {
         let byte = item[0];
-        let passed = is_passed(self.frame, before, byte);
+        let passed = is_passed(self.frame, self.section, before, byte);
         if !passed && !is_allowed(before, byte) {
             return Err(Stop::Fault(StreamFault::SectionType));
         }
@@ -447,6 +448,7 @@ impl<'a, A: Allocator> Progress<'a, A> {
                 capabilities_due(others)
             }
             PassedItem::Address(last) => list_due(last),
+            PassedItem::Early(before, part) => behind_early(before, part, item)?,
         };
         self.form = form;
         Ok(())
@@ -503,6 +505,69 @@ fn subsection_head(item: &[u8]) -> Result<Due, Stop>
         return Err(Stop::Fault(StreamFault::Subsection));
     }
     Ok(Due::Passed(PassedItem::SubsectionBody(subsection)))
+}
+
+// Returns the item after a part of virtio-mem's early state.
+fn behind_early(before: Before, part: EarlyPart, item: &[u8]) -> Result<Due, Stop>
+    requires { length item.now ≡ early_size part item.now }
+    ensures { TellsEarly before part item.now result }
+{
+    match part {
+        EarlyPart::Head => {
+            if !is_early(item) {
+                return Err(Stop::Fault(StreamFault::SectionName));
+            }
+            let numbers = EarlyPart::Numbers(be32(item, 0));
+            Ok(Due::Passed(PassedItem::Early(before, numbers)))
+        }
+        EarlyPart::Numbers(id) => {
+            let block_size = be64(item, 16);
+            if block_size == 0 {
+                return Err(Stop::Fault(StreamFault::Length));
+            }
+            let words = plugged_words(be64(item, 8), block_size);
+            Ok(plugged_due(before, id, words))
+        }
+        EarlyPart::Plugged(id, others) => Ok(plugged_due(before, id, others)),
+        EarlyPart::Footer(id) => {
+            if item[0] != QEMU_VM_SECTION_FOOTER || be32(item, 1) != id {
+                return Err(Stop::Fault(StreamFault::Footer));
+            }
+            Ok(Due::TypeByte(before))
+        }
+    }
+}
+
+// Returns whether this head of a device's section is that of virtio-mem's early state.
+#[tactic(auto, unfolding(crate::specs::Format::early_name))]
+fn is_early(item: &[u8]) -> bool
+    requires { length item.now ≡ 13 + slice_index item.now 4 }
+    ensures { result ≡ is_early item.now }
+{
+    let len = item[4] as usize;
+    let name = &item[5..5 + len];
+    name.ends_with(EARLY_NAME) && be32(item, 9 + len) == EARLY_VERSION
+}
+
+// Returns how many words have a bit for each block of a region.
+fn plugged_words(region: u64, block_size: u64) -> u64
+    requires { block_size ≢ 0 }
+    ensures { result ≡ plugged_words region block_size }
+{
+    (region / block_size).div_ceil(64)
+}
+
+// Returns the item after the numbers of virtio-mem's early state, or after one of its words, if
+// `others` more follow.
+fn plugged_due(before: Before, id: u32, others: u64) -> Due
+    ensures { result ≡ plugged_due before id others }
+{
+    let part = if others == 0 {
+        EarlyPart::Footer(id)
+    } else {
+        EarlyPart::Plugged(id, others - 1)
+    };
+    Due::Passed(PassedItem::Early(before, part))
 }
 
 // Returns the subsection with this name.
@@ -574,14 +639,14 @@ fn capabilities_due(others: u32) -> Due
 fn passed_by(before: Before, byte: u8) -> PassedItem
     ensures { result ≡ passed_by before byte }
 {
-    if byte == QEMU_VM_COMMAND {
-        PassedItem::Command(after_command(before))
-    } else {
-        PassedItem::SubsectionHead
+    match byte {
+        QEMU_VM_COMMAND => PassedItem::Command(after_command(before)),
+        QEMU_VM_SECTION_FULL => PassedItem::Early(after_command(before), EarlyPart::Head),
+        _ => PassedItem::SubsectionHead,
     }
 }
 
-// Returns what the type byte after a COMMAND follows.
+// Returns what the type byte after a COMMAND, or after a device's section, follows.
 fn after_command(before: Before) -> Before
     ensures { result ≡ after_command before }
 {
@@ -592,14 +657,18 @@ fn after_command(before: Before) -> Before
     }
 }
 
-// Returns whether a section with this type byte is passed over after `before`.
-fn is_passed(frame: Frame, before: Before, byte: u8) -> bool
-    ensures { result ≡ is_passed frame before byte }
+// Returns whether what begins with this type byte is passed over after `before`. `section` is the
+// last one of RAM so far.
+fn is_passed(frame: Frame, section: Section, before: Before, byte: u8) -> bool
+    ensures { result ≡ is_passed frame section before byte }
 {
+    let is_command = byte == QEMU_VM_COMMAND;
+    let is_full = byte == QEMU_VM_SECTION_FULL;
     let may_pass = match before {
-        Before::Configuration => byte == QEMU_VM_COMMAND || byte == QEMU_VM_SUBSECTION,
+        Before::FileHeader | Before::Command => is_command || is_full,
+        Before::Configuration => is_command || is_full || byte == QEMU_VM_SUBSECTION,
+        Before::Footer => is_command || (is_full && is_start(section)),
         Before::LastFooter => false,
-        _ => byte == QEMU_VM_COMMAND,
     };
     may_pass && frame == Frame::Machine
 }

@@ -5,7 +5,7 @@ ghost use Rattle.std.specs.Option.{option_copied};
 ghost use Rattle.mig_mem.specs.PageSize.{IsPageSize};
 ghost use Rattle.mig_stream.specs.declared.item.Due.TheVariants as due;
 ghost use Rattle.mig_stream.specs.Progress.{StreamProgress, start, whole_table};
-ghost use Rattle.mig_stream.specs.Items.{size, passed_size, less_room, is_over};
+ghost use Rattle.mig_stream.specs.Items.{size, early_size, passed_size, less_room, is_over};
 ghost use Rattle.mig_stream.specs.Reading.{IsItem, Ends, Reads, stopped};
 ghost use Rattle.mig_stream.specs.Taking.{TakesAs, HasTaken, HasTakenTo};
 ghost use Rattle.mig_stream.specs.Entries.{AreListed};
@@ -17,7 +17,8 @@ use crate::StreamFault;
 use crate::entries::Entries;
 use crate::format::QEMU_VM_SECTION_FULL;
 use crate::item::{
-    Before, Due, EntryForm, Filling, Frame, Mode, PassedItem, Section, StreamState, Subsection,
+    Before, Due, EarlyPart, EntryForm, Filling, Frame, Mode, PassedItem, Section, StreamState,
+    Subsection,
 };
 use crate::items::less_room;
 use crate::piece::Piece;
@@ -301,6 +302,24 @@ fn passed_size(passed: PassedItem, bytes: &[u8]) -> usize
         PassedItem::SubsectionBody(_) => 4,
         PassedItem::Capability(_) => 1 + byte(0),
         PassedItem::Address(_) => 8,
+        PassedItem::Early(_, part) => early_size(part, bytes),
+    }
+}
+
+// Returns how many bytes a part of virtio-mem's early state has, by its first bytes.
+fn early_size(part: EarlyPart, bytes: &[u8]) -> usize
+    ensures { result ≡ early_size part bytes.now }
+{
+    match part {
+        EarlyPart::Head => {
+            13 + match bytes.get(4) {
+                Some(byte) => *byte as usize,
+                None => 0,
+            }
+        }
+        EarlyPart::Numbers(_) => 36,
+        EarlyPart::Plugged(_, _) => 8,
+        EarlyPart::Footer(_) => 5,
     }
 }
 

@@ -24,6 +24,8 @@ pub enum ItemKind {
     Subsection,
     /// The type byte of a COMMAND.
     Command,
+    /// The type byte of a device's section that QEMU writes whole before RAM's pages.
+    Device,
     /// The type byte of START.
     Start,
     /// The type byte of a PART.
@@ -48,6 +50,16 @@ pub enum ItemKind {
     Capability,
     /// The number of a COMMAND and the length of its data, in 2 bytes each, and the data.
     CommandBody,
+    /// The head of a device's section after its type byte: as START's.
+    DeviceHead,
+    /// The numbers of virtio-mem's early state: the address and the size of its region, the size of
+    /// its blocks, its node in 4 bytes, and how many bytes are plugged.
+    VirtioMem,
+    /// A word of virtio-mem's early state in 8 bytes: its lowest bit says whether the first of 64
+    /// blocks is plugged.
+    PluggedBlocks,
+    /// The footer of a device's section.
+    DeviceFooter,
     /// START's head after its type byte: its id in 4 bytes, its name after its length in a byte,
     /// instance and version.
     StartHead,

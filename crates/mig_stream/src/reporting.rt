@@ -17,10 +17,10 @@ ghost use Rattle.mig_stream.specs.Report.{begun_by, kind_of_head, kind_of_record
 
 use crate::fields::be64;
 use crate::format::{
-    QEMU_VM_COMMAND, QEMU_VM_CONFIGURATION, QEMU_VM_SECTION_END, QEMU_VM_SECTION_PART,
-    QEMU_VM_SECTION_START, QEMU_VM_SUBSECTION,
+    QEMU_VM_COMMAND, QEMU_VM_CONFIGURATION, QEMU_VM_SECTION_END, QEMU_VM_SECTION_FULL,
+    QEMU_VM_SECTION_PART, QEMU_VM_SECTION_START, QEMU_VM_SUBSECTION,
 };
-use crate::item::{Due, PassedItem, RecordKind, StreamState, Subsection};
+use crate::item::{Due, EarlyPart, PassedItem, RecordKind, StreamState, Subsection};
 use crate::items::{is_page_size, record_kind, split_head};
 use crate::piece::Piece;
 use crate::progress::Progress;
@@ -41,6 +41,7 @@ fn begun_by(byte: u8) -> ItemKind
         QEMU_VM_SECTION_END => ItemKind::End,
         QEMU_VM_SUBSECTION => ItemKind::Subsection,
         QEMU_VM_COMMAND => ItemKind::Command,
+        QEMU_VM_SECTION_FULL => ItemKind::Device,
         _ => ItemKind::EndByte,
     }
 }
@@ -69,6 +70,10 @@ fn kind_of_passed(passed: PassedItem) -> ItemKind
         PassedItem::SubsectionBody(Subsection::Capabilities) => ItemKind::CapabilityCount,
         PassedItem::Capability(_) => ItemKind::Capability,
         PassedItem::Address(_) => ItemKind::BlockAddress,
+        PassedItem::Early(_, EarlyPart::Head) => ItemKind::DeviceHead,
+        PassedItem::Early(_, EarlyPart::Numbers(_)) => ItemKind::VirtioMem,
+        PassedItem::Early(_, EarlyPart::Plugged(_, _)) => ItemKind::PluggedBlocks,
+        PassedItem::Early(_, EarlyPart::Footer(_)) => ItemKind::DeviceFooter,
     }
 }
 
