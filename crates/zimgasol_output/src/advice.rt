@@ -27,8 +27,9 @@ const FLAG_XBZRLE: u16 = 0x40;
 
 const FLAG_COMPRESS_PAGE: u16 = 0x100;
 
-/// The end of a section's name: the state of virtio-mem that comes before RAM's pages.
-const VIRTIO_MEM_EARLY: &[u8] = b"virtio-mem-device-early";
+/// The end of a section's name: the state of virtio-mem that comes before RAM's pages. It is read
+/// there in version 1.
+const VIRTIO_MEM_EARLY: &[u8] = b"/virtio-mem-device-early";
 
 /// The names of sections that a setting of the migration adds.
 const DIRTY_BITMAP: &[u8] = b"dirty-bitmap";
@@ -147,7 +148,7 @@ fn name_advice(alloc: Global, met: &Met<'_>, at: usize) -> Result<Option<String>
 // Returns what the section `name` is.
 fn device_advice(name: &[u8]) -> &'static str {
     if name.ends_with(VIRTIO_MEM_EARLY) {
-        return "virtio-mem's state before RAM's pages, which isn't read";
+        return "virtio-mem's state, which is read in version 1 and before RAM's first PART alone";
     }
     if name == DIRTY_BITMAP {
         return "bitmaps of disks, which aren't read: save without `dirty-bitmaps`";

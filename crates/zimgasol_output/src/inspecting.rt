@@ -59,6 +59,14 @@ pub(crate) fn put_note<W: Write>(
                 output_failed,
             )
         }
+        Noted::Device(name) => {
+            let name = shown(alloc, name)?;
+            writeln!(
+                output,
+                "device's section \"{name}\" after section {sections}"
+            )
+            .map_err(output_failed)
+        }
     }
 }
 
@@ -312,6 +320,10 @@ pub(crate) fn note_value(alloc: Global, note: &Note) -> Result<Value, AllocError
             json!(in alloc; {
                 "command": *number, "name": name, "bytes": *len, "at": at, "after_sections": sections
             })
+        }
+        Noted::Device(name) => {
+            let name = shown(alloc, name)?;
+            json!(in alloc; {"device": &name, "at": at, "after_sections": sections})
         }
     }
 }

@@ -24,7 +24,7 @@ fn flags_advice(flags: u32) -> &'static str {
         0x08 => "qpl compressed the pages; migrate with multifd-compression none",
         0x10 => "uadk compressed the pages; migrate with multifd-compression none",
         0x20 => "qatzip compressed the pages; migrate with multifd-compression none",
-        0x40 => "the packet has the state of a VFIO device, which isn't read",
+        0x40 => "a packet with the state of a VFIO device has no other flag",
         _ => "the pages may be compressed; migrate with multifd-compression none",
     }
 }

@@ -9,6 +9,7 @@ use std::alloc::{AllocError, Global};
 use std::fs::OpenFile;
 use std::io::{Read, Write};
 use zimgasol_files::Trouble;
+use zimgasol_page_packets::PassedOver;
 use zimgasol_reading::{Blocks, Channel, ChannelCounts, Several, Spot, Within};
 
 // Puts the file of a channel, and its id.
@@ -37,6 +38,29 @@ fn put_counts(alloc: Global, object: &mut Object, counts: ChannelCounts) -> Resu
     put(object, alloc, "end", Value::from(counts.valid))
 }
 
+// Puts how many packets of devices were passed over, if there are some.
+fn put_passed_over(
+    alloc: Global,
+    object: &mut Object,
+    passed_over: PassedOver,
+) -> Result<(), AllocError> {
+    if passed_over.packets == 0 {
+        return Ok(());
+    }
+    put(
+        object,
+        alloc,
+        "device_packets",
+        Value::from(passed_over.packets),
+    )?;
+    put(
+        object,
+        alloc,
+        "device_bytes",
+        Value::from(passed_over.bytes),
+    )
+}
+
 // Returns the JSON of a channel.
 fn channel_value<F: Read + OpenFile + Drop>(
     alloc: Global,
@@ -45,6 +69,7 @@ fn channel_value<F: Read + OpenFile + Drop>(
     let mut object = Map::new(alloc);
     put_inlet(alloc, &mut object, channel)?;
     put_counts(alloc, &mut object, channel.lane.counts)?;
+    put_passed_over(alloc, &mut object, channel.inlet.passed_over())?;
     Ok(Value::Object(object))
 }
 

@@ -12,6 +12,7 @@ use std::alloc::Global;
 use std::fs::OpenFile;
 use std::io::{self, Read, Write};
 use zimgasol_files::{Talk, Trouble};
+use zimgasol_page_packets::PassedOver;
 use zimgasol_reading::{Blocks, Channel, ChannelCounts, Note, Several};
 
 fn output_failed(error: io::Error) -> Trouble {
@@ -42,6 +43,22 @@ fn put_totals<F: Read + OpenFile + Drop, W: Write>(
     write!(
         output,
         "{name}: {word}: rounds {rounds}, channels {channels}, packets {packets}, "
+    )?;
+    let passed_over = several.passed_over();
+    if passed_over.packets == 0 {
+        return Ok(());
+    }
+    put_passed_over(output, passed_over)?;
+    write!(output, ", ")
+}
+
+// Writes how many packets of devices were passed over.
+fn put_passed_over<W: Write>(output: &mut W, passed_over: PassedOver) -> io::Result<()> {
+    let packets = passed_over.packets;
+    let bytes = passed_over.bytes;
+    write!(
+        output,
+        "device packets {packets} of {bytes} bytes passed over"
     )
 }
 
@@ -257,19 +274,25 @@ fn put_channel<F: Read + OpenFile + Drop, W: Write>(
         write!(output, ", {len} bytes")?;
     }
     match channel.lane.hello() {
-        Some(id) => put_counts(output, id, channel.lane.counts),
-        None => writeln!(output),
+        Some(id) => put_counts(output, id, channel.lane.counts)?,
+        None => return writeln!(output),
     }
+    let passed_over = channel.inlet.passed_over();
+    if passed_over.packets != 0 {
+        write!(output, ", ")?;
+        put_passed_over(output, passed_over)?;
+    }
+    writeln!(output)
 }
 
-// Writes the rest of the line on a channel: its id and its counts.
+// Writes a channel's id and its counts.
 fn put_counts<W: Write>(output: &mut W, id: u8, counts: ChannelCounts) -> io::Result<()> {
     let packets = counts.packets;
     write!(output, ", id {id}, packets {packets}")?;
     put_numbers(output, counts.first, counts.last)?;
     let pages = counts.pages;
     let zeros = counts.zeros;
-    writeln!(output, ", {pages} pages, {zeros} zero pages")
+    write!(output, ", {pages} pages, {zeros} zero pages")
 }
 
 // Writes the least and the greatest number of a channel's packets, if it has any.

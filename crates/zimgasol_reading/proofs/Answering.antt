@@ -25,11 +25,12 @@ use Rattle.mig_in_place.proofs.Done.{own_or_other, alike_law}
 use Rattle.mig_in_place.proofs.Exact.{exact_law}
 use Rattle.zimgasol_files.specs.Waiting.{waits}
 use Rattle.zimgasol_reading.specs.declared.channel.Channel.{Channel}
-use Rattle.zimgasol_reading.specs.declared.channel.Inlet.{Inlet}
+use Rattle.zimgasol_reading.specs.declared.inlet.Inlet.{Inlet}
 use Rattle.zimgasol_reading.specs.declared.main_stream.MainStream.{MainStream}
 use Rattle.zimgasol_reading.specs.declared.several.Several.{Several}
 use Rattle.zimgasol_reading.specs.Consumed.{Bytes}
-use Rattle.zimgasol_reading.specs.Left.{inlet_left, inlets_of, channels_left, main_held, sources_left, sources_held, IsOver, IsBegun}
+use Rattle.zimgasol_reading.specs.Inlets.{inlet_left}
+use Rattle.zimgasol_reading.specs.Left.{inlets_of, channels_left, main_held, sources_left, sources_held, IsOver, IsBegun}
 use Rattle.zimgasol_reading.specs.Recorded.{StillHolds}
 use Rattle.zimgasol_reading.specs.Passed.{HasPassed}
 use Rattle.zimgasol_reading.specs.Loaded.{LoadInto, TakesOn, settings_for}

@@ -1,5 +1,5 @@
 -- What was consumed of the sources of a load, and what the load has taken of it.
-use Rattle.std.proofs.Common.{ℕ, ◌≡◌, List, [], ◌∷◌, ◌++◌, length, get_or, take, drop, Option, None, Some, refl, sym, ap, ◌∙◌, subst, append_assoc}
+use Rattle.std.proofs.Common.{ℕ, ◌≡◌, ◌≤◌, List, [], ◌∷◌, ◌++◌, length, get_or, take, drop, Option, None, Some, refl, sym, ap, ◌∙◌, subst, append_assoc}
 use Rattle.std.proofs.Common.{inl, inr, arith}
 use Rattle.std.specs.Prelude.{map, replicate, slice_set}
 use Rattle.std.specs.Io.KnownBytes.{Keeps, Consumes, IsAtEnd, prepend_known}
@@ -20,9 +20,10 @@ use Rattle.mig_sources.specs.Sources.{at_source, feed_step, end_step}
 use Rattle.mig_in_place.specs.Answer.{IsInPlaceAnswer}
 use Rattle.mig_in_place.specs.Session.{InPlaceLoad, StandsFor, text_of}
 use Rattle.zimgasol_reading.specs.declared.channel.Channel.{Channel}
-use Rattle.zimgasol_reading.specs.declared.channel.Inlet.{Inlet}
+use Rattle.zimgasol_reading.specs.declared.inlet.Inlet.{Inlet}
 use Rattle.zimgasol_reading.specs.Consumed.{Bytes, IsConsumed, AreConsumed, bytes_of, with_bytes}
-use Rattle.zimgasol_reading.specs.Left.{inlet_left, inlets_of, channels_left}
+use Rattle.zimgasol_reading.specs.Inlets.{inlet_left}
+use Rattle.zimgasol_reading.specs.Left.{inlets_of, channels_left}
 use Rattle.zimgasol_reading.specs.Passed.{HasPassed}
 use Rattle.zimgasol_reading.specs.Loaded.{LoadInto, HasLoaded, HasConsumed, Takes, TakesOn, TakesOf, HasLoadedTo}
 
@@ -172,6 +173,14 @@ takes_fed : (from : Source) (u m v : Option (List ℕ)) (bytes : List ℕ) (old 
     → Consumes m v bytes → TakesOf from u v old new
 takes_fed from u m v bytes old new takes kept used = takes_step from (with_piece bytes) u v old new takes
     (λ known text is. consumed_more known m v bytes text used (consumed_kept known u m text kept is))
+
+-- a part of the bytes that wait
+pub takes_part : (from : Source) (u m v : Option (List ℕ)) (waiting piece : List ℕ) (n : ℕ) (old new : LoadInto)
+    → Takes (feed_step from (take n piece)) old new → piece ≡ waiting → n ≤ length piece → Keeps u m
+    → (n ≤ length waiting → Consumes m v (take n waiting)) → TakesOf from u v old new
+takes_part from u m v waiting piece n old new takes same le kept used =
+    takes_fed from u m v (take n piece) old new takes kept
+    (subst (λ (l : List ℕ). Consumes m v (take n l)) (sym same) (used (subst (λ (l : List ℕ). n ≤ length l) same le)))
 
 -- a piece of those that wait
 pub takes_piece : (from : Source) (u w : Option (List ℕ)) (waiting piece rest : List ℕ) (n : ℕ) (old new : LoadInto)

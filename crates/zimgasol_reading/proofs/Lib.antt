@@ -6,6 +6,7 @@ mod Endings
 mod Filling
 pub mod Headers
 mod Images
+mod Inlets
 mod Loading
 mod PassedPages
 mod SeenAfter

@@ -1,17 +1,13 @@
 -- What is left of the files that a main stream and its channels are read from.
 use Rattle.std.specs.Prelude.{ℕ, ◌≡◌, true, List, map, Option}
 use Rattle.std.specs.Io.KnownBytes.{Keeps, IsAtEnd, prepend_known}
-use Rattle.zimgasol_files.specs.Waiting.{to_come, left_of}
-use Rattle.zimgasol_reading.specs.declared.channel.Inlet.{Inlet}
+use Rattle.zimgasol_files.specs.Waiting.{to_come}
+use Rattle.zimgasol_reading.specs.declared.inlet.Inlet.{Inlet}
 use Rattle.zimgasol_reading.specs.declared.channel.Channel.{Channel}
 use Rattle.zimgasol_reading.specs.declared.main_stream.MainStream.{MainStream}
 use Rattle.zimgasol_reading.specs.declared.several.Several.{Several}
 use Rattle.zimgasol_reading.specs.Consumed.{Bytes}
-
--- The bytes of a channel's file that the load hasn't taken yet: those that were read and wait, and
--- those that are left of the file. `remaining` gives these.
-abbrev pub inlet_left : {F : Type 0} → (F → Option (List ℕ)) → Inlet F → Option (List ℕ)
-inlet_left remaining inlet = to_come (left_of remaining inlet.file) inlet.pieces
+use Rattle.zimgasol_reading.specs.Inlets.{inlet_left}
 
 abbrev pub inlets_of : {F : Type 0} → List (Channel F) → List (Inlet F)
 inlets_of channels = map (λ c. c.inlet) channels
@@ -19,7 +15,7 @@ inlets_of channels = map (λ c. c.inlet) channels
 abbrev pub channels_left : {F : Type 0} → (F → Option (List ℕ)) → List (Channel F) → List (Option (List ℕ))
 channels_left remaining channels = map (inlet_left remaining) (inlets_of channels)
 
--- the same of the main stream, of whose input these bytes are left
+-- those of the main stream, of whose input these bytes are left
 abbrev pub main_left : Option (List ℕ) → MainStream → Option (List ℕ)
 main_left left main = to_come left main.pieces
 

@@ -2,6 +2,7 @@ pub mod Answered
 pub mod Consumed
 pub mod Coverage
 pub mod Ending
+pub mod Inlets
 pub mod Left
 pub mod Libvirt
 pub mod Loaded

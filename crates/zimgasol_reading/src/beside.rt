@@ -1,5 +1,6 @@
 //! What a survey notes of a stream beside its blocks and its pages.
 
+use crate::front::FrontPlaces;
 use crate::heads::Head;
 use crate::notes::Notes;
 use mig_mem::Place;
@@ -20,8 +21,8 @@ pub(crate) trait Beside<H> {
     /// Takes the items that were passed over out of `report`.
     fn note(&mut self, report: &mut Report) -> Result<(), Trouble>;
 
-    /// Returns the byte of the stream at which its size list ends, once that was passed over.
-    fn list_end(&self) -> Option<u64>;
+    /// Returns where the bytes before RAM's records stand, once the first section with pages began.
+    fn front(&self) -> Option<FrontPlaces>;
 
     /// Sees a piece of the stream, which begins at its byte `start`. The stream is valid up to the
     /// byte `valid`.
@@ -57,8 +58,8 @@ impl<'a, H: Files + Clock, E: Write> Beside<H> for Parts<'a, H, E> {
         Ok(())
     }
 
-    fn list_end(&self) -> Option<u64> {
-        self.notes.list_end()
+    fn front(&self) -> Option<FrontPlaces> {
+        self.notes.front()
     }
 
     fn look(&mut self, piece: &[u8], start: u64, valid: u64) -> Result<(), Trouble> {

@@ -1,111 +1,21 @@
-//! Reads the channels of a migration, each from a file.
+//! Reads the channels of a migration, each from a file. The packets of devices are passed over:
+//! the load takes the other bytes.
 
 ghost use Rattle.std.specs.Prelude.{◌≡◌, ◌≤◌, IfOk, OnOk};
-ghost use Rattle.std.specs.Io.KnownBytes.{Keeps};
-ghost use Rattle.zimgasol_files.specs.Waiting.{left_of};
-ghost use Rattle.zimgasol_reading.specs.Left.{inlet_left, inlets_of};
+ghost use Rattle.zimgasol_reading.specs.Inlets.{inlet_left};
+ghost use Rattle.zimgasol_reading.specs.Left.{inlets_of};
 ghost use Rattle.zimgasol_reading.specs.Loaded.{TakesOf};
 
 use crate::blocks::Blocks;
+use crate::inlet::Inlet;
 use crate::lane::Lane;
 use crate::load::{Load, Reporting};
 use mig_sources::Source;
-use std::alloc::{AllocGlobal, Global};
-use std::fs::{Files, OpenFile};
+use std::alloc::Global;
+use std::fs::OpenFile;
 use std::io::Read;
 use uuid::Uuid;
-use zimgasol_files::{Opened, PageSize, Pieces, Trouble, open, shown_name};
-
-/// A file that a channel is read from.
-#[derive(Drop)]
-pub struct Inlet<F: Drop> {
-    /// Its name, as it is printed.
-    pub name: String,
-    file: Opened<F>,
-    // the length of the file in bytes; 0 of a pipe
-    len: u64,
-    pieces: Pieces,
-    // whether the file's end was reached
-    is_over: bool,
-}
-
-impl<F: Read + OpenFile + Drop> Inlet<F> {
-    /// Takes `file`, whose name is `path`, for a channel, and reads its first piece.
-    ///
-    /// # Errors
-    ///
-    /// `Trouble::OfFile` if it can't be read, `Trouble::NoMemory`.
-    pub fn new(alloc: Global, path: &str, file: Opened<F>) -> Result<Inlet<F>, Trouble>
-        ensures { IfOk result (λ inlet. Keeps (left_of F.remaining file) (inlet_left F.remaining inlet)) }
-    {
-        let mut file = file;
-        let len = file.len()?;
-        let mut pieces = Pieces::new(alloc)?;
-        let is_over = !file.refill(&mut pieces)?;
-        Ok(Inlet {
-            name: shown_name(alloc, path)?,
-            file,
-            len,
-            pieces,
-            is_over,
-        })
-    }
-
-    /// Returns how many bytes were read.
-    pub fn read(&self) -> u64 {
-        self.pieces.read
-    }
-
-    /// Returns the length in bytes; of a pipe, how many bytes were read.
-    pub fn len(&self) -> u64 {
-        self.len.max(self.pieces.read)
-    }
-
-    /// Returns the length in bytes; None of a pipe that wasn't read to its end.
-    pub fn input_len(&self) -> Option<u64> {
-        if self.is_over || self.len != 0 {
-            return Some(self.len());
-        }
-        None
-    }
-}
-
-// Opens the file of a channel, and reads its first piece.
-fn open_inlet<H: AllocGlobal + Files>(rt: &H, path: &str) -> Result<Inlet<H::File>, Trouble> {
-    let alloc = rt.alloc();
-    let file = open(rt, alloc, path)?;
-    Inlet::new(alloc, path, file)
-}
-
-/// Opens the files of channels, and reads the first piece of each.
-///
-/// # Errors
-///
-/// `Trouble::OfFile` if one can't be opened or read, `Trouble::NoMemory`.
-pub(crate) fn open_inlets<H: AllocGlobal + Files>(
-    rt: &H,
-    paths: &[&str],
-) -> Result<Vec<Inlet<H::File>>, Trouble> {
-    let mut inlets = Vec::new(rt.alloc());
-    for path in paths {
-        inlets.push(open_inlet(rt, path)?)?;
-    }
-    Ok(inlets)
-}
-
-/// Returns the UUID in the first channel's hello; zeros if it has no hello.
-pub(crate) fn hello_uuid<F: Read + OpenFile + Drop>(inlets: &[Inlet<F>]) -> Uuid {
-    let Some(inlet) = inlets.first() else {
-        return Uuid::nil();
-    };
-    let Some(rest) = inlet.pieces.waiting().get(8..) else {
-        return Uuid::nil();
-    };
-    match rest.first_chunk::<16>() {
-        Some(uuid) => Uuid::from_bytes(*uuid),
-        None => Uuid::nil(),
-    }
-}
+use zimgasol_files::{PageSize, Trouble};
 
 /// A channel: its file, and the reading of its bytes.
 #[derive(Drop)]
@@ -169,16 +79,18 @@ impl<F: Read + OpenFile + Drop> Channel<F> {
     ) -> Result<bool, Trouble>
         ensures { OnOk result (TakesOf source (inlet_left F.remaining self.old.inlet) (inlet_left F.remaining self.new.inlet) load.old load.new) }
     {
-        let is_more = self.inlet.file.refill(&mut self.inlet.pieces)?;
+        let is_more = self.inlet.refill()?;
+        let passed = self.inlet.passed_over().bytes;
         if !is_more {
-            self.inlet.is_over = true;
+            self.lane.pass_over(passed);
             load.end(source);
             return Ok(false);
         }
-        let piece = self.inlet.pieces.waiting();
+        let piece = self.inlet.waiting();
         let taken = load.feed(source, piece)?;
+        self.lane.pass_over(passed);
         self.lane.count(&piece[..taken], blocks)?;
-        self.inlet.pieces.take(taken);
+        self.inlet.take(taken);
         Ok(true)
     }
 }

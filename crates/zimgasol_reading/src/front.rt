@@ -1,13 +1,46 @@
 //! Keeps the bytes before RAM's records until they are complete, for a sink that takes them: no
 //! file is made before the size list was accepted.
 
-ghost use Rattle.std.specs.Prelude.{◌≡◌, ◌+◌, ◌≤◌, ◌++◌, length, take, OnOk};
+ghost use Rattle.std.specs.Prelude.{◌≡◌, ◌+◌, ◌≤◌, ◌++◌, length, take, drop, OnOk};
 
-use std::alloc::Global;
+use std::alloc::{AllocError, Global};
 use zimgasol_files::Trouble;
 
 /// The most bytes before RAM's records that are kept: 64 MiB.
 pub const MOST_FRONT_LEN: usize = 67_108_864;
+
+/// Where the bytes before RAM's records stand in a stream.
+#[derive(Clone, Copy)]
+pub(crate) struct FrontPlaces {
+    /// The type byte of START.
+    pub(crate) start: u64,
+    /// The byte after the size list.
+    pub(crate) list_end: u64,
+    /// The first byte of the devices' sections behind START, and the byte after them: 0 without any.
+    pub(crate) behind: u64,
+    pub(crate) behind_end: u64,
+}
+
+impl FrontPlaces {
+    /// Returns those of no byte.
+    pub(crate) fn none() -> FrontPlaces {
+        FrontPlaces {
+            start: 0,
+            list_end: 0,
+            behind: 0,
+            behind_end: 0,
+        }
+    }
+}
+
+// Returns the bytes from `start` on, up to `end`.
+fn part_of(bytes: &[u8], start: u64, end: u64) -> &[u8]
+    ensures { result.now ≡ drop start (take end bytes.now) }
+{
+    let (to_end, _) = bytes.split_at(end.min(bytes.len() as u64) as usize);
+    let (_, part) = to_end.split_at(start.min(to_end.len() as u64) as usize);
+    part
+}
 
 /// The bytes before RAM's records so far.
 #[derive(Drop)]
@@ -70,21 +103,26 @@ impl Front {
         Ok(())
     }
 
-    /// Returns the stream's bytes up to the byte `end`.
-    pub(crate) fn stream_to(&self, end: u64) -> &[u8]
-        ensures { result.now ≡ take end self.now.stream.items }
+    /// Makes the stream's bytes those that are put before RAM's records: up to the size list's end,
+    /// and devices' sections from behind START before it. QEMU 11.1 writes them there, and 10.0
+    /// behind START.
+    ///
+    /// # Errors
+    ///
+    /// `AllocError`: an allocation was refused.
+    pub(crate) fn arrange(&mut self, places: &FrontPlaces) -> Result<(), AllocError>
+        ensures stream { OnOk result (self.new.stream.items ≡ take places.now.start self.old.stream.items
+            ++ drop places.now.behind (take places.now.behind_end self.old.stream.items)
+            ++ drop places.now.start (take places.now.list_end self.old.stream.items)) }
+        ensures libvirt { OnOk result (self.new.libvirt ≡ self.old.libvirt) }
     {
-        let len = end.min(self.stream.len() as u64) as usize;
-        &self.stream[..len]
-    }
-
-    /// Returns libvirt's header, and the stream's bytes up to the byte `end`.
-    pub(crate) fn parts_to(&self, end: u64) -> (&[u8], &[u8])
-        ensures libvirt { result.0.now ≡ self.now.libvirt.items }
-        ensures stream { result.1.now ≡ take end self.now.stream.items }
-    {
-        let len = end.min(self.stream.len() as u64) as usize;
-        (&self.libvirt, &self.stream[..len])
+        let (start, list_end) = (places.start, places.list_end);
+        let mut stream = Vec::new(*self.stream.allocator());
+        stream.extend_from_slice(part_of(&self.stream, 0, start))?;
+        stream.extend_from_slice(part_of(&self.stream, places.behind, places.behind_end))?;
+        stream.extend_from_slice(part_of(&self.stream, start, list_end))?;
+        self.stream = stream;
+        Ok(())
     }
 
     /// Drops the bytes: a sink has taken them.

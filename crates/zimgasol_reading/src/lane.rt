@@ -1,4 +1,5 @@
 //! Counts the packets and pages of one channel, as the load takes its bytes. It judges nothing.
+//! Bytes of a channel's file that the load doesn't take are those of devices' packets.
 
 ghost use Rattle.std.specs.Prelude.{◌≡◌, ◌+◌, ◌<◌, ◌≤◌, ◌^◌, length};
 
@@ -21,10 +22,11 @@ pub struct ChannelCounts {
     pub pages: u64,
     /// The pages of zeros.
     pub zeros: u64,
-    /// The bytes of the hello and of the complete packets.
+    /// The bytes of the file before the first item that isn't complete: the hello, the packets,
+    /// and the packets of devices.
     pub valid: u64,
-    /// The bytes of `valid` before the current round.
-    pub round_start: u64,
+    /// The byte of the file at which the current round begins. None before its first packet.
+    pub round_start: Option<u64>,
 }
 
 impl ChannelCounts {
@@ -35,7 +37,7 @@ impl ChannelCounts {
         pages: 0,
         zeros: 0,
         valid: 0,
-        round_start: 0,
+        round_start: Some(0),
     };
 
     // Counts the packet `number`, which ends at the byte `end`.
@@ -54,6 +56,8 @@ pub struct Lane {
     // the number of the packet that was begun, and the block of its pages
     number: u64,
     block: Option<usize>,
+    // the bytes of the devices' packets before the bytes that are counted
+    passed: u64,
     pub counts: ChannelCounts,
 }
 
@@ -76,6 +80,7 @@ impl Lane {
             reader,
             number: 0,
             block: None,
+            passed: 0,
             counts: ChannelCounts::NONE,
         })
     }
@@ -87,7 +92,20 @@ impl Lane {
 
     /// Begins the next round.
     pub fn advance(&mut self) {
-        self.counts.round_start = self.counts.valid;
+        self.counts.round_start = None;
+    }
+
+    // Returns how many bytes of the file were counted or passed over.
+    fn position(&self) -> u64 {
+        self.reader.fed().saturating_add(self.passed)
+    }
+
+    /// Sets how many bytes of devices' packets the file has before the bytes that are counted next.
+    pub fn pass_over(&mut self, passed: u64) {
+        self.passed = passed;
+        if self.reader.valid_up_to() == self.reader.fed() {
+            self.counts.valid = self.position();
+        }
     }
 
     /// Counts the packets and pages of `piece`, which the load took. Counts the pages in `blocks`,
@@ -98,6 +116,9 @@ impl Lane {
     /// `Trouble::NoMemory`.
     pub fn count(&mut self, piece: &[u8], blocks: &mut Option<Blocks>) -> Result<(), Trouble> {
         let mut rest = piece;
+        if self.counts.round_start.is_none() && !piece.is_empty() {
+            self.counts.round_start = Some(self.counts.valid);
+        }
         for _ in 0..u64::MAX {
             if rest.len() as u64 > u64::MAX - self.reader.fed() {
                 return Err(Trouble::NoMemory);
@@ -106,7 +127,7 @@ impl Lane {
             rest = &rest[taken..];
             match event {
                 ChannelEvent::More | ChannelEvent::Over => break,
-                ChannelEvent::Hello(_) => self.counts.valid = self.reader.fed(),
+                ChannelEvent::Hello(_) => self.counts.valid = self.position(),
                 ChannelEvent::Head => self.begin_packet(blocks)?,
                 ChannelEvent::Page(offset, _) => self.count_page(offset, blocks)?,
                 ChannelEvent::Packet(_) => self.end_packet(),
@@ -147,7 +168,8 @@ impl Lane {
     // Ends the packet that was begun.
     fn end_packet(&mut self) {
         self.block = None;
-        self.counts.add(self.number, self.reader.fed());
+        let end = self.position();
+        self.counts.add(self.number, end);
     }
 }
 

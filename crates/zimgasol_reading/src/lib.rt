@@ -10,6 +10,7 @@
 //! | `survey`, `noting`, `beside` | read a single stream |
 //! | `libvirt`, `heads`, `place` | read libvirt's header, and locate a fault |
 //! | `several`, `main_stream`, `channel`, `lane`, `several_place` | the same of channels |
+//! | `inlet` | reads the file of a channel, and passes over the packets of devices |
 //! | `load`, `passing`, `shadow` | load the channels, and pass the pages on |
 //! | `notes` | notes what is between RAM's sections |
 //! | `tail`, `description` | check what follows RAM, and list the devices |
@@ -25,6 +26,7 @@ mod channel;
 mod description;
 mod front;
 mod heads;
+mod inlet;
 mod lane;
 mod laws;
 mod libvirt;
@@ -42,10 +44,11 @@ mod survey;
 mod tail;
 
 pub use blocks::{Blocks, Coverage, PageCounts};
-pub use channel::{Channel, Inlet};
+pub use channel::Channel;
 pub use description::Device;
 pub use front::MOST_FRONT_LEN;
 pub use heads::{Head, section_id, section_name};
+pub use inlet::Inlet;
 pub use lane::{ChannelCounts, Lane};
 pub use laws::{records_make_the_rounds, streams_over_zeros_make_loads};
 pub use libvirt::{LibvirtHeader, header_of};

@@ -236,7 +236,7 @@ impl MainStream {
         if self.reader.ended() || piece.len() as u64 > u64::MAX - fed {
             return Err(Trouble::NoMemory);
         }
-        if self.notes.list_end().is_none() && !self.front.is_taken {
+        if self.notes.front().is_none() && !self.front.is_taken {
             self.front.keep(piece)?;
         }
         self.reader.feed_reporting(piece, &mut self.report)?;
@@ -289,10 +289,11 @@ impl MainStream {
     ) -> Result<(), Trouble>
         ensures { OnOk result (StillHolds (S.holds sink.old) (S.holds sink.new)) }
     {
-        if let Some(end) = self.notes.list_end()
+        if let Some(places) = self.notes.front()
             && !self.front.is_taken
         {
-            sink.take_front(rt, &[], self.front.stream_to(end))?;
+            self.front.arrange(&places)?;
+            sink.take_front(rt, &[], &self.front.stream)?;
             self.front.set_taken();
         }
         Ok(())

@@ -1,7 +1,8 @@
 //! Notes what is between RAM's sections for printing: the machine's name, the configuration's
-//! subsections and COMMANDs. Also which section is open. It takes this from the report of the
+//! subsections, COMMANDs and devices' sections. Also which section is open. It takes this from the report of the
 //! stream's reader, which checks these items and passes them over.
 
+use crate::front::FrontPlaces;
 use mig_stream::{ItemKind, Report, ReportedItem};
 use std::alloc::{AllocError, Global};
 
@@ -31,6 +32,8 @@ pub enum Noted {
     Subsection(Vec<u8>, Vec<u8>),
     /// A COMMAND: its number and its length.
     Command(u16, u16),
+    /// A device's section before RAM's pages: its name.
+    Device(Vec<u8>),
 }
 
 /// An item with its place.
@@ -59,9 +62,11 @@ pub struct Notes {
     leaves_shared_out: bool,
     // the id of RAM's section
     section_id: u32,
-    // the byte after the size list so far, and whether an item after it was read
-    list_end: u64,
+    // where the bytes before RAM's records stand so far; whether an item after the size list was
+    // read, and the type byte of a PART or of END
+    front: FrontPlaces,
     is_list_over: bool,
+    has_pages: bool,
     // the byte at which the last item of these began
     at: u64,
     // the subsection that is read: its name, its content so far, and how many capabilities follow
@@ -107,8 +112,9 @@ impl Notes {
             open: None,
             leaves_shared_out: false,
             section_id: 0,
-            list_end: 0,
+            front: FrontPlaces::none(),
             is_list_over: false,
+            has_pages: false,
             at: 0,
             name: Vec::new(alloc),
             content: Vec::new(alloc),
@@ -128,12 +134,14 @@ impl Notes {
     // Takes an item.
     fn take_item(&mut self, item: ReportedItem<'_>) -> Result<(), AllocError> {
         match item.kind {
-            ItemKind::Configuration | ItemKind::Subsection | ItemKind::Command => {
-                self.at = item.at;
+            ItemKind::Configuration | ItemKind::Subsection | ItemKind::Command | ItemKind::Device =>
+                self.at = item.at,
+            ItemKind::Start => {
+                self.front.start = item.at;
+                self.open = Some(SectionKind::Start);
             }
-            ItemKind::Start => self.open = Some(SectionKind::Start),
-            ItemKind::Part => self.open = Some(SectionKind::Part),
-            ItemKind::End => self.open = Some(SectionKind::End),
+            ItemKind::Part => self.open_pages(SectionKind::Part),
+            ItemKind::End => self.open_pages(SectionKind::End),
             ItemKind::Footer => {
                 self.open = None;
                 self.sections = self.sections.saturating_add(1);
@@ -141,14 +149,33 @@ impl Notes {
             ItemKind::NameLength if number_of(item.bytes) == 0 => self.note_machine(&[])?,
             ItemKind::Name => self.note_machine(item.bytes)?,
             ItemKind::CommandBody => self.note_command(item.bytes)?,
+            ItemKind::DeviceHead => self.note_device(item.bytes)?,
+            ItemKind::DeviceFooter => self.end_device(item),
             ItemKind::StartHead => self.section_id = number_of(item.bytes),
             ItemKind::ListEntry | ItemKind::BlockAddress | ItemKind::BlockPageSize => {
-                self.list_end = item.at.saturating_add(item.bytes.len() as u64);
+                self.front.list_end = item.at.saturating_add(item.bytes.len() as u64);
             }
             ItemKind::EndOfSection | ItemKind::Flush => self.is_list_over = true,
             _ => self.take_part(item)?,
         }
         Ok(())
+    }
+
+    // Opens a section that has pages.
+    fn open_pages(&mut self, kind: SectionKind) {
+        self.has_pages = true;
+        self.open = Some(kind);
+    }
+
+    // Ends a device's section. If it stands behind START, it is one of those that do.
+    fn end_device(&mut self, footer: ReportedItem<'_>) {
+        if !self.is_list_over {
+            return;
+        }
+        if self.front.behind_end == 0 {
+            self.front.behind = self.at;
+        }
+        self.front.behind_end = footer.at.saturating_add(footer.bytes.len() as u64);
     }
 
     // Takes a part of a subsection.
@@ -213,6 +240,13 @@ impl Notes {
         self.note(Noted::Command(short_at(body, 0), short_at(body, 2)))
     }
 
+    // Notes a device's section by its head: an id of 4 bytes, and the name after its length.
+    fn note_device(&mut self, head: &[u8]) -> Result<(), AllocError> {
+        let name = name_of(head.get(4..).unwrap_or(&[]));
+        let name = name.to_vec(*self.notes.allocator())?;
+        self.note(Noted::Device(name))
+    }
+
     // Notes an item.
     fn note(&mut self, noted: Noted) -> Result<(), AllocError> {
         if self.notes.len() >= MOST_NOTED {
@@ -241,7 +275,17 @@ impl Notes {
     /// Returns the byte of the stream after RAM's size list; None until an item after it was read.
     pub fn list_end(&self) -> Option<u64> {
         if self.is_list_over {
-            Some(self.list_end)
+            Some(self.front.list_end)
+        } else {
+            None
+        }
+    }
+
+    /// Returns where the bytes before RAM's records stand in the stream; None until the type byte
+    /// of a PART or of END was read.
+    pub(crate) fn front(&self) -> Option<FrontPlaces> {
+        if self.is_list_over && self.has_pages {
+            Some(self.front)
         } else {
             None
         }

@@ -72,10 +72,11 @@ impl<H: AllocGlobal + Files, B: Beside<H> + Drop, S: GuestSink<H> + Drop> Noting
         }
         self.front.keep(piece)?;
         if self.has_begun
-            && let Some(end) = self.beside.list_end()
+            && let Some(places) = self.beside.front()
         {
-            let (libvirt, stream) = self.front.parts_to(end);
-            self.sink.take_front(self.beside.rt(), libvirt, stream)?;
+            self.front.arrange(&places)?;
+            self.sink
+                .take_front(self.beside.rt(), &self.front.libvirt, &self.front.stream)?;
             self.front.set_taken();
         }
         Ok(())
@@ -159,7 +160,7 @@ impl<H: AllocGlobal + Files, B: Beside<H> + Drop, S: GuestSink<H> + Drop> Taker
     }
 
     // Keeps the first bytes of the item that isn't complete, and those after RAM. Lists the blocks
-    // if no record followed the table.
+    // if no record followed the table. Lets the sink work beside the reading.
     fn end_piece(
         &mut self,
         piece: &[u8],
@@ -171,6 +172,7 @@ impl<H: AllocGlobal + Files, B: Beside<H> + Drop, S: GuestSink<H> + Drop> Taker
         let start = self.fed;
         self.fed = start.saturating_add(piece.len() as u64);
         self.beside.look(piece, start, valid)?;
+        self.sink.between_pieces(self.beside.rt())?;
         self.keep_front(piece)?;
         if let StreamState::Closed = found {
             let after = after_in(piece, start, valid);

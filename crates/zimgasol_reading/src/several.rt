@@ -2,7 +2,8 @@
 //! Passes each page on as it is read.
 //!
 //! No page is kept, only bits for each page, and the number of each packet of the current round.
-//! The verdict is that of the library's load (`mig_in_place`), which is fed all bytes.
+//! The verdict is that of the library's load (`mig_in_place`), which is fed all bytes but those of
+//! devices' packets.
 
 ghost use Rattle.std.specs.Prelude.{◌≡◌, ◌≢◌, ◌↔◌, ◌≤◌, ◌^◌, ⊤, ℕ, List, [], length, map, Option, Some, IsNone, IsSome, IfSome, IfOk, OnOk, IsTrue};
 ghost use Rattle.mig_mem.specs.PageSize.{IsPageSize};
@@ -11,12 +12,14 @@ ghost use Rattle.mig_answer.specs.declared.verdict.Verdict.TheVariants as verdic
 ghost use Rattle.zimgasol_reading.specs.Answered.{IsAnswered, StaysAsked, BeginsLoad, HasLoadedAll};
 ghost use Rattle.zimgasol_reading.specs.Coverage.{IsWhole, HasItsPages, AreComplete};
 ghost use Rattle.zimgasol_reading.specs.Consumed.{Bytes};
-ghost use Rattle.zimgasol_reading.specs.Left.{inlet_left, inlets_of, channels_left, sources_left, sources_held, IsOver, IsBegun};
+ghost use Rattle.zimgasol_reading.specs.Inlets.{inlet_left};
+ghost use Rattle.zimgasol_reading.specs.Left.{inlets_of, channels_left, sources_left, sources_held, IsOver, IsBegun};
 ghost use Rattle.zimgasol_reading.specs.Loaded.{TakesOn, settings_for};
 ghost use Rattle.zimgasol_reading.specs.Recorded.{StillHolds};
 
 use crate::blocks::{Blocks, Coverage};
-use crate::channel::{Channel, Inlet, channels_of, hello_uuid, open_inlets};
+use crate::channel::{Channel, channels_of};
+use crate::inlet::{Inlet, hello_uuid, open_inlets};
 use crate::load::{Load, Reporting, judge_of};
 use crate::main_stream::MainStream;
 use crate::passing::Passing;
@@ -32,7 +35,8 @@ use std::fs::{File, Files, Metadata, OpenFile};
 use std::io::{Read, Write};
 use std::rt::Clock;
 use uuid::Uuid;
-use zimgasol_files::{ChannelWords, StreamWords, Trouble, Watch, wanted_uuid};
+use zimgasol_files::{ChannelWords, PageSize, StreamWords, Trouble, Watch, wanted_uuid};
+use zimgasol_page_packets::PassedOver;
 
 /// The survey of a main stream and its channels.
 #[derive(Drop)]
@@ -149,6 +153,20 @@ impl<F: Read + OpenFile + Drop> Several<F> {
             packets = packets.saturating_add(channel.lane.counts.packets);
         }
         packets
+    }
+
+    /// Returns the packets of devices that were passed over, of all channels.
+    pub fn passed_over(&self) -> PassedOver {
+        let mut all = PassedOver {
+            packets: 0,
+            bytes: 0,
+        };
+        for channel in &self.channels {
+            let passed_over = channel.inlet.passed_over();
+            all.packets = all.packets.saturating_add(passed_over.packets);
+            all.bytes = all.bytes.saturating_add(passed_over.bytes);
+        }
+        all
     }
 
     // Returns how many bytes were read.
@@ -468,14 +486,15 @@ fn one_page(alloc: Global, page_size: u64) -> Result<Table, Trouble>
     }
 }
 
-// Opens the channels, and reads the first piece of each. Returns the UUID that their hellos have to
-// have, too, if it is known.
+// Opens the channels, and reads the first piece of each. Their pages have `page_size`. Returns the
+// UUID that their hellos have to have, too, if it is known.
 fn opened<H: AllocGlobal + Files>(
     rt: &H,
     channels: &ChannelWords<'_>,
+    page_size: PageSize,
 ) -> Result<(Option<Uuid>, Vec<Inlet<H::File>>), Trouble> {
     let wanted = wanted_uuid(rt.alloc(), channels)?;
-    let inlets = open_inlets(rt, &channels.files)?;
+    let inlets = open_inlets(rt, &channels.files, page_size)?;
     Ok((wanted, inlets))
 }
 
@@ -486,8 +505,9 @@ fn opened<H: AllocGlobal + Files>(
 ///
 /// The rounds and the verdict are those of the answer of a load on several channels, on streams
 /// that are what was consumed of `input` and of each channel: a front of its bytes, in their order,
-/// and all of them where the stream has ended. If the load is done, the sink has taken records that
-/// make the answer's memory.
+/// and all of them where the stream has ended. A channel's bytes are those of its file without the
+/// packets of devices, or all of them if it has no such packet (`Inlet::new`). If the load is done,
+/// the sink has taken records that make the answer's memory.
 ///
 /// # Errors
 ///
@@ -575,7 +595,7 @@ pub fn read_several<H: AllocGlobal + Files + Clock, R: Read, S: GuestSink<H> + D
     ensures frame { IfOk result.0 (λ s. s.frame ≡ words.now.frame) }
     ensures answered { IfOk result.0 (λ s. (all : Bytes) × IsAnswered all (S.holds result.1) s) }
 {
-    let (wanted, inlets) = match opened(rt, channels) {
+    let (wanted, inlets) = match opened(rt, channels, words.page_size) {
         Ok(opened) => opened,
         Err(trouble) => return (Err(trouble), sink),
     };

@@ -101,7 +101,7 @@ impl<F: Read + OpenFile + Drop> Several<F> {
         let byte = match fault {
             fault if is_cut(fault) => channel.inlet.read(),
             Fault::HelloTwice => 0,
-            Fault::Extra => counts.round_start,
+            Fault::Extra => counts.round_start.unwrap_or(counts.valid),
             _ => counts.valid,
         };
         let within = if is_of_hello(fault) || channel.lane.hello().is_none() {

@@ -78,6 +78,17 @@ pub trait GuestSink<H: Files>: PageSink {
     fn begin(&mut self, rt: &H, table: &Table) -> Result<(), Trouble>
         ensures { OnOk result (Self.holds self.new table.now []) };
 
+    /// Lets the sink work beside the reading: between two pieces of a single stream.
+    ///
+    /// # Errors
+    ///
+    /// The trouble that the sink had.
+    fn between_pieces(&mut self, _rt: &H) -> Result<(), Trouble>
+        ensures { OnOk result (StillHolds (Self.holds self.old) (Self.holds self.new)) }
+    {
+        Ok(())
+    }
+
     /// Returns whether the sink takes the bytes before and after RAM.
     fn keeps_state(&self) -> bool {
         false

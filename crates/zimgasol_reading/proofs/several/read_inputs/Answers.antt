@@ -1,7 +1,7 @@
 use Rattle.std.proofs.Common.{map, sym, subst}
 use Rattle.mig_mem.specs.PageSize.{IsPageSize}
 use Rattle.zimgasol_reading.specs.Consumed.{Bytes}
-use Rattle.zimgasol_reading.specs.Left.{inlet_left}
+use Rattle.zimgasol_reading.specs.Inlets.{inlet_left}
 use Rattle.zimgasol_reading.proofs.Surveying.{if_ok}
 use Rattle.zimgasol_reading.proofs.several.read_inputs.Goals as goal
 

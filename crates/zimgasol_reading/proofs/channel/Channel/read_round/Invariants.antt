@@ -1,4 +1,4 @@
-use Rattle.zimgasol_reading.specs.Left.{inlet_left}
+use Rattle.zimgasol_reading.specs.Inlets.{inlet_left}
 use Rattle.zimgasol_reading.specs.Loaded.{TakesOf}
 use Rattle.zimgasol_reading.proofs.channel.Channel.read_round.Given as goal
 
