@@ -8,14 +8,14 @@ use std::fs::{File, Files, Metadata, OpenFile};
 use std::io::{Read, Seek, Write};
 use std::rt::Clock;
 use zimgasol_files::{StreamWords, Trouble, shown_name};
-use zimgasol_mapped::{Input, open_input};
+use zimgasol_mapped::{Input, Placed, PlacedFile, open_input};
 use zimgasol_reading::{GuestSink, Survey, fault_of, read_input};
 
 /// A file that is open as a stream.
 #[derive(Drop)]
-pub(crate) struct OpenStream<F: Drop> {
+pub(crate) struct OpenStream<F: Read + Seek + Drop> {
     /// The bytes of the stream.
-    pub(crate) input: Input<F>,
+    pub(crate) input: Input<Placed<F>>,
     /// That of the file, if its bytes are those of the stream.
     pub(crate) metadata: Option<Metadata>,
 }
@@ -31,7 +31,8 @@ fn opened<F: Read + Seek + Drop>(
 {
     match metadata {
         Some(metadata) if metadata.is_file() => {
-            let input = open_input(alloc, file, metadata.len(), page_size)?;
+            let file = Placed::new(file, metadata.len());
+            let input = open_input(alloc, file, page_size)?;
             let metadata = if input.is_mapped() {
                 None
             } else {
@@ -40,7 +41,7 @@ fn opened<F: Read + Seek + Drop>(
             Ok(OpenStream { input, metadata })
         }
         metadata => Ok(OpenStream {
-            input: Input::AsItIs(file),
+            input: Input::AsItIs(Placed::new(file, 0)),
             metadata,
         }),
     }
@@ -64,7 +65,7 @@ pub(crate) fn open_stream<H: AllocGlobal + Files>(
 
 /// Notes that bytes of a file with mapped-ram are counted in its plain stream. It is written if
 /// `is_told`: if the result names a byte.
-pub(crate) fn put_mapped_note<F: Drop, E: Write>(
+pub(crate) fn put_mapped_note<F: PlacedFile + Drop, E: Write>(
     errors: &mut E,
     name: &str,
     input: &Input<F>,
@@ -91,7 +92,7 @@ fn read_opened<H: AllocGlobal + Files + Clock, S: GuestSink<H> + Drop, E: Write>
 }
 
 // Notes how bytes are counted, if the result on `survey` names one.
-fn note_bytes<F: Drop, E: Write>(
+fn note_bytes<F: PlacedFile + Drop, E: Write>(
     alloc: Global,
     words: &StreamWords<'_>,
     input: &Input<F>,

@@ -1,1 +1,10 @@
 mod Contents
+mod Pages
+mod Slices
+mod Steps
+mod Courses
+mod Indexed
+mod Sparsely
+mod Opened
+mod Loads
+mod PlainLoaded

@@ -1,12 +1,13 @@
 //! Reads the heads of all blocks of a file with mapped-ram.
 
-ghost use Rattle.std.specs.Prelude.{◌≡◌, ◌<◌, ◌≤◌, ◌^◌, IfOk};
+ghost use Rattle.std.specs.Prelude.{◌≡◌, ◌<◌, ◌≤◌, ◌^◌, ℕ, List, Some, IfOk, OnOk};
 ghost use Rattle.mig_mem.specs.PageSize.{IsPageSize};
+ghost use Rattle.zimgasol_mapped.specs.Placed.{IsPartAt};
+ghost use Rattle.zimgasol_mapped.specs.Heads.{IsNextHead, IsIndexOf};
 
-use crate::placed::Placed;
+use crate::placed::PlacedFile;
 use mig_mapped::{MappedFault, MappedIndex, MappedSettings, MappedStop, WordOrder};
 use std::alloc::Global;
-use std::io::{Read, Seek};
 use zimgasol_files::Trouble;
 
 /// The bytes of a head that are read at first. A longer one is read on.
@@ -55,32 +56,41 @@ fn trouble_of(place: u64, stop: MappedStop) -> Trouble {
 
 // Reads more bytes of the head at the byte `place` to the end of `bytes`: as many as there are, or
 // `FIRST_LEN`. Returns whether the file may go on.
-fn read_more<F: Read + Seek + Drop>(
-    file: &mut Placed<F>,
+fn read_more<F: PlacedFile>(
+    alloc: Global,
+    file: &mut F,
     place: u64,
     bytes: &mut Vec<u8>,
-) -> Result<bool, Trouble> {
-    let len = bytes.len();
-    let more = len.clamp(FIRST_LEN, MOST_LEN);
-    bytes.resize(len.saturating_add(more), 0)?;
-    let at = place.saturating_add(len as u64);
-    let read = file
-        .read_at(at, &mut bytes[len..])
-        .map_err(Trouble::Unread)?;
-    bytes.truncate(len.saturating_add(read));
+) -> Result<bool, Trouble>
+    ensures same { F.file_bytes file.new ≡ F.file_bytes file.old }
+    ensures bytes { OnOk result ((all : List ℕ) → F.file_bytes file.old ≡ Some all → IsPartAt all place bytes.old.items → IsPartAt all place bytes.new.items) }
+{
+    let more = bytes.len().clamp(FIRST_LEN, MOST_LEN);
+    let mut piece = vec![in alloc; 0u8; more]?;
+    let at = place.saturating_add(bytes.len() as u64);
+    let read = match file.read_at(at, &mut piece) {
+        Ok(read) => read,
+        Err(error) => return Err(Trouble::Unread(error)),
+    };
+    bytes.extend_from_slice(&piece[..read])?;
     Ok(read == more)
 }
 
 // Reads the next head, and takes it into `index`.
-fn read_head<F: Read + Seek + Drop>(
-    file: &mut Placed<F>,
+fn read_head<F: PlacedFile>(
+    alloc: Global,
+    file: &mut F,
     bytes: &mut Vec<u8>,
     index: &mut MappedIndex,
-) -> Result<(), Trouble> {
+) -> Result<(), Trouble>
+    ensures same { F.file_bytes file.new ≡ F.file_bytes file.old }
+    ensures given { OnOk result (index.new.given ≡ index.old.given) }
+    ensures next { OnOk result ((all : List ℕ) → F.file_bytes file.old ≡ Some all → IsNextHead all index.old index.new) }
+{
     let place = index.place();
     bytes.clear();
     for _ in 0..u64::MAX {
-        let goes_on = read_more(file, place, bytes)?;
+        let goes_on = read_more(alloc, file, place, bytes)?;
         match index.take(bytes) {
             Ok(()) => return Ok(()),
             Err(MappedStop::Fault(MappedFault::Truncated)) if goes_on => {}
@@ -91,9 +101,9 @@ fn read_head<F: Read + Seek + Drop>(
 }
 
 // Reads all heads, with bitmaps in words of `order`.
-fn read_ordered<F: Read + Seek + Drop>(
+fn read_ordered<F: PlacedFile>(
     alloc: Global,
-    file: &mut Placed<F>,
+    file: &mut F,
     list: ListPlace,
     order: WordOrder,
 ) -> Result<MappedIndex, Trouble>
@@ -101,7 +111,10 @@ fn read_ordered<F: Read + Seek + Drop>(
     requires place { list.place < 2 ^ 63 }
     requires some { 0 < list.total }
     requires limit { list.total ≤ 2 ^ 40 }
-    ensures { IfOk result (λ index. index.left ≡ 0) }
+    ensures same { F.file_bytes file.new ≡ F.file_bytes file.old }
+    ensures all { IfOk result (λ index. index.left ≡ 0) }
+    ensures size { IfOk result (λ index. index.given.page_size ≡ list.page_size) }
+    ensures index { IfOk result (λ index. (all : List ℕ) → F.file_bytes file.old ≡ Some all → IsIndexOf all list.page_size list.place list.total index) }
 {
     let settings = MappedSettings {
         page_size: list.page_size,
@@ -113,7 +126,7 @@ fn read_ordered<F: Read + Seek + Drop>(
         if index.left() == 0 {
             return Ok(index);
         }
-        read_head(file, &mut bytes, &mut index)?;
+        read_head(alloc, file, &mut bytes, &mut index)?;
     }
     Err(trouble_of(index.place(), MappedStop::Fault(MappedFault::TooManyBlocks)))
 }
@@ -127,6 +140,11 @@ fn has_tail(read: &Result<MappedIndex, Trouble>) -> bool {
     }
 }
 
+// Returns whether a head has a fault.
+fn is_fault(read: &Result<MappedIndex, Trouble>) -> bool {
+    matches!(read, Err(Trouble::Fault(_, _, _)))
+}
+
 /// Reads the heads of all blocks. The file doesn't name the order of the bytes in a bitmap's word.
 /// They are read as little-endian, and if a bit is set then that no page has, as big-endian.
 ///
@@ -134,23 +152,27 @@ fn has_tail(read: &Result<MappedIndex, Trouble>) -> bool {
 ///
 /// `Trouble::Fault`: the first fault of the first head at fault. `Trouble::Unread` if a read fails,
 /// and `Trouble::NoMemory`.
-pub(crate) fn read_heads<F: Read + Seek + Drop>(
+pub(crate) fn read_heads<F: PlacedFile>(
     alloc: Global,
-    file: &mut Placed<F>,
+    file: &mut F,
     list: ListPlace,
 ) -> Result<MappedIndex, Trouble>
     requires page_size { IsPageSize list.page_size }
     requires place { list.place < 2 ^ 63 }
     requires some { 0 < list.total }
     requires limit { list.total ≤ 2 ^ 40 }
-    ensures { IfOk result (λ index. index.left ≡ 0) }
+    ensures same { F.file_bytes file.new ≡ F.file_bytes file.old }
+    ensures all { IfOk result (λ index. index.left ≡ 0) }
+    ensures size { IfOk result (λ index. index.given.page_size ≡ list.page_size) }
+    ensures index { IfOk result (λ index. (all : List ℕ) → F.file_bytes file.old ≡ Some all → IsIndexOf all list.page_size list.place list.total index) }
 {
     let little = read_ordered(alloc, file, list, WordOrder::Little);
     if !has_tail(&little) {
         return little;
     }
-    match read_ordered(alloc, file, list, WordOrder::Big) {
-        Err(Trouble::Fault(_, _, _)) => little,
-        big => big,
+    let big = read_ordered(alloc, file, list, WordOrder::Big);
+    if is_fault(&big) {
+        return little;
     }
+    big
 }

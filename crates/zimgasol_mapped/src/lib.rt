@@ -12,16 +12,22 @@
 //! | `sparse` | finds the stream in a file that libvirt saved sparse |
 //! | `heads` | reads the heads of all blocks |
 //! | `records` | makes the entries of the size list, and page records |
+//! | `course` | makes the bytes of the plain stream, one piece after another |
 //! | `plain` | gives the bytes of the plain stream |
 //! | `opening` | tells a file with mapped-ram from others |
+//! | `laws` | says what loading the plain stream gives |
 #![tactic(auto)]
 
+mod course;
 mod heads;
+mod laws;
 mod opening;
 mod placed;
 mod plain;
 mod records;
 mod sparse;
 
+pub use laws::plain_stream_loads_the_memory;
 pub use opening::{Input, open_input};
+pub use placed::{Placed, PlacedFile};
 pub use plain::Plain;

@@ -1,7 +1,7 @@
 //! Makes the bytes of a plain stream that a file with mapped-ram doesn't have: the size list's
 //! entries without headers and bitmaps, and page records.
 
-ghost use Rattle.std.specs.Prelude.{◌≡◌, ◌+◌, ◌-◌, ◌*◌, ◌<◌, ◌≤◌, ◌++◌, ◌==◌, not, length, min, None, Some, IfOk, OnOk};
+ghost use Rattle.std.specs.Prelude.{◌≡◌, ◌+◌, ◌-◌, ◌*◌, ◌<◌, ◌≤◌, ◌++◌, ◌==◌, not, length, [], None, Some, IfOk, OnOk};
 ghost use Rattle.std.specs.List.{flat_map, range_with_len};
 ghost use Rattle.std.specs.Option.{option_copied};
 ghost use Rattle.mig_mem.specs.Place.{IsPlace};
@@ -12,8 +12,9 @@ ghost use Rattle.mig_stream.specs.PageRecord.{page_kind};
 ghost use Rattle.mig_stream.specs.Text.{entry, record_bytes, content_bytes, name_bytes};
 ghost use Rattle.zimgasol_mapped.specs.Records.{record_of, records_bytes, no_content, part_of};
 
-use mig_mem::{NoMemory, Place, Table};
+use mig_mem::{Place, Table};
 use std::alloc::Global;
+use std::io;
 
 /// RAM_SAVE_FLAG_ZERO: the page is zeros.
 const ZERO: u64 = 0x002;
@@ -52,7 +53,7 @@ impl Records {
     /// Creates the bytes of a stream before its first one.
     pub(crate) fn new(alloc: Global, table: Table) -> Records
         ensures table { result.table ≡ table }
-        ensures none { length result.bytes.items ≡ 0 }
+        ensures none { result.bytes.items ≡ [] }
     {
         Records {
             table,
@@ -61,7 +62,7 @@ impl Records {
     }
 
     // Appends the id of a block with its length.
-    fn put_id(&mut self, block: usize) -> Result<(), NoMemory>
+    fn put_id(&mut self, block: usize) -> io::Result<()>
         requires { block < length self.old.table.blocks }
         ensures table { self.new.table ≡ self.old.table }
         ensures bytes { OnOk result (self.new.bytes.items ≡ self.old.bytes.items ++ counted (block_at self.old.table.blocks block).id) }
@@ -73,7 +74,7 @@ impl Records {
     }
 
     // Appends the entry of a block.
-    fn put_entry(&mut self, block: usize) -> Result<(), NoMemory>
+    fn put_entry(&mut self, block: usize) -> io::Result<()>
         requires { block < length self.old.table.blocks }
         ensures table { self.new.table ≡ self.old.table }
         ensures bytes { OnOk result (self.new.bytes.items ≡ self.old.bytes.items ++ entry self.old.table.page_size (block_at self.old.table.blocks block)) }
@@ -88,8 +89,8 @@ impl Records {
     ///
     /// # Errors
     ///
-    /// `NoMemory`: an allocation was refused. Some bytes may have been appended.
-    pub(crate) fn put_entries(&mut self) -> Result<(), NoMemory>
+    /// An allocation was refused. Some bytes may have been appended.
+    pub(crate) fn put_entries(&mut self) -> io::Result<()>
         ensures table { self.new.table ≡ self.old.table }
         ensures bytes { OnOk result (self.new.bytes.items ≡ self.old.bytes.items ++ flat_map (entry self.old.table.page_size) self.old.table.blocks) }
     {
@@ -100,7 +101,7 @@ impl Records {
     }
 
     // Appends the head of a page's record.
-    fn put_head(&mut self, place: Place, flags: u64) -> Result<(), NoMemory>
+    fn put_head(&mut self, place: Place, flags: u64) -> io::Result<()>
         requires place { IsPlace self.old.table place }
         requires flags { flags < 64 }
         ensures table { self.new.table ≡ self.old.table }
@@ -113,7 +114,7 @@ impl Records {
     }
 
     // Appends the id of the block, if the page is its first one.
-    fn put_name(&mut self, place: Place) -> Result<(), NoMemory>
+    fn put_name(&mut self, place: Place) -> io::Result<()>
         requires { place.block < length self.old.table.blocks }
         ensures table { self.new.table ≡ self.old.table }
         ensures bytes { OnOk result (self.new.bytes.items ≡ self.old.bytes.items ++ name_bytes self.old.table.blocks (not (place.page == 0)) place.block) }
@@ -125,7 +126,7 @@ impl Records {
     }
 
     // Appends what a page's record has of its content.
-    fn put_content(&mut self, content: Option<&[u8]>) -> Result<(), NoMemory>
+    fn put_content(&mut self, content: Option<&[u8]>) -> io::Result<()>
         ensures table { self.new.table ≡ self.old.table }
         ensures bytes { OnOk result (self.new.bytes.items ≡ self.old.bytes.items ++ content_bytes (option_copied content.entry)) }
     {
@@ -137,7 +138,7 @@ impl Records {
     }
 
     // Appends the record of a page: its content, or None if it is zeros.
-    fn put(&mut self, place: Place, content: Option<&[u8]>) -> Result<(), NoMemory>
+    fn put(&mut self, place: Place, content: Option<&[u8]>) -> io::Result<()>
         requires { IsPlace self.old.table place }
         ensures table { self.new.table ≡ self.old.table }
         ensures bytes { OnOk result (self.new.bytes.items ≡ self.old.bytes.items ++ record_bytes self.old.table (record_of place (option_copied content.entry))) }
@@ -147,8 +148,12 @@ impl Records {
         self.put_content(content)
     }
 
-    // Appends records of zeros for the pages of a block from `first` on, up to `end`.
-    fn put_zeros_to(&mut self, block: usize, first: u64, end: u64) -> Result<(), NoMemory>
+    /// Appends records of zeros for the pages of a block from `first` on, up to `end`.
+    ///
+    /// # Errors
+    ///
+    /// An allocation was refused. Some bytes may have been appended.
+    pub(crate) fn put_zeros(&mut self, block: usize, first: u64, end: u64) -> io::Result<()>
         requires block { block < length self.old.table.blocks }
         requires first { first ≤ end }
         requires end { end ≤ (block_at self.old.table.blocks block).pages }
@@ -161,34 +166,20 @@ impl Records {
         Ok(())
     }
 
-    /// Appends records of zeros for the pages of a block from `first` on, up to `end` or to the
-    /// block's last page.
+    /// Appends records of the pages of a block from `first` on, up to `end`, whose contents follow
+    /// each other in `contents`: of all that `contents` have completely. Returns the page after the
+    /// last one.
     ///
     /// # Errors
     ///
-    /// `NoMemory`: an allocation was refused. Some bytes may have been appended.
-    pub(crate) fn put_zeros(&mut self, block: usize, first: u64, end: u64) -> Result<(), NoMemory>
-        requires { block < length self.old.table.blocks }
-        ensures table { self.new.table ≡ self.old.table }
-        ensures bytes { OnOk result (self.new.bytes.items ≡ self.old.bytes.items
-            ++ records_bytes self.old.table block no_content (range_with_len first (min end (block_at self.old.table.blocks block).pages - first))) }
-    {
-        let end = end.min(self.table.pages(block));
-        if first >= end {
-            return Ok(());
-        }
-        self.put_zeros_to(block, first, end)
-    }
-
-    // Appends records of the pages of a block from `first` on, up to `end`, whose contents follow
-    // each other in `contents`. Returns the page after the last one.
-    fn put_pages_to(
+    /// An allocation was refused. Some bytes may have been appended.
+    pub(crate) fn put_pages(
         &mut self,
         block: usize,
         first: u64,
         end: u64,
         contents: &[u8],
-    ) -> Result<u64, NoMemory>
+    ) -> io::Result<u64>
         requires block { block < length self.old.table.blocks }
         requires first { first ≤ end }
         requires end { end ≤ (block_at self.old.table.blocks block).pages }
@@ -211,33 +202,5 @@ impl Records {
             rest = after;
         }
         Ok(end)
-    }
-
-    /// Appends records of the pages of a block from `first` on, whose contents follow each other in
-    /// `contents`: of all that `contents` have completely. Returns the page after the last one.
-    ///
-    /// # Errors
-    ///
-    /// `NoMemory`: an allocation was refused. Some bytes may have been appended.
-    pub(crate) fn put_pages(
-        &mut self,
-        block: usize,
-        first: u64,
-        contents: &[u8],
-    ) -> Result<u64, NoMemory>
-        requires { block < length self.old.table.blocks }
-        ensures table { self.new.table ≡ self.old.table }
-        ensures low { IfOk result (λ after. first ≤ after) }
-        ensures fits { IfOk result (λ after. (after - first) * self.old.table.page_size ≤ length contents.now) }
-        ensures all { IfOk result (λ after. after < (block_at self.old.table.blocks block).pages
-            → length contents.now < (after - first + 1) * self.old.table.page_size) }
-        ensures bytes { IfOk result (λ after. self.new.bytes.items ≡ self.old.bytes.items
-            ++ records_bytes self.old.table block (part_of self.old.table.page_size contents.now first) (range_with_len first (after - first))) }
-    {
-        let pages = self.table.pages(block);
-        if first > pages {
-            return Ok(first);
-        }
-        self.put_pages_to(block, first, pages, contents)
     }
 }

@@ -4,7 +4,7 @@ use Rattle.mig_mem.specs.Place.{place_at}
 use Rattle.mig_stream.specs.Text.{record_bytes}
 use Rattle.zimgasol_mapped.specs.Records.{record_of}
 use Rattle.zimgasol_mapped.proofs.Contents.{put_more}
-use Rattle.zimgasol_mapped.proofs.records.Records.put_pages_to.Goals as goal
+use Rattle.zimgasol_mapped.proofs.records.Records.put_pages.Goals as goal
 
 pub loop-page-preserved : goal.loop-page-preserved
 loop-page-preserved c =

@@ -1,6 +1,6 @@
 use Rattle.std.proofs.Common.{◌≡◌}
 use Rattle.zimgasol_mapped.proofs.Contents.{HasPut}
-use Rattle.zimgasol_mapped.proofs.records.Records.put_pages_to.Given as goal
+use Rattle.zimgasol_mapped.proofs.records.Records.put_pages.Given as goal
 
 abbrev pub invariant-loop-page : goal.invariant-loop-page
 invariant-loop-page l = record {

@@ -1,7 +1,7 @@
 use Rattle.std.proofs.Common.{◌≡◌, ◌≤◌, ◌++◌, ◌-◌}
 use Rattle.std.specs.List.{range_with_len}
 use Rattle.zimgasol_mapped.specs.Records.{records_bytes, no_content}
-use Rattle.zimgasol_mapped.proofs.records.Records.put_zeros_to.Given as goal
+use Rattle.zimgasol_mapped.proofs.records.Records.put_zeros.Given as goal
 
 abbrev pub invariant-loop-page : goal.invariant-loop-page
 invariant-loop-page l = record {
