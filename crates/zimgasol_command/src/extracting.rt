@@ -13,19 +13,20 @@ use crate::opening::read_stream;
 use crate::state_files::StateFiles;
 use mig_mem::{Place, Table};
 use serde_json::{Map, Value, put};
-use std::alloc::{AllocGlobal, Global};
+use std::alloc::{AllocError, AllocGlobal, Global};
 use std::fs::{Files, OpenFile};
 use std::io::{ErrorKind, Read, Write};
 use std::rt::Clock;
 use std::str;
 use std::thread::Threads;
+use zimgasol_digests::{Background, Digester};
 use zimgasol_files::{
-    BlockFile, BlockNames, ChannelWords, DigestWords, Digester, Digests, ExtractWords, Folder,
-    FolderBlock, LIST_NAME, PARTIAL, StreamWords, Talk, Trouble, Unfit, Watch, block_value,
-    complete_file, create, is_free, names_in, open, path_in, read_folder, rename, shown,
-    shown_name, unfit, unwritten, write_text, wrong,
+    BlockFile, BlockNames, ChannelWords, DigestWords, Digests, ExtractWords, Folder, FolderBlock,
+    LIST_NAME, PARTIAL, StreamWords, Talk, Trouble, Unfit, Watch, block_value, complete_file,
+    create, is_free, names_in, open, path_in, read_folder, rename, shown, shown_name, unfit,
+    unwritten, write_text, wrong,
 };
-use zimgasol_filling::{BlockFiles, Filling};
+use zimgasol_filling::{BlockFiles, Filling, PlacedFiles};
 use zimgasol_output::{put_judgement, put_several_judgement, tail_state};
 use zimgasol_reading::{
     Ending, GuestSink, PageSink, Several, SinkTrouble, Survey, is_complete, read_several,
@@ -33,7 +34,7 @@ use zimgasol_reading::{
 
 // The folder that blocks are extracted into, and their files.
 #[derive(Drop)]
-struct Extraction<H: Files> {
+struct Extraction<H: Files + Threads> {
     alloc: Global,
     folder: String,
     // the list of the folder, and its name until it is complete: made before any file is, so that
@@ -58,11 +59,14 @@ struct Extraction<H: Files> {
     since: Option<Folder>,
     // the files, and the pages that are put into them
     filling: Filling<BlockFiles<H::File>>,
+    // the pieces of the files, if they get the digest of these
+    background: Option<Background>,
     state: StateFiles<H::File>,
 }
 
-impl<H: Files> Extraction<H> {
+impl<H: Files + Threads> Extraction<H> {
     fn new(
+        rt: &H,
         alloc: Global,
         words: &ExtractWords<'_>,
         since: Option<Folder>,
@@ -77,6 +81,11 @@ impl<H: Files> Extraction<H> {
         let input = String::from_str(alloc, words.stream.file)?;
         let state = StateFiles::<H::File>::new(alloc, words.folder, words.keeps_state())?;
         let filling = Filling::new(alloc, BlockFiles::new(alloc))?;
+        let background = if words.digest.pieces {
+            Some(Background::new(rt, alloc, since.is_none()))
+        } else {
+            None
+        };
         Ok(Extraction {
             alloc,
             folder,
@@ -92,6 +101,7 @@ impl<H: Files> Extraction<H> {
             page_size: words.stream.page_size.bytes(),
             since,
             filling,
+            background,
             state,
         })
     }
@@ -232,14 +242,16 @@ impl<H: Files + Clock + Threads + Sync> Extraction<H> {
         digester: &mut Digester,
         errors: &mut E,
     ) -> Result<(), Trouble> {
+        let mut number = 0usize;
         for file in &mut self.filling.target.files {
-            match digester.digests_of(rt, &mut file.file, errors) {
+            match digester.digests_of(rt, number, &mut file.file, file.len, errors) {
                 Ok(digests) => file.digests = digests,
                 Err(Trouble::Unread(error)) => {
                     return Err(unwritten(self.alloc, &file.partial_path, error));
                 }
                 Err(trouble) => return Err(trouble),
             }
+            number = number.saturating_add(1);
         }
         Ok(())
     }
@@ -255,7 +267,8 @@ impl<H: Files + Clock + Threads + Sync> Extraction<H> {
         }
         let watch = Watch::new(rt, self.alloc, self.talk, &self.input)?;
         let watch = watch.in_stage("digest: ", total);
-        let mut digester = Digester::new(self.alloc, self.digest, watch)?;
+        let background = self.background.take();
+        let mut digester = Digester::new(self.alloc, self.digest.plain, background, watch)?;
         let added = self.add_digests(rt, &mut digester, errors);
         digester.end(errors);
         added
@@ -314,7 +327,7 @@ fn older_block<'a, F: Drop>(
     since.block_like(alloc, id, id, file.len)
 }
 
-impl<H: Files> Extraction<H> {
+impl<H: Files + Threads> Extraction<H> {
     // Makes the files of the blocks that the folder `since` has and the stream hasn't. `blocks` is
     // the number of blocks of the stream.
     fn open_since(&mut self, rt: &H, since: &Folder, blocks: usize) -> Result<(), Trouble> {
@@ -379,7 +392,26 @@ impl<H: Files> Extraction<H> {
     }
 }
 
-impl<H: Files> GuestSink<H> for Extraction<H> {
+// Notes a page of one of `files` in `background`, if there is one.
+fn note_page<F: PlacedFiles>(
+    files: &F,
+    background: &mut Option<Background>,
+    page_size: u64,
+    place: Place,
+    content: Option<&[u8]>,
+) -> Result<(), AllocError> {
+    let Some(background) = background else {
+        return Ok(());
+    };
+    let Some(file) = files.file_of(place.block) else {
+        return Ok(());
+    };
+    let at = place.page.saturating_mul(page_size);
+    background.note(file, at, content, page_size as usize)?;
+    Ok(())
+}
+
+impl<H: Files + Threads> GuestSink<H> for Extraction<H> {
     fn begin(&mut self, rt: &H, table: &Table) -> Result<(), Trouble> {
         self.make_folder(rt)?;
         self.is_free(rt, &self.list_path)?;
@@ -389,6 +421,13 @@ impl<H: Files> GuestSink<H> for Extraction<H> {
             && self.filling.target.files.is_empty()
         {
             return Err(Trouble::NoBlock(shown(self.alloc, id.as_bytes())?));
+        }
+        Ok(())
+    }
+
+    fn between_pieces(&mut self, rt: &H) -> Result<(), Trouble> {
+        if let Some(background) = &mut self.background {
+            background.start(rt)?;
         }
         Ok(())
     }
@@ -406,12 +445,14 @@ impl<H: Files> GuestSink<H> for Extraction<H> {
     }
 }
 
-impl<H: Files> PageSink for Extraction<H> {
+impl<H: Files + Threads> PageSink for Extraction<H> {
     ghost use Rattle.zimgasol_filling.specs.Filled.{HasTakenInto};
 
     ghost holds = { λ e. HasTakenInto e.filling };
 
     fn take_page(&mut self, place: Place, content: Option<&[u8]>) -> Result<(), SinkTrouble> {
+        let files = &self.filling.target;
+        note_page(files, &mut self.background, self.page_size, place, content)?;
         self.filling.take_page(place, content)
     }
 }
@@ -434,17 +475,17 @@ fn since_of<H: AllocGlobal + Files>(
 }
 
 // Returns an extraction that has no file yet.
-fn extraction_of<H: AllocGlobal + Files>(
+fn extraction_of<H: AllocGlobal + Files + Threads>(
     rt: &H,
     words: &ExtractWords<'_>,
 ) -> Result<Extraction<H>, Trouble> {
     let since = since_of(rt, words)?;
-    Extraction::<H>::new(rt.alloc(), words, since)
+    Extraction::<H>::new(rt, rt.alloc(), words, since)
 }
 
 // Reads a single stream into the files of `extraction`, and returns it, too. After an error they
 // are removed.
-fn read_single<H: AllocGlobal + Files + Clock, R: Read, E: Write>(
+fn read_single<H: AllocGlobal + Files + Clock + Threads, R: Read, E: Write>(
     rt: &H,
     words: &StreamWords<'_>,
     extraction: Extraction<H>,
@@ -505,7 +546,7 @@ fn judge_single<W: Write, E: Write>(
 
 // Reads a main stream and its channels into the files of `extraction`, and returns it, too. After
 // an error they are removed.
-fn read_channels<H: AllocGlobal + Files + Clock, R: Read, E: Write>(
+fn read_channels<H: AllocGlobal + Files + Clock + Threads, R: Read, E: Write>(
     rt: &H,
     words: &StreamWords<'_>,
     channels: &ChannelWords<'_>,

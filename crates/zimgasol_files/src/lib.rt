@@ -8,7 +8,7 @@
 //! | `input`, `pieces`, `opened` | read a file or the standard input in pieces |
 //! | `pages` | reads a file and an older one side by side, for the pages that differ |
 //! | `target`, `block_file`, `folder` | write files under temporary names, and list a folder |
-//! | `digest` | digests of files |
+//! | `digest` | the digests that a file gets |
 //! | `watch` | prints how much was read |
 //! | `naming`, `showing` | names of files, and printable forms of ids and names |
 //!
@@ -42,7 +42,7 @@ pub use block_file::{
 };
 pub use block_words::{BlockWord, block_word};
 pub use channel_words::{count_word, uuid_word, wanted_uuid};
-pub use digest::{DigestWords, Digester, Digests};
+pub use digest::{DigestWords, Digests};
 pub use folder::{Folder, FolderBlock, LIST_NAME, read_folder};
 pub use input::{piece_buffer, read_piece};
 pub use naming::{
