@@ -13,6 +13,8 @@ FLUSH = 0x200
 MAGIC, VERSION, SYNC = 0x11223344, 1, 1
 PER_PACKET = 512 * 1024 // PAGE
 HEAD = 64 + 256 + 8 * PER_PACKET
+# of a packet with the state of a VFIO device
+DEVICE, DEVICE_HEAD = 0x40, 3 * 4 + 256 + 2 * 4
 
 
 def page_records(reader, found, records):
@@ -50,10 +52,13 @@ def stream_records(data, found):
             stream_facts.subsection(reader, found, at)
         elif kind == 8:
             stream_facts.command(reader, found, sections, at)
+        elif kind == 4 and sections < 2:
+            stream_facts.virtio_mem(reader, found, sections, at)
         else:
             number = reader.take(4)
             assert kind in (1, 2, 3) and number == found.setdefault("number", number)
             if kind == 1:
+                found["start"] = at
                 assert reader.text() == "ram" and reader.take(8) == b"\0\0\0\0\0\0\0\4" and not sections
             page_records(reader, found, records)
             assert reader.take(5) == b"\x7e" + number
@@ -73,6 +78,29 @@ def stream_rounds(data, found):
         elif it not in (FLUSH, EOS):
             rounds[-1].append(it)
     return rounds
+
+
+def device_len(data, at):
+    """How many bytes the packet of a device has that begins here; 0 of any other packet."""
+    if data[at:at + 12] != struct.pack(">3I", MAGIC, VERSION, DEVICE) or at + DEVICE_HEAD > len(data):
+        return 0
+    return DEVICE_HEAD + struct.unpack_from(">I", data, at + DEVICE_HEAD - 4)[0]
+
+
+def without_devices(data):
+    """A channel without the packets of devices, and the lengths of these. One that is cut stays."""
+    kept, at, lengths = bytearray(data[:64]), 64, []
+    while at < len(data):
+        size = device_len(data, at)
+        if size and at + size <= len(data):
+            lengths.append(size)
+        elif size or at + HEAD > len(data):
+            return bytes(kept + data[at:]), lengths
+        else:
+            size = HEAD + struct.unpack_from(">I", data, at + 16)[0] * PAGE
+            kept += data[at:at + size]
+        at += size
+    return bytes(kept), lengths
 
 
 def channel_rounds(data):
@@ -97,8 +125,8 @@ def channel_rounds(data):
 
 
 def whole_before_cut(data):
-    """How many packets of a channel that was cut are whole, and how many of these end a round."""
-    at, packets, syncs = 64, 0, 0
+    """How many packets of pages of a channel that was cut are whole, and how many of these end a round."""
+    data, at, packets, syncs = without_devices(data)[0], 64, 0, 0
     while at + HEAD <= len(data):
         flags, _, normal = struct.unpack_from(">3I", data, at + 8)
         at += HEAD + normal * PAGE
@@ -116,10 +144,12 @@ def lay(found, name, offset, content):
 
 def facts(main, channels):
     """Returns the memory of each block, the page records of each, the rounds, what each channel has, and where RAM ends."""
-    found = {"before": 0, "memory": {}, "counts": {}, "notes": [], "channels": [], "pages": {}, "form": stream_facts.PLAIN}
+    found = {"before": 0, "memory": {}, "counts": {}, "notes": [], "channels": [], "pages": {}, "form": stream_facts.PLAIN,
+             "after_start": b""}
     rounds = stream_rounds(main, found)
     assert not rounds.pop()
-    each = [channel_rounds(it) for it in channels]
+    parted = [without_devices(it) for it in channels]
+    each = [channel_rounds(it) for it, _ in parted]
     assert len({it[0] for it in each}) == len(each) and len({it[1] for it in each}) == 1
     found["rounds"], found["uuid"], base = len(rounds), each[0][1], 0
     for i, records in enumerate(rounds):
@@ -130,14 +160,29 @@ def facts(main, channels):
         assert len({it[:2] for it in pages}) == len(pages)
         for page in pages:
             lay(found, *page)
-    for ident, _, them in each:
+    for (ident, _, them), (_, devices) in zip(each, parted):
         assert len(them) == len(rounds)
         packets = [packet for part in them for packet in part]
         pages = [content for _, _, part in packets for _, content in part]
         found["channels"].append({"id": ident, "numbers": [it[0] for it in packets],
-                                  "zeros": pages.count(None), "pages": len(pages) - pages.count(None)})
+                                  "zeros": pages.count(None), "pages": len(pages) - pages.count(None),
+                                  "device_packets": len(devices), "device_bytes": sum(devices)})
     found["packets"] = base
     return found
+
+
+# ---- what `zimgasol` prints of the packets of devices
+
+
+def passed_over(channels):
+    """What a line has of them after its other counts; nothing if there are none."""
+    packets, size = (sum(it[key] for it in channels) for key in ("device_packets", "device_bytes"))
+    return f", device packets {packets} of {size} bytes passed over" if packets else ""
+
+
+def device_members(channel):
+    """The members of a channel's JSON; none if it has no such packets."""
+    return {key: channel[key] for key in ("device_packets", "device_bytes") if channel["device_packets"]}
 
 
 # ---- the bytes that `save --channels` writes

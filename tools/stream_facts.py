@@ -3,7 +3,8 @@
 If the bytes end too early, it raises EOFError with the place and the number of complete sections.
 `facts` reads the bytes as QEMU's migration/savevm.c and migration/ram.c write them, up to the
 footer of RAM's END, or in a background snapshot to the first device's section, and raises on
-anything else. It reads pages of 4,096 bytes.
+anything else. Of devices' sections before that it reads the one of hw/virtio/virtio-mem.c. It reads
+pages of 4,096 bytes.
 """
 import hashlib
 import struct
@@ -14,6 +15,8 @@ LIBVIRT = b"LibvirtQemudSave"
 # what an entry of the size list has after the length of its block
 PLAIN, ADDRESSED, SIZED = "nothing", "its guest address", "its page size, where that isn't the host's"
 POSTCOPY_ADVISE = 3
+# how the name of virtio-mem's early state ends
+VIRTIO_MEM = "/virtio-mem-device-early"
 
 
 class Reader:
@@ -119,13 +122,33 @@ def command(reader, found, sections, at):
     found["notes"].append(("command", number, sections, at))
 
 
+def virtio_mem(reader, found, sections, at):
+    """Reads virtio-mem's early state, a word of 64 bits for each 64 blocks."""
+    number = reader.take(4)
+    name = reader.text()
+    assert name.endswith(VIRTIO_MEM) and (reader.number(4), reader.number(4)) == (0, 1), name
+    _, region, block, _, _ = (reader.number(length) for length in (8, 8, 8, 4, 8))
+    reader.take(8 * -(-(region // block) // 64))
+    assert reader.take(1) == b"\x7e" and reader.take(4) == number
+    found["notes"].append(("device", name, sections, at))
+    if sections:
+        found["after_start"] += reader.data[found["before"] + at:reader.at]
+
+
+def state_before(data, found):
+    """What `extract` keeps of a stream before RAM's records: a device's section that follows START precedes it there."""
+    before, start = found["before"], found["before"] + found["start"]
+    return data[before:start] + found["after_start"] + data[start:found["list_end"]]
+
+
 def facts(data):
     """Returns the memory of each block, the records of each and the offsets of their pages, the sections,
-    the notes, the id of RAM's section, and where the size list and RAM end."""
+    the notes, the id of RAM's section, and where START begins, and the size list and RAM end."""
     before = libvirt_len(data)
     reader = Reader(data, before)
     assert reader.take(8) == b"QEVM\0\0\0\3"
-    found = {"before": before, "memory": {}, "counts": {}, "pages": {}, "sections": 0, "notes": [], "form": PLAIN}
+    found = {"before": before, "memory": {}, "counts": {}, "pages": {}, "sections": 0, "notes": [], "form": PLAIN,
+             "after_start": b""}
     kind = 0
     while kind != 3:
         at = reader.at - before
@@ -140,7 +163,11 @@ def facts(data):
             # a background snapshot has a START, a PART and no END
             reader.at -= 1
             break
+        elif kind == 4:
+            virtio_mem(reader, found, found["sections"], at)
         else:
+            if kind == 1:
+                found["start"] = at
             section(reader, kind, found)
     found["end"] = reader.at
     return found

@@ -40,6 +40,15 @@ def digest_of(path):
     return digest.hexdigest()
 
 
+def digest_of_pieces(path):
+    """The SHA-256 of the SHA-256s of a file's pieces of 64 KiB."""
+    digest = hashlib.sha256()
+    with path.open("rb") as file:
+        while piece := file.read(1 << 16):
+            digest.update(hashlib.sha256(piece).digest())
+    return digest.hexdigest()
+
+
 def facts_of(capture):
     """What the readers beside the program find in a capture, compared with its files."""
     file = capture.path.read_bytes()
@@ -50,8 +59,9 @@ def facts_of(capture):
         found = stream_facts.facts(data)
     found["is_mapped"] = mapped_facts.is_mapped(file)
     found["bytes"], found["tail"] = len(data), data[found["end"]:]
-    header, front = found.get("before", 0), data[:found["list_end"]]
-    found["state"] = {"before.bin": front[header:], "after.bin": found["tail"], **({"libvirt.bin": front[:header]} if header else {})}
+    header = found["before"]
+    found["state"] = {"before.bin": stream_facts.state_before(data, found), "after.bin": found["tail"],
+                      **({"libvirt.bin": data[:header]} if header else {})}
     sizes = [[name, len(it)] for name, it in found["memory"].items()]
     if capture.blocks:
         expect("NAME.blocks, blocks", capture.blocks, sizes)
@@ -86,6 +96,8 @@ def said(note):
         return f"CONFIGURATION {note[1]}"
     if note[0] == "subsection":
         return f"SUBSECTION {note[1]}"
+    if note[0] == "device":
+        return f"FULL {note[1]}"
     return f"COMMAND {COMMANDS[note[1]]}"
 
 
@@ -94,6 +106,8 @@ def note_value(note):
         return {"machine": note[1], "at": note[-1]}
     if note[0] == "subsection":
         return {"subsection": note[1], "content": note[2], "at": note[-1]}
+    if note[0] == "device":
+        return {"device": note[1], "after_sections": note[2], "at": note[3]}
     number, sections, at = note[1:]
     return {"command": number, "name": COMMANDS[number], "after_sections": sections, "at": at}
 
@@ -108,7 +122,7 @@ def whole_line(name, found, capture):
     memory = sum(map(len, found["memory"].values()))
     if capture.channels:
         counts = (f"rounds {found['rounds']}, channels {len(capture.channels)}, "
-                  f"packets {found['packets']}")
+                  f"packets {found['packets']}{channel_facts.passed_over(found['channels'])}")
         ident = f", UUID {uuid.UUID(bytes=found['uuid'])}"
     else:
         counts, ident = f"sections {found['sections']}", ""
@@ -137,7 +151,8 @@ def channel_listing(path, channel):
     numbers = channel["numbers"]
     return {"file": path.name, "bytes": path.stat().st_size, "id": channel["id"],
             "packets": len(numbers), "first_number": min(numbers), "last_number": max(numbers),
-            "pages": channel["pages"], "zero_pages": channel["zeros"], "end": path.stat().st_size}
+            "pages": channel["pages"], "zero_pages": channel["zeros"], "end": path.stat().st_size,
+            **channel_facts.device_members(channel)}
 
 
 class Run:
@@ -198,7 +213,7 @@ class Run:
             self.complains("extract", found, error)
             expect("extract without --partial", ("", False), (printed, (self.room / "out").exists()))
             more.append("--partial")
-        printed, _ = self.ran("extract", self.name, "out", "--digest", *self.channels, *more)
+        printed, _ = self.ran("extract", self.name, "out", "--digest", "--fast-digest", *self.channels, *more)
         expect("extract", whole_line(self.name, found, self.capture), printed)
         listed = json.loads((self.room / "out" / "blocks.json").read_text())["blocks"]
         digests = found["digests"]
@@ -207,6 +222,7 @@ class Run:
         expect("blocks.json, SHA-256", digests, [it["sha256"] for it in listed])
         files = [self.room / "out" / it["file"] for it in listed]
         expect("SHA-256 of the files", digests, [digest_of(it) for it in files])
+        expect("blocks.json, digest of pieces", [digest_of_pieces(it) for it in files], [it["sha256_64k"] for it in listed])
         there = sorted(it.name for it in (self.room / "out").iterdir())
         expect("files", sorted([*(it.name for it in files), "blocks.json", "state"]), there)
         state = {it.name: it.read_bytes() for it in (self.room / "out" / "state").iterdir()}

@@ -64,6 +64,10 @@ ADDRESS = r"\0\0\0\1\0\0\0\0"
 BOTH = r"\0\0\0\0\0\2\x20\4"
 SMALL = r"\1a\0\0\0\0\0\0\x20\0"
 WHOLE = "complete: sections 3, blocks 1, memory 131072 bytes, RAM ends at byte 86395, devices: whole, 1011 bytes"
+# virtio-mem's early state in a version, 99 bytes: a region of 8 MiB with blocks of 2 MiB, of which none is plugged
+VIRTIO_MEM = (r"\4\0\0\0\x25\x240000:00:01.0/virtio-mem-device-early\0\0\0\0\0\0\0\{}" + r"\0" * 8
+              + r"\0\0\0\0\0\x80\0\0" + r"\0\0\0\0\0\x20\0\0" + r"\0" * 20 + r"\x7e\0\0\0\x25")
+VIRTIO_MEM_WHOLE = "complete: sections 3, blocks 1, memory 131072 bytes, RAM ends at byte 86494, devices: whole, 1011 bytes"
 TAIL_CUT = "the stream ends early; the file was cut, or the save didn't come to its end"
 UNKNOWN = "no valid description follows, so it isn't known whether their state is complete"
 DESCRIPTION = "description of the devices"
@@ -433,12 +437,26 @@ CASES = [
     # ---- sections that aren't RAM's
     (r"(head -c 17 guest.sav; printf '\4\0\0\0\7\5timer\0\0\0\0\0\0\0\2'; tail -c +18 guest.sav) > device.sav", ([], 0)),
     ("zimgasol verify device.sav", (
-        ["zimgasol: device.sav: byte 17 (before section 1): fault 13: unexpected section type; "
+        ["zimgasol: device.sav: byte 18 (before section 1): fault 14: the section isn't ram; "
          f'the section of "timer": {NOT_READ}'], 1)),
-    (r"(head -c 67 guest.sav; printf '\4\0\0\0\x25\x240000:00:01.0/virtio-mem-device-early\0\0\0\0\0\0\0\1') > device.sav", ([], 0)),
+    (f"(head -c 67 guest.sav; printf '{VIRTIO_MEM.format(2)}'; tail -c +68 guest.sav) > device.sav", ([], 0)),
     ("zimgasol verify device.sav", (
-        ["zimgasol: device.sav: byte 67 (after section 1): fault 13: unexpected section type; "
-         'the section of "0000:00:01.0/virtio-mem-device-early": virtio-mem\'s state before RAM\'s pages, which isn\'t read'], 1)),
+        ["zimgasol: device.sav: byte 68 (after section 1): fault 14: the section isn't ram; "
+         'the section of "0000:00:01.0/virtio-mem-device-early": virtio-mem\'s state, which is read in version 1 '
+         "and before RAM's first PART alone"], 1)),
+    # virtio-mem's state before RAM's pages: as QEMU 11.1 writes it, and as QEMU 10.0 does
+    (f"(head -c 17 guest.sav; printf '{VIRTIO_MEM.format(1)}'; tail -c +18 guest.sav) > vmem11.sav", ([], 0)),
+    (f"(head -c 67 guest.sav; printf '{VIRTIO_MEM.format(1)}'; tail -c +68 guest.sav) > vmem10.sav", ([], 0)),
+    ("zimgasol verify vmem11.sav", ([f"vmem11.sav: {VIRTIO_MEM_WHOLE}"], 0)),
+    ("zimgasol verify vmem10.sav", ([f"vmem10.sav: {VIRTIO_MEM_WHOLE}"], 0)),
+    ("zimgasol inspect vmem10.sav | grep early", (["device's section \"0000:00:01.0/virtio-mem-device-early\" after section 1"], 0)),
+    ("zimgasol extract vmem11.sav vmem11 --quiet", ([], 0)),
+    ("zimgasol extract vmem10.sav vmem10 --quiet", ([], 0)),
+    ("head -c 153 vmem11.sav | cmp - vmem11/state/before.bin", ([], 0)),
+    ("cmp vmem10/state/before.bin vmem11/state/before.bin", ([], 0)),
+    ("zimgasol save --state vmem10 device.sav --replace --quiet", ([], 0)),
+    ("zimgasol compare device.sav vmem11.sav", (
+        ["device.sav and vmem11.sav: the same: blocks 1, memory 131072 bytes"], 0)),
     (r"(head -c 67 guest.sav; printf '\1\0\0\0\2\x0cdirty-bitmap\0\0\0\0\0\0\0\1') > device.sav", ([], 0)),
     ("zimgasol verify device.sav", (
         ["zimgasol: device.sav: byte 67 (after section 1): fault 13: unexpected section type; "
@@ -453,10 +471,10 @@ CASES = [
          "the file was cut, or the save didn't come to its end"], 1)),
     (r"(head -c 67 guest.sav; printf '\4\0\0\0\3\5ti') > device.sav", ([], 0)),
     ("zimgasol verify device.sav", (
-        [f"zimgasol: device.sav: byte 67 (after section 1): fault 13: unexpected section type; {NOT_READ}"], 1)),
+        [f"zimgasol: device.sav: byte 75 (after section 1): fault 34: {TAIL_CUT}"], 1)),
     (r"(head -c 67 guest.sav; printf '\4\0\0\0\3\4\x1b[\x22m\0\0\0\0\0\0\0\2') > device.sav", ([], 0)),
     ("zimgasol verify device.sav", (
-        [f'zimgasol: device.sav: byte 67 (after section 1): fault 13: unexpected section type; the section of "%1B[%22m": {NOT_READ}'], 1)),
+        [f'zimgasol: device.sav: byte 68 (after section 1): fault 14: the section isn\'t ram; the section of "%1B[%22m": {NOT_READ}'], 1)),
     (r"(head -c 17 guest.sav; printf '\3\0\0\0\5') > device.sav", ([], 0)),
     ("zimgasol verify device.sav", (
         [f"zimgasol: device.sav: byte 17 (before section 1): fault 13: unexpected section type; the section with the id 5: {NOT_READ}"], 1)),
@@ -542,7 +560,7 @@ CASES = [
          "the save used xbzrle, which isn't read: save without it"], 1)),
     (r"(head -c 67 multi.sav; printf '\4\0\0\0\7\5timer\0\0\0\0\0\0\0\2') > device.sav", ([], 0)),
     ("zimgasol verify device.sav --channel multi.sav.0 --channel multi.sav.1", (
-        ["zimgasol: device.sav: byte 67 (round 2, after section 1): fault 13: unexpected section type; "
+        ["zimgasol: device.sav: byte 68 (round 2, after section 1): fault 14: the section isn't ram; "
          f'the section of "timer": {NOT_READ}'], 1)),
     *((command, wanted) for flags, shown, what in (
         ("x02", "0x2", "zlib compressed the pages; migrate with multifd-compression none"),
@@ -550,12 +568,42 @@ CASES = [
         ("x08", "0x8", "qpl compressed the pages; migrate with multifd-compression none"),
         ("x10", "0x10", "uadk compressed the pages; migrate with multifd-compression none"),
         ("x20", "0x20", "qatzip compressed the pages; migrate with multifd-compression none"),
-        ("x40", "0x40", "the packet has the state of a VFIO device, which isn't read"),
         ("x80", "0x80", "the pages may be compressed; migrate with multifd-compression none"))
       for command, wanted in (
         ("(head -c 72 multi.sav.0; printf '" + r"\0\0\0" + f"\\{flags}'; tail -c +77 multi.sav.0) > flags.0", ([], 0)),
         ("zimgasol verify multi.sav --channel flags.0 --channel multi.sav.1", (
             [f"zimgasol: flags.0: byte 64 (round 1, complete packets 0): fault 41: unexpected packet flags: {shown}; {what}"], 1)))),
+    # (a packet of pages whose flags are changed to 0x40 is one of a device without state: its id is in the name and in the
+    # last fields, which are 0. Its 276 bytes end before its offsets, at byte 340)
+    (r"(head -c 72 multi.sav.0; printf '\0\0\0\x40'; tail -c +77 multi.sav.0) > flags.0", ([], 0)),
+    ("zimgasol verify multi.sav --channel flags.0 --channel multi.sav.1", (
+        ["zimgasol: flags.0: byte 340 (round 1, complete packets 0): fault 39: bad packet magic; "
+         "the page size may be the other one (`--page`)"], 1)),
+    # ---- packets of devices: behind the hello, after the last SYNC, and between the rounds of the other channel
+    (r"(printf '\x11\x22\x33\x44\0\0\0\1\0\0\0\x40'; head -c 256 /dev/zero; printf '\0\0\0\0\0\0\0\x0a0123456789') > device", None),
+    ("wc -c < device", None),
+    ("(head -c 64 multi.sav.0; cat device; tail -c +65 multi.sav.0; cat device) > device.0", None),
+    ("(head -c 1408 multi.sav.1; cat device; tail -c +1409 multi.sav.1) > device.1", None),
+    ("zimgasol verify multi.sav --channel device.0 --channel device.1", None),
+    ("zimgasol inspect multi.sav --channel device.0 --channel device.1", None),
+    ("zimgasol verify multi.sav --json --channel device.0 --channel device.1", None),
+    ("zimgasol extract multi.sav device.memory --channel device.0 --channel device.1 --quiet", None),
+    ("zimgasol compare device.memory restored", None),
+    # (cut in the state of the last packet, and in its name)
+    ("head -c 94775 device.0 > cut.0", None),
+    ("zimgasol verify multi.sav --channel cut.0 --channel device.1", None),
+    ("head -c 94500 device.0 > cut.0", None),
+    ("zimgasol verify multi.sav --channel cut.0 --channel device.1", None),
+    # (a fault after such a packet, and one whose flags have SYNC, too)
+    (r"(head -c 64 multi.sav.0; cat device; head -c 72 multi.sav.0 | tail -c 8; printf '\0\0\0\x80'; tail -c +77 multi.sav.0) > flags.0",
+     ([], 0)),
+    ("zimgasol verify multi.sav --channel flags.0 --channel multi.sav.1", (
+        ["zimgasol: flags.0: byte 350 (round 1, complete packets 0): fault 41: unexpected packet flags: 0x80; "
+         "the pages may be compressed; migrate with multifd-compression none"], 1)),
+    (r"(head -c 72 device.0; printf '\0\0\0\x41'; tail -c +77 device.0) > flags.0", ([], 0)),
+    ("zimgasol verify multi.sav --channel flags.0 --channel multi.sav.1", (
+        ["zimgasol: flags.0: byte 64 (round 1, complete packets 0): fault 41: unexpected packet flags: 0x41; "
+         "a packet with the state of a VFIO device has no other flag"], 1)),
     ("zimgasol inspect command.sav --channel multi.sav.0 --channel multi.sav.1", None),
     ("zimgasol inspect command.sav --json --channel multi.sav.0 --channel multi.sav.1", None),
     ("head -c 100 command.sav > cut.main", None),
@@ -1131,6 +1179,12 @@ class Shell:
         words = command.split(" ")
         if command == "echo $?":
             return [str(self.status)]
+        if words[0].startswith("("):
+            inside, name = command[1:].rsplit(") > ", 1)
+            self.files[name] = b"".join(self.piece(*it.split(" ")) for it in inside.split("; "))
+            return []
+        if words[:2] == ["wc", "-c"]:
+            return [str(len(self.files[words[3]]))]
         if words[0] == "head":
             self.files[words[5]] = self.files[words[3]][:int(words[2])]
             return []
@@ -1158,6 +1212,15 @@ class Shell:
             return getattr(self, words[1] + "_several")(words[2], words)
         given = words[-1] if "<" in words else words[2]
         return getattr(self, words[1])(words[2], self.files[given], words)
+
+    def piece(self, word, *words):
+        """What a command prints that a file is made of."""
+        if word == "printf":
+            return re.sub(rb"\\x(..)|\\(\d)", lambda it: bytes([int(it[1] or it[2], 16)]), words[0].strip("'").encode())
+        content = self.files[words[-1]]
+        if word == "head":
+            return content[:int(words[1])]
+        return content[int(words[1]) - 1:] if word == "tail" else content
 
     # ---- several files
 
@@ -1244,7 +1307,7 @@ class Shell:
         """The line of a channel that was cut inside a packet; None where none was."""
         for name in [words[i + 1] for i, word in enumerate(words) if word == "--channel"]:
             try:
-                channel_facts.channel_rounds(self.files[name])
+                channel_facts.channel_rounds(channel_facts.without_devices(self.files[name])[0])
             except (AssertionError, struct.error):
                 self.status = 1
                 packets, syncs = channel_facts.whole_before_cut(self.files[name])
@@ -1259,8 +1322,8 @@ class Shell:
         found = self.several(name, words)
         memory = sum(map(len, found["memory"].values()))
         word, lacks = self.judged(name, found, words)
-        line = (f"{name}: {word}: rounds {found['rounds']}, channels {len(found['channels'])}, packets {found['packets']}, "
-                f"blocks {len(found['memory'])}, memory {memory} bytes, UUID {found['uuid']}, {self.ends(name, found, words)}")
+        line = (f"{name}: {word}: rounds {found['rounds']}, channels {len(found['channels'])}, packets {found['packets']}"
+                f"{channel_facts.passed_over(found['channels'])}, blocks {len(found['memory'])}, memory {memory} bytes, UUID {found['uuid']}, {self.ends(name, found, words)}")
         is_lacking = self.status
         wrongs = self.tail_wrongs(name, self.files[name], found, words) if words[1] == "verify" else []
         is_told = not wrongs if words[1] == "verify" else not is_lacking
@@ -1278,7 +1341,7 @@ class Shell:
         for it in found["channels"]:
             numbers = f"packets {len(it['numbers'])}, numbers {min(it['numbers'])}-{max(it['numbers'])}"
             lines.append(f"channel {it['name']}, {it['bytes']} bytes, id {it['id']}, {numbers}, "
-                         f"{it['pages']} pages, {it['zeros']} zero pages")
+                         f"{it['pages']} pages, {it['zeros']} zero pages{channel_facts.passed_over([it])}")
         for block, memory in found["memory"].items():
             pages, zeros = found["counts"][block]
             lines.append(f'block "{block}" {len(memory)} bytes, {pages} pages, {zeros} zero pages')
@@ -1288,7 +1351,7 @@ class Shell:
     def several_json(self, name, found, words):
         channels = [{"file": it["name"], "bytes": it["bytes"], "id": it["id"], "packets": len(it["numbers"]),
                      "first_number": min(it["numbers"]), "last_number": max(it["numbers"]), "pages": it["pages"],
-                     "zero_pages": it["zeros"], "end": it["bytes"]} for it in found["channels"]]
+                     "zero_pages": it["zeros"], "end": it["bytes"], **channel_facts.device_members(it)} for it in found["channels"]]
         said = {"file": name, "bytes": len(self.files[name]), "page_size": 4096, "uuid": found["uuid"], "channels": channels,
                 "notes": [self.note_value(it) for it in found["notes"]], "blocks": self.block_values(found),
                 "rounds": found["rounds"], "end": found["end"], "complete": not self.status, "fault": None,
