@@ -50,6 +50,10 @@ PC_UUID = Kind("pc with a UUID", ("-M", "pc", "-uuid", UUID), 8)
 PC_WRITING = Kind("pc, running", ("-M", "pc"), 8, running=True, writes=True)
 Q35 = Kind("q35 with devices", ("-M", "q35", *NETWORK, "-device", "virtio-rng-pci"), 32)
 Q35_RUNNING = Kind("q35, running", ("-M", "q35", "-device", "virtio-rng-pci"), 32, running=True)
+# nothing of the virtio-mem's memory is plugged
+VIRTIO_MEM = Kind(
+    "q35 with a virtio-mem", ("-M", "q35", "-m", "slots=2,maxmem=1G", "-object", "memory-backend-ram,id=vm0,size=16M",
+                              "-device", "virtio-mem-pci,id=v0,memdev=vm0,requested-size=8M"), 32)
 KINDS = (NONE, NONE_RUNNING, PC, PC_WRITING, Q35, Q35_RUNNING)
 # those that go by channels: small, as a program that isn't built takes its time to load them
 SMALL = NONE, replace(PC, mib=8), PC_WRITING

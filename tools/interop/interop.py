@@ -28,7 +28,7 @@ import qemu
 import states
 from checks import (NO_CONFIGURATION, Bench, chain, leave_shared_out, load_saved, read_between,
                     load_mapped, load_mapped_of_c, read_mapped_in_c, read_single, read_snapshot, refuse_xbzrle)
-from guests import KINDS, NONE, OLD, PC, PC_UUID, PC_WRITING, Q35, SMALL, old_files
+from guests import KINDS, NONE, OLD, PC, PC_UUID, PC_WRITING, Q35, SMALL, VIRTIO_MEM, old_files
 from ours import TOP, Differs, Programs
 
 CHANNELS = (1, 2, 4)
@@ -188,6 +188,8 @@ def restore_machines(table, bench, version):
     way = "QEMU, extract, save --state, QEMU"
     for kind in (PC, PC_WRITING, Q35, *old_files(qemu.number(version))):
         table.try_(Row(version, way, kind.name, "a file"), lambda: states.restore(bench, kind))
+    row = Row(version, way, VIRTIO_MEM.name, "nothing plugged")
+    table.try_(row, lambda: states.restore_virtio_mem(bench, VIRTIO_MEM))
     row = Row(version, way, PC.name, "with other RAM")
     table.try_(row, lambda: states.restore_replaced(bench, PC))
     row = Row(version, way, PC_WRITING.name, "after libvirt's header, made by hand")

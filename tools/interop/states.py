@@ -55,6 +55,17 @@ def restore(bench, kind):
     return resumed(bench, kind, out, lambda came: compare_written(bench, kind, stream, wanted, came))
 
 
+def restore_virtio_mem(bench, kind):
+    """A machine with a virtio-mem, extracted with `--partial` and saved with its state, resumes."""
+    stream, wanted = write_file(bench, kind)
+    zimgasol = bench.programs.zimgasol
+    said = ran(zimgasol, "verify", stream, status=1)
+    if "have no record" not in said:
+        raise Differs(f"verify: {said!r}")
+    out = saved_again(bench, stream, "--partial")
+    return resumed(bench, kind, out, lambda came: compare(wanted, came))
+
+
 def restore_snapshot(bench, kind):
     """A background snapshot, extracted and saved with its state, resumes."""
     stream, wanted = write_snapshot(bench, kind)
