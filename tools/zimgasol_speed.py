@@ -1,5 +1,5 @@
 #!/usr/bin/env python3
-"""Processor seconds and peak memory of `zimgasol`, by command, on guests of each size.
+"""Seconds, processor seconds and peak memory of `zimgasol`, by command, on guests of each size.
 
     make program
     tools/zimgasol_speed.py [--sparse] [--folder FOLDER] [--zimgasol PROGRAM] [GIB ..]
@@ -65,18 +65,20 @@ class Guest:
         write_stream(self.stream, gib * GIB // PAGE, is_sparse)
 
     def measure(self, name, *words):
-        """Runs the program. Keeps its processor seconds and its peak in KiB."""
+        """Runs the program. Keeps its processor seconds, its peak in KiB, and the seconds that passed."""
         report = self.folder / "time"
-        command = [TIME, "-o", report, "-f", "%U %S %M", self.program, *words, "--quiet"]
+        command = [TIME, "-o", report, "-f", "%U %S %M %e", self.program, *words, "--quiet"]
         done = subprocess.run(command, capture_output=True, text=True)
         if done.returncode:
             sys.exit(f"{name}: status {done.returncode}: {done.stderr.strip()[-300:]}")
-        user, system, peak = report.read_text().split()[-3:]
-        self.figures[name] = float(user) + float(system), int(peak)
+        user, system, peak, passed = report.read_text().split()[-4:]
+        self.figures[name] = float(user) + float(system), int(peak), float(passed)
 
     def measure_single(self):
         self.measure("verify", "verify", self.stream)
         self.measure("extract --digest", "extract", self.stream, self.memory, "--digest")
+        self.measure("extract --fast-digest", "extract", self.stream, self.again, "--fast-digest")
+        shutil.rmtree(self.again)
         self.measure("extract", "extract", self.stream, self.again)
         self.measure("compare, two folders", "compare", self.memory, self.again)
         shutil.rmtree(self.again)
@@ -134,6 +136,7 @@ def main():
     program = Path(words.zimgasol).resolve()
     each = [measured(program, words.folder, gib, words.sparse) for gib in words.sizes]
     print("a sparse guest" if words.sparse else "a guest without pages of zeros")
+    put_table("seconds", words.sizes, [(name, [f"{it[name][2]:.2f}" for it in each]) for name in each[0]])
     put_table("processor seconds", words.sizes,
               [(name, [f"{it[name][0]:.2f}" for it in each]) for name in each[0]])
     put_table("peak, MiB", words.sizes,
