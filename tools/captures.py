@@ -89,7 +89,8 @@ class Capture:
         self.uuid = words[words.index("-uuid") + 1] if "-uuid" in words else NO_UUID
         # a list of [id, length]; None where there is no NAME.blocks
         self.blocks = known.get("blocks")
-        self.notes = known.get("before", [])[1:] + known.get("between", [])
+        before = known.get("before", [])
+        self.notes = before[before[:1] == ["HEADER"]:] + known.get("between", [])
         if "mapped-ram" in known.get("caps", []):
             # (the capability is the only one, and the plain stream hasn't it)
             self.notes = [it for it in self.notes if it != "SUBSECTION configuration/capabilities"]

@@ -79,8 +79,10 @@ def facts_of(capture):
 
 
 def is_outside(found, block):
-    """Whether a block is shared memory that isn't in the stream (x-ignore-shared)."""
-    return found["form"] == stream_facts.ADDRESSED and not found["pages"][block]
+    """Whether a block isn't in the stream: shared memory (x-ignore-shared), or a virtio-mem's of which nothing is plugged."""
+    devices = [note[1].removesuffix(stream_facts.VIRTIO_MEM) + "/" for note in found["notes"] if note[0] == "device"]
+    is_left_out = found["form"] == stream_facts.ADDRESSED or block.startswith(tuple(devices))
+    return is_left_out and not found["pages"][block]
 
 
 def lacking(name, found):
@@ -181,7 +183,8 @@ class Run:
         if found["is_mapped"]:
             expect(f"{command}, note", f"zimgasol: {self.name}: {NOTE}", lines.pop() if lines else "")
         expect(f"{command}, error output", wanted, lines[:-1])
-        if lines and not ("INCOMPLETE" in lines[-1] and "`x-ignore-shared`" in lines[-1]):
+        cause = "virtio-mem" if any(note[0] == "device" for note in found["notes"]) else "`x-ignore-shared`"
+        if lines and not ("INCOMPLETE" in lines[-1] and cause in lines[-1]):
             raise Differs(f"{command}: expected the cause, came {lines[-1]!r}")
 
     def verify(self, found):
