@@ -192,6 +192,13 @@ CASES = [
     ("cat fast/blocks.json", None),
     ("zimgasol extract guest.sav digested --digest --fast-digest", None),
     ("cat digested/blocks.json", None),
+    # pieces that come again, in parts, in another order, and with zeros; then over other bytes, and on channels
+    ("zimgasol extract pieces.sav pieces --digest --fast-digest", None),
+    ("cat pieces/blocks.json", None),
+    ("zimgasol extract pieces.sav again-pieces --fast-digest --since pieces", None),
+    ("cat again-pieces/blocks.json", None),
+    ("zimgasol extract multi.sav channels --channel multi.sav.0 --channel multi.sav.1 --fast-digest --replace", None),
+    ("cat channels/blocks.json", None),
     ("zimgasol extract guest.sav neither --fast-digest --no-digest", (
         ["error: the argument '--fast-digest' cannot be used with '--no-digest'", "",
          "Usage: zimgasol extract --fast-digest <FILE> <DIR>", "", "For more information, try '--help'."], 2)),
@@ -1079,6 +1086,19 @@ def rounds_stream():
     return opening({"pc.ram": 32 * 4096}, "none") + rounds + b"\x03" + be("I", 1) + END_OF_RECORDS + b"\0"
 
 
+def pieces_stream():
+    """A stream of 1,030 pages, in 65 pieces of 64 KiB: each page in its order, a page of each piece but two with bytes. Then pages again."""
+    zeros, other = bytes(4096), b"x" * 4096
+    filled = {page: bytes([page // 16 + 1]) * 4096 for page in range(5, 1030, 16) if page // 16 not in (7, 20)}
+    # a page alone; a whole piece; zeros over bytes, and over zeros; the first bytes of a piece; two pages in the other order; the last one
+    again = [(5, other), *((page, other if page == 21 else zeros) for page in range(16, 32)), (37, zeros), (115, zeros),
+             (320, other), (49, other), (48, other), (1029, other)]
+    text = opening({"pc.ram": 1030 * 4096}, "none")
+    for pages in ([(page, filled.get(page, zeros)) for page in range(1030)], again):
+        text += part(b"".join(record("pc.ram", *it, None if it is pages[0] else "pc.ram") for it in pages))
+    return text + b"\x03" + be("I", 1) + END_OF_RECORDS + b"\0"
+
+
 def main_saved(blocks, machine, between=b""):
     """The main stream that `save --channels` makes: a FLUSH for each of the two rounds, in a section of its own. With what stands
     between these two."""
@@ -1163,6 +1183,7 @@ class Shell:
         self.files["main.sav"] = main_stream()
         self.files["command.sav"] = COMMANDED
         self.files["rounds.sav"] = rounds_stream()
+        self.files["pieces.sav"] = pieces_stream()
         self.files["/dev/zero"] = bytes(1 << 20)
         # (what commands make of it below, by `dd` and by `printf`)
         guest = self.files["guest.sav"]
@@ -1637,6 +1658,7 @@ def of_case(shell, command, wanted):
 def made():
     shell, answers, files = Shell(), [], {RUNS / "data" / "main.sav": main_stream(), RUNS / "data" / "command.sav": COMMANDED,
                                                          RUNS / "data" / "rounds.sav": rounds_stream(),
+                                                         RUNS / "data" / "pieces.sav": pieces_stream(),
                                                          RUNS / "data" / "fixed.sav": MAPPED}
     for page in filter(Path.is_file, PAGES):
         said = printed(shell, page.read_text())
