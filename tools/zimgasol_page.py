@@ -1091,9 +1091,11 @@ def pieces_stream():
     again. Beside it a block of three pages of zeros."""
     zeros, other = bytes(4096), b"x" * 4096
     filled = {page: bytes([page // 16 + 1]) * 4096 for page in range(5, 1030, 16) if page // 16 not in (7, 20)}
-    # a page alone; a whole piece; zeros over bytes, and over zeros; the first bytes of a piece; two pages in the other order; the last one
-    again = [(5, other), *((page, other if page == 21 else zeros) for page in range(16, 32)), (37, zeros), (115, zeros),
-             (320, other), (49, other), (48, other), (1029, other)]
+    # a page alone; a whole piece; zeros over bytes, and over zeros; the first bytes of a piece; two pages in the other order; a piece of
+    # zeros that gets bytes before its last pages come; the last page
+    again = [(5, other), *((page, other if page == 21 else zeros) for page in range(16, 32)), (37, zeros), (330, zeros),
+             (320, other), (49, other), (48, other), *((page, zeros) for page in range(112, 120)), (115, other),
+             *((page, zeros) for page in range(120, 128)), (1029, other)]
     text = opening({"pc.ram": 1030 * 4096, "rom": 3 * 4096}, "none")
     for pages in ([(page, filled.get(page, zeros)) for page in range(1030)], again):
         text += part(b"".join(record("pc.ram", *it, None if it is pages[0] else "pc.ram") for it in pages))
